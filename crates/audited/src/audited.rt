@@ -53,7 +53,7 @@ impl<D: Pmem + Drop> Audited<D> {
         if wants_memory(&reply) {
             return (reply, None);
         }
-        let Ok((kept, told)) = notes_of(&reply) else {
+        let Ok((kept, noted)) = notes_of(&reply) else {
             return (Reply::Refused(Fault::OutOfMemory), None);
         };
         let place = self.entries.len() as u64;
@@ -62,7 +62,7 @@ impl<D: Pmem + Drop> Audited<D> {
         let receipt = Receipt {
             place,
             step: again,
-            note: told,
+            note: noted,
         };
         (reply, Some(receipt))
     }

@@ -18,7 +18,7 @@ pub fn notes_of(reply: &Reply) -> Result<(Note, Note), AllocError>
 {
     match Note::of(reply) {
         Ok(kept) => match Note::of(reply) {
-            Ok(told) => Ok((kept, told)),
+            Ok(noted) => Ok((kept, noted)),
             Err(error) => Err(error),
         },
         Err(error) => Err(error),

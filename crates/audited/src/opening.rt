@@ -17,7 +17,7 @@ impl<D: Pmem + Drop + Send + Sync> Audited<D> {
     ghost use Rattle.machine.specs.Openings.{OpensAs, StandsOpening, opened_slots, updated};
     ghost use Rattle.pmem.specs.Words.{LeavesOnly, IsAtRest, image_of, IsSettledAt, HasNoFailure};
     ghost use Rattle.recovery.specs.Opened.{IsRefusal, MakesOpening};
-    ghost use Rattle.recovery.specs.Read.{TellsLogFault};
+    ghost use Rattle.recovery.specs.Read.{ReportsLogFault};
     ghost use Rattle.room.specs.Room.{Shows, ShowsStatus, device_of};
     ghost use Rattle.audited.specs.Audit.{IsAudited};
 
@@ -45,7 +45,7 @@ impl<D: Pmem + Drop + Send + Sync> Audited<D> {
         ensures fault { IfErr result (λ e. IsRefusal (opening_fault (image_of (D.state device))) (D.state device) (D.state e.1) e.0) }
 
         // What is wrong with its log is reported before want of memory.
-        ensures log { IfErr result (λ e. TellsLogFault (image_of (D.state device)) e.0) }
+        ensures log { IfErr result (λ e. ReportsLogFault (image_of (D.state device)) e.0) }
 
         // The operations, and the words of superblock and slots, are those of the room's opening.
         ensures made { IfOk result (λ audited. MakesOpening (image_of (D.state device)) (D.state device) (device_of D.state audited.room)) }

@@ -63,7 +63,7 @@ impl<J: Naming> Reader<J> {
     #[tactic(auto, using(crate::proofs::Rules::begins_self))]
     pub fn learn(&mut self, token: Token<J>)
         ensures known { Begins self.old self.new }
-        ensures told { Begins token self.new }
+        ensures learnt { Begins token self.new }
         ensures one { (self.new ≡ self.old) ⊎ (self.new ≡ token) }
     {
         self.front.is_published();

@@ -18,7 +18,7 @@ use Rattle.session_laws.specs.Sees.{Sees}
 use Rattle.session_laws.proofs.Present.{present-sees}
 use Rattle.session_laws.proofs.Sight.{still}
 use Rattle.collect_simulation.specs.Garbage.{is_covered_for, is_covered_by_all}
-use Rattle.collect_simulation.specs.Laws.{EndsTellGarbage, VisitsKeepSight}
+use Rattle.collect_simulation.specs.Laws.{EndsShowGarbage, VisitsKeepSight}
 use Rattle.collect_simulation.proofs.Visits.{value-survives}
 
 module _ (o : Origin) (q : State) (device : Device) (snapshots : ℕ → Seen) (slot : ℕ) (v : Version) (up : q.failed ≡ false) (orderly : IsOrderly device) (u : Upholds o q device)
@@ -72,8 +72,8 @@ module _ (o : Origin) (q : State) (device : Device) (snapshots : ℕ → Seen) (
       (λ all. is-garbage q slot (ended-garbage o q u.keeps (value_of device) slot lt up v held (u.shows.each slot lt) (counted all)))
       (λ garbage. covered (garbage-ended o q u.keeps (value_of device) slot lt (garbage-is o q slot u.keeps garbage) (u.shows.each slot lt)))
 
-pub ends-tell-garbage : EndsTellGarbage
-ends-tell-garbage o q device snapshots slot v up orderly u sees lt held = tells o q device snapshots slot v up orderly u sees lt held
+pub ends-show-garbage : EndsShowGarbage
+ends-show-garbage o q device snapshots slot v up orderly u sees lt held = tells o q device snapshots slot v up orderly u sees lt held
 
 pub visits-keep-sight : VisitsKeepSight
 visits-keep-sight o q snapshot begun kept within sees = by (is_at_slot q)

@@ -38,8 +38,8 @@ SweepsEnd =
     → (slot : ℕ) → slot < q.layout.slots → IsSlotOutOfGaps q new slot
 
 -- A version is garbage exactly where its end is covered by the ruling record and by the snapshot of each active session
-abbrev pub EndsTellGarbage : Type 0
-EndsTellGarbage =
+abbrev pub EndsShowGarbage : Type 0
+EndsShowGarbage =
     (o : Origin) (q : State) (device : Device) (snapshots : ℕ → Seen) (slot : ℕ) (v : Version) → q.failed ≡ false → IsOrderly device → Upholds o q device
     → ((n begun : ℕ) (writes : Writes) → q.sessions n ≡ Some (Active begun writes) → Sees o q (snapshots n) begun) → slot < q.layout.slots → q.held slot ≡ Some v
     → is_covered_by_all q snapshots (value_of device (word_of q.layout slot 1)) ≡ is_garbage q slot

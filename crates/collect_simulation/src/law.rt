@@ -1,4 +1,4 @@
-ghost use Rattle.collect_simulation.specs.Laws.{VisitsKeep, VisitsLead, VisitsCount, SweepsEnd, EndsTellGarbage, VisitsKeepSight};
+ghost use Rattle.collect_simulation.specs.Laws.{VisitsKeep, VisitsLead, VisitsCount, SweepsEnd, EndsShowGarbage, VisitsKeepSight};
 
 /// A visit keeps what a plain state of a life keeps: of the slot that it frees no snapshot in use reads the version.
 pub fn visits_keep()
@@ -23,8 +23,8 @@ pub fn sweeps_end()
 
 /// The slot of a version is freed exactly where its end is covered, by the ruling record and by the snapshot of each active
 /// session.
-pub fn ends_tell_garbage()
-    ensures { EndsTellGarbage }
+pub fn ends_show_garbage()
+    ensures { EndsShowGarbage }
 {}
 
 /// A session's snapshot sees after a visit the commits that it saw before, also once gaps are swept.

@@ -5,5 +5,5 @@
 mod law;
 
 pub use law::{
-    ends_tell_garbage, sweeps_end, visits_count, visits_keep, visits_keep_sight, visits_lead,
+    ends_show_garbage, sweeps_end, visits_count, visits_keep, visits_keep_sight, visits_lead,
 };

@@ -8,7 +8,7 @@ use Rattle.clap.specs.declared.builder.command.Command.{Command}
 use Rattle.clap.specs.declared.error.kind.ErrorKind.{ErrorKind}
 use Rattle.clap.specs.declared.error.kind.ErrorKind.TheVariants as kind
 use Rattle.clap.specs.declared.error.kind.ErrorKind.TheVariants.{DisplayHelp}
-use Rattle.command_line.specs.Help.{AnswersHelp, TellsKind, app_with, subcommand_shape, wbl}
+use Rattle.command_line.specs.Help.{AnswersHelp, ReportsKind, app_with, subcommand_shape, wbl}
 use Rattle.command_line.specs.Numbers.{Text}
 use Rattle.command_line.specs.declared.orders.WordFault.{WordFault}
 use Rattle.command_line.specs.declared.orders.WordFault.TheVariants.{Help, BadWords, OutOfMemory}
@@ -61,7 +61,7 @@ module _ (a : App) (s : Shape) where
 
 -- ---- the answer
 
-pub answers : (words : List Text) (is : ErrorKind) (fault : WordFault) → TellsKind is fault → (is ≡ kind.OutOfMemory) ⊎ IsAmong is (fault_of wbl words)
+pub answers : (words : List Text) (is : ErrorKind) (fault : WordFault) → ReportsKind is fault → (is ≡ kind.OutOfMemory) ⊎ IsAmong is (fault_of wbl words)
     → AnswersHelp words fault
 answers words is (Help text) help (inl memory) = let clash : DisplayHelp ≡ kind.OutOfMemory = sym help ∙ memory in cc clash
 answers words is (Help text) help (inr among) = subst (λ (k : ErrorKind). IsAmong k (fault_of wbl words)) help among
@@ -72,7 +72,7 @@ answers words is (BadWords text) bad (inr among) = λ alone.
 answers words is (OutOfMemory error) told met = tt
 
 -- where the words have no fault, bad words are blamed for being unusual
-pub unusual : (words : List Text) (is : ErrorKind) (fault : WordFault) → TellsKind is fault → is ≡ kind.InvalidValue → fault_of wbl words ≡ []
+pub unusual : (words : List Text) (is : ErrorKind) (fault : WordFault) → ReportsKind is fault → is ≡ kind.InvalidValue → fault_of wbl words ≡ []
     → AnswersHelp words fault
 unusual words is (Help text) help same none = let clash : DisplayHelp ≡ kind.InvalidValue = sym help ∙ same in cc clash
 unusual words is (BadWords text) bad same none = λ alone. let clash : DisplayHelp ∷ [] ≡ [] = sym alone ∙ none in cc clash

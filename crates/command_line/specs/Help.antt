@@ -80,10 +80,10 @@ GetsHelp words = fault_of wbl words ≡ DisplayHelp ∷ []
 
 -- what a kind of error is answered by: help by its text, want of memory as such, and any other as bad words, unless memory
 -- is wanted for the text
-abbrev pub TellsKind : ErrorKind → WordFault → Type 0
-TellsKind is (Help text) = is ≡ DisplayHelp
-TellsKind is (BadWords text) = (is ≢ DisplayHelp) × (is ≢ kind.OutOfMemory)
-TellsKind is (OutOfMemory error) = ⊤
+abbrev pub ReportsKind : ErrorKind → WordFault → Type 0
+ReportsKind is (Help text) = is ≡ DisplayHelp
+ReportsKind is (BadWords text) = (is ≢ DisplayHelp) × (is ≢ kind.OutOfMemory)
+ReportsKind is (OutOfMemory error) = ⊤
 
 -- where help is answered, the words may get it, and where bad words are blamed, help isn't the one answer
 abbrev pub AnswersHelp : List Text → WordFault → Type 0

@@ -1,6 +1,6 @@
 ghost use Rattle.std.specs.Prelude.{◌≡◌, [], ◌∷◌, codes, false, IfErr, IfOk, IsOkAnd, OnErr};
 ghost use Rattle.clap.specs.Words.{AddsArg, AddsSubcommand, app_of, kind_of, rule_of, shape_of};
-ghost use Rattle.command_line.specs.Help.{AnswersHelp, TellsKind, app_with, check_shape, flag_rule, format_shape, lives_shape, name_rule, number_rule, run_shape, threads_shape, wbl, wbl_alone};
+ghost use Rattle.command_line.specs.Help.{AnswersHelp, ReportsKind, app_with, check_shape, flag_rule, format_shape, lives_shape, name_rule, number_rule, run_shape, threads_shape, wbl, wbl_alone};
 ghost use Rattle.command_line.specs.Lines.{texts};
 ghost use Rattle.command_line.specs.Words.{Gives, GivesNothing};
 ghost use Rattle.command_line.specs.declared.orders.WordFault.{WordFault as WordFaultValue};
@@ -42,7 +42,7 @@ fn bad_words<'a>(alloc: Global, words: &'a [&'a str]) -> Result<WordFault, Alloc
 // What clap says of the words, or where it takes them, that they are unusual.
 fn error_of<'a>(command: &mut Command<'a>, words: &'a [&'a str]) -> Result<clap::Error, AllocError>
     requires { app_of command.old ≡ wbl }
-    ensures help { IfOk result (λ error. (fault : WordFaultValue) → TellsKind (kind_of error) fault → AnswersHelp (texts words.now) fault) }
+    ensures help { IfOk result (λ error. (fault : WordFaultValue) → ReportsKind (kind_of error) fault → AnswersHelp (texts words.now) fault) }
 {
     match command.try_get_matches_from_mut(words) {
         Err(error) => Ok(error),
@@ -54,7 +54,7 @@ const UNUSUAL_WORDS: &str =
     "a number has 1 to 20 digits and nothing else, and a file whose name begins with '-' is written as ./-NAME";
 
 fn word_fault(alloc: Global, error: &clap::Error) -> WordFault
-    ensures { TellsKind (kind_of error.now) result }
+    ensures { ReportsKind (kind_of error.now) result }
 {
     if matches!(error.kind(), ErrorKind::OutOfMemory) {
         return WordFault::OutOfMemory(AllocError);

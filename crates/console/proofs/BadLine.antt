@@ -21,7 +21,7 @@ use Rattle.command_line.specs.declared.command.Survivor.{Survivor}
 use Rattle.command_line.specs.declared.orders.Order.{Order}
 use Rattle.command_line.specs.declared.orders.Order.TheVariants.{Format, Run, Check, Threads, Lives}
 use Rattle.command_line.specs.declared.printed.Printed.TheVariants as printed
-use Rattle.console.specs.BadLine.{BlamesNoLine, EndsAtBadLine, EndsAtLine, IfBadLine, IsLineOf, IsPassed, MeetsBadLine, Tells, TellsLine, kept_by, kept_in}
+use Rattle.console.specs.BadLine.{BlamesNoLine, EndsAtBadLine, EndsAtLine, IfBadLine, IsLineOf, IsPassed, MeetsBadLine, PrintsBadLine, ReportsLine, kept_by, kept_in}
 use Rattle.console.specs.Input.{BeginsWith}
 use Rattle.console.specs.Kept.{Leads}
 use Rattle.console.specs.Lives.{opened_text}
@@ -98,8 +98,8 @@ ends-so file input old mid new number ended met told = record {
 }
 
 told-by : (order : Order) (stop : Stop) (file : List ℕ) (input old mid new : Option Text) (number : ℕ)
-    → IfBadLine (λ line. EndsAtLine order file input old mid line []) stop → IsLineOf stop number → Tells mid new number
-    → TellsLine order file input old new number
+    → IfBadLine (λ line. EndsAtLine order file input old mid line []) stop → IsLineOf stop number → PrintsBadLine mid new number
+    → ReportsLine order file input old new number
 told-by order (Refused fault) file input old mid new number met is told = absurd is
 told-by order (Broken reason) file input old mid new number met is told = absurd is
 told-by (Format name wide slots places window) (NotACommand line) file input old mid new number met is told = absurd met
@@ -112,9 +112,9 @@ told-by (Lives name) (NotACommand line) file input old mid new number met is tol
 
 pub told-so : (order : Order) (stop : Stop) (file : List ℕ) (input old mid new : Option Text) (stopped : Option Stop)
     → IfBadLine (λ line. EndsAtLine order file input old mid line []) stop
-    → IfSome stopped (IfBadLine (λ number. IsLineOf stop number × Tells mid new number))
-    → IfSome stopped (IfBadLine (TellsLine order file input old new))
+    → IfSome stopped (IfBadLine (λ number. IsLineOf stop number × PrintsBadLine mid new number))
+    → IfSome stopped (IfBadLine (ReportsLine order file input old new))
 told-so order stop file input old mid new None met told = tt
 told-so order stop file input old mid new (Some after) met told =
-    bad-line-by after (λ (number : ℕ). IsLineOf stop number × Tells mid new number) (TellsLine order file input old new)
+    bad-line-by after (λ (number : ℕ). IsLineOf stop number × PrintsBadLine mid new number) (ReportsLine order file input old new)
     (λ number t. told-by order stop file input old mid new number met t.0 t.1) told

@@ -88,7 +88,7 @@ begun-of state opened before words image history drawn next lines keeps begun sa
         first = start.0;
         last = went.0;
         opens = subst (λ (i : Image). OpensAs i history [] start.0) (sym same) start.1;
-        told = told start.0 start.2;
+        announced = told start.0 start.2;
         obeys = went.1;
       },
       went.2,

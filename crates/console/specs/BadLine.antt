@@ -78,8 +78,8 @@ pub record EndsAtBadLine (file : List ℕ) (input old new : Option Text) (number
       → IsBegun image history is.before None begun said
 
 -- what is printed is that the line of this number is no command
-abbrev pub Tells : Option Text → Option Text → ℕ → Type 0
-Tells old new number = Appends old new (text_of (printed.NotACommand number) ++ 10 ∷ [])
+abbrev pub PrintsBadLine : Option Text → Option Text → ℕ → Type 0
+PrintsBadLine old new number = Appends old new (text_of (printed.NotACommand number) ++ 10 ∷ [])
 
 -- the line of this number is to blame: of a run, one of the input, which ends it; of lives, one of the script, and then nothing
 -- is printed before. This is printed at the end
@@ -91,8 +91,8 @@ EndsAtLine (Threads name sessions commits) file input old new number ended = ⊥
 EndsAtLine (Lives name) file input old new number ended = IsWrongLine file number × Appends old new ended
 
 -- the line of this number is to blame, and what is printed at the end is that it is no command
-abbrev pub TellsLine : Order → List ℕ → Option Text → Option Text → Option Text → ℕ → Type 0
-TellsLine order file input old new number = EndsAtLine order file input old new number (text_of (printed.NotACommand number) ++ 10 ∷ [])
+abbrev pub ReportsLine : Order → List ℕ → Option Text → Option Text → Option Text → ℕ → Type 0
+ReportsLine order file input old new number = EndsAtLine order file input old new number (text_of (printed.NotACommand number) ++ 10 ∷ [])
 
 -- ---- why a subcommand ended
 

@@ -45,7 +45,7 @@ pub record IsBegun (image : Image) (history : List Commit) (lines : List Text) (
   pub first : State
   pub last : State
   pub opens : OpensAs image history [] first
-  pub told : begun ≡ opened_text first ++ 10 ∷ []
+  pub announced : begun ≡ opened_text first ++ 10 ∷ []
   pub obeys : ObeysLines first lines said keeps last
 
 -- so a life is begun, and it ends on this device, which shows the last state

@@ -68,7 +68,7 @@ answer_text (Some reply) = reply_text reply
 
 -- of a life a line for each command that is told of
 abbrev pub replies_text : List (Option Reply) → Text
-replies_text told = flat_map (λ reply. answer_text reply ++ 10 ∷ []) told
+replies_text reported = flat_map (λ reply. answer_text reply ++ 10 ∷ []) reported
 
 -- the line of an opening
 abbrev pub opened_text : Opened → Text

@@ -3,7 +3,7 @@ ghost use Rattle.std.specs.Io.KnownBytes.{Appends};
 ghost use Rattle.base.specs.Layout.{total_words};
 ghost use Rattle.command_line.specs.ImageFile.{IsFileOf};
 ghost use Rattle.base.specs.Fresh.{fresh_image};
-ghost use Rattle.console.specs.BadLine.{BlamesNoLine, EndsAtLine, IfBadLine, IsLineOf, Tells, TellsLine};
+ghost use Rattle.console.specs.BadLine.{BlamesNoLine, EndsAtLine, IfBadLine, IsLineOf, PrintsBadLine, ReportsLine};
 ghost use Rattle.console.specs.Checked.{PrintsChecked};
 ghost use Rattle.console.specs.Kept.{HasLimits, IfCheck, IfLives, IfReadsNoInput, Leaves, writes_file};
 ghost use Rattle.console.specs.Printed.{Prints};
@@ -50,7 +50,7 @@ pub fn execute<T: Threads + Wait + Copy + Drop + Send + Sync + 'static, R: Read,
     ensures lived { result.status ≡ 0 → IfLives order.now (PrintsLives file.now (W.contents output.old) (W.contents output.new)) }
 
     // Exactly the line of the refusal, or of the bad line, is printed after what was printed before it.
-    ensures bad_line { IfSome result.stopped (IfBadLine (TellsLine order.now file.now (R.remaining input.old) (W.contents output.old) (W.contents output.new))) }
+    ensures bad_line { IfSome result.stopped (IfBadLine (ReportsLine order.now file.now (R.remaining input.old) (W.contents output.old) (W.contents output.new))) }
     ensures refused { IfSome result.stopped (IfRefused (Refuses order.now file.now (R.remaining input.old) (W.contents output.old) (W.contents output.new))) }
 
     // The line of a refusal is the last that is printed, for want of memory too.
@@ -62,7 +62,7 @@ pub fn execute<T: Threads + Wait + Copy + Drop + Send + Sync + 'static, R: Read,
             file,
             stopped: None,
         },
-        Err(stop) => tell(alloc, &stop, output),
+        Err(stop) => report_stop(alloc, &stop, output),
     }
 }
 
@@ -143,24 +143,24 @@ fn format<W: Write>(alloc: Global, geometry: Geometry, output: &mut W) -> Result
 }
 
 // Prints why the work ended early.
-fn tell<W: Write>(alloc: Global, stop: &Stop, output: &mut W) -> Ended
+fn report_stop<W: Write>(alloc: Global, stop: &Stop, output: &mut W) -> Ended
     ensures some { 1 ≤ result.status }
     ensures status { result.status ≡ status_of result.stopped }
     ensures none { result.file ≡ None }
-    ensures bad_line { IfSome result.stopped (IfBadLine (λ number. IsLineOf stop.now number × Tells (W.contents output.old) (W.contents output.new) number)) }
+    ensures bad_line { IfSome result.stopped (IfBadLine (λ number. IsLineOf stop.now number × PrintsBadLine (W.contents output.old) (W.contents output.new) number)) }
     ensures refused { IfSome result.stopped (IfRefused (λ fault. IsFaultOf stop.now fault × Appends (W.contents output.old) (W.contents output.new) (refusal_line fault))) }
 {
-    let told = announce(alloc, stop, output);
+    let printed = announce(alloc, stop, output);
     Ended {
-        status: status_of(&told),
+        status: status_of(&printed),
         file: None,
-        stopped: Some(told),
+        stopped: Some(printed),
     }
 }
 
 // Prints the line of a refusal, or of what is no command. Where that fails, the failure is what ended the work.
 fn announce<W: Write>(alloc: Global, stop: &Stop, output: &mut W) -> Stop
-    ensures bad_line { IfBadLine (λ number. IsLineOf stop.now number × Tells (W.contents output.old) (W.contents output.new) number) result }
+    ensures bad_line { IfBadLine (λ number. IsLineOf stop.now number × PrintsBadLine (W.contents output.old) (W.contents output.new) number) result }
     ensures refused { IfRefused (λ fault. IsFaultOf stop.now fault × Appends (W.contents output.old) (W.contents output.new) (refusal_line fault)) result }
 {
     match *stop {
@@ -172,7 +172,7 @@ fn announce<W: Write>(alloc: Global, stop: &Stop, output: &mut W) -> Stop
 }
 
 fn refuse<W: Write>(alloc: Global, fault: Fault, output: &mut W) -> Stop
-    ensures refused { IfRefused (λ told. (told ≡ fault) × Appends (W.contents output.old) (W.contents output.new) (refusal_line fault)) result }
+    ensures refused { IfRefused (λ reported. (reported ≡ fault) × Appends (W.contents output.old) (W.contents output.new) (refusal_line fault)) result }
     ensures blames { BlamesNoLine result }
 {
     match print(alloc, output, &Printed::Refused(fault)) {
@@ -183,7 +183,7 @@ fn refuse<W: Write>(alloc: Global, fault: Fault, output: &mut W) -> Stop
 
 // Names the line that is no command.
 fn blame<W: Write>(alloc: Global, line: u64, output: &mut W) -> Stop
-    ensures bad_line { IfBadLine (λ told. (told ≡ line) × Tells (W.contents output.old) (W.contents output.new) line) result }
+    ensures bad_line { IfBadLine (λ reported. (reported ≡ line) × PrintsBadLine (W.contents output.old) (W.contents output.new) line) result }
     ensures refused { IfRefused (λ fault. ⊥) result }
 {
     match print(alloc, output, &Printed::NotACommand { line }) {

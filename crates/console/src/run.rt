@@ -70,7 +70,7 @@ fn open<T: Threads + Sync>(rt: &T, alloc: Global, words: &[u64]) -> Result<Room<
 }
 
 fn show_opened<W: Write>(alloc: Global, room: &Room<SimPmem>, output: &mut W) -> Result<(), Stop>
-    ensures told { OnOk result ((said : Text) × Appends (W.contents output.old) (W.contents output.new) said
+    ensures printed { OnOk result ((said : Text) × Appends (W.contents output.old) (W.contents output.new) said
         × ((q : State) → Shows device_of room.now q → said ≡ opened_text q ++ 10 ∷ [])) }
     ensures blames { IfErr result BlamesNoLine }
     ensures memory { IfErr result WantsMemory }

@@ -137,7 +137,7 @@ ZeroingKeeps =
 -- a covered commit replaced is freed
 pub data ChangesHolder (q : State) (held : ℕ → Option Version) (device : Device) (slot : ℕ) : Type 0 where
   stays : held slot ≡ q.held slot → ChangesHolder q held device slot
-  given_back : (n : ℕ) (key : Key) → q.held slot ≡ Some (version_by key (BySession n)) → held slot ≡ None → ChangesHolder q held device slot
+  released : (n : ℕ) (key : Key) → q.held slot ≡ Some (version_by key (BySession n)) → held slot ≡ None → ChangesHolder q held device slot
   taken : (n : ℕ) (key : Key) → q.held slot ≡ None → held slot ≡ Some (version_by key (BySession n)) → IsSettledAt device (word_of q.layout slot 0) 0 → ChangesHolder q held device slot
   freed : (t : ℕ) (key : Key) → q.held slot ≡ Some (version_by key (ByCommit t)) → drawn_at q t ≡ None → t ≢ last_writer q.history key → held slot ≡ None → ChangesHolder q held device slot
 

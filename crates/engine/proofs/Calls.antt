@@ -10,7 +10,7 @@ use Rattle.engine.specs.Calls.{Called}
 
 -- a call that made no step
 pub Called-none : (old : List Receipt) (F : List Receipt → Type 0) → F [] → Called old old F
-Called-none old F f = record { added = []; is = sym (append-nil old); runs = All-nil (λ r. ∥ EndsRun r ∥₁); tells = f }
+Called-none old F f = record { added = []; is = sym (append-nil old); runs = All-nil (λ r. ∥ EndsRun r ∥₁); holds = f }
 
 -- a step more
 pub Called-more : (old mid new : List Receipt) (step : Step) (note : Note) (F G : List Receipt → Type 0) → Called old mid F → Asks mid new step note
@@ -19,7 +19,7 @@ Called-more old mid new step note F G c a more = record {
   added = c.added ++ a.receipt ∷ [];
   is = a.added ∙ (ap (λ (rs : List Receipt). rs ++ a.receipt ∷ []) c.is ∙ append_assoc old c.added (a.receipt ∷ []));
   runs = All-push (λ r. ∥ EndsRun r ∥₁) c.added a.receipt c.runs a.run;
-  tells = more c.added a.receipt c.tells a.asked a.told;
+  holds = more c.added a.receipt c.holds a.asked a.noted;
 }
 
 -- one after another
@@ -29,7 +29,7 @@ Called-append old mid new F G H c d both = record {
   added = c.added ++ d.added;
   is = d.is ∙ (ap (λ (rs : List Receipt). rs ++ d.added) c.is ∙ append_assoc old c.added d.added);
   runs = All-append (λ r. ∥ EndsRun r ∥₁) c.added d.added c.runs d.runs;
-  tells = both c.added d.added c.tells d.tells;
+  holds = both c.added d.added c.holds d.holds;
 }
 
 -- a single step
@@ -39,8 +39,8 @@ Called-one old new step note G a one = record {
   added = a.receipt ∷ [];
   is = a.added;
   runs = All-cons (λ r. ∥ EndsRun r ∥₁) a.receipt [] a.run (All-nil (λ r. ∥ EndsRun r ∥₁));
-  tells = one a.receipt a.asked a.told;
+  holds = one a.receipt a.asked a.noted;
 }
 
 pub Called-weaken : (old new : List Receipt) (F G : List Receipt → Type 0) → Called old new F → ((added : List Receipt) → F added → G added) → Called old new G
-Called-weaken old new F G c weaken = record { added = c.added; is = c.is; runs = c.runs; tells = weaken c.added c.tells }
+Called-weaken old new F G c weaken = record { added = c.added; is = c.is; runs = c.runs; holds = weaken c.added c.holds }

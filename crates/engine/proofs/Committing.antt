@@ -11,16 +11,16 @@ use Rattle.engine.specs.declared.phase.Phase.{Phase}
 use Rattle.engine.specs.declared.phase.Phase.TheVariants.{Idle, Active, Drawn, Stamped, Covered}
 use Rattle.engine.specs.Phases.{number_of, IsOpenAs}
 use Rattle.engine.specs.Receipts.{Asks, Refuses}
-use Rattle.engine.specs.Calls.{Called, AskPrepare, AskCommit, ArePolls, TellsCommit, TellsLast, TellsFault, TellsEnd, AreUncovered, AreUnended, DeclinesPrepare, DeclinesCall, note_of_commit}
+use Rattle.engine.specs.Calls.{Called, AskPrepare, AskCommit, ArePolls, ReportsCommit, ReportsLast, ReportsFault, ReportsEnd, AreUncovered, AreUnended, DeclinesPrepare, DeclinesCall, note_of_commit}
 use Rattle.engine.proofs.Calls.{Called-none, Called-append, Called-weaken, Called-more}
 
-TellsFault-append : (one two : List Receipt) (fault : Fault) → TellsFault two fault → TellsFault (one ++ two) fault
-TellsFault-append one two fault (inl none) = inl none
-TellsFault-append one two fault (inr (before, r, is, told)) = inr (one ++ before, r, ap (λ (rs : List Receipt). one ++ rs) is ∙ sym (append_assoc one before (r ∷ [])), told)
+ReportsFault-append : (one two : List Receipt) (fault : Fault) → ReportsFault two fault → ReportsFault (one ++ two) fault
+ReportsFault-append one two fault (inl none) = inl none
+ReportsFault-append one two fault (inr (before, r, is, told)) = inr (one ++ before, r, ap (λ (rs : List Receipt). one ++ rs) is ∙ sym (append_assoc one before (r ∷ [])), told)
 
-TellsEnd-append : (E : Fault → Type 0) (one two : List Receipt) (fault : Fault) → AreUncovered one → TellsEnd E two fault → TellsEnd E (one ++ two) fault
-TellsEnd-append E one two fault before (inl tells) = inl (TellsFault-append one two fault tells)
-TellsEnd-append E one two fault before (inr (ended, waiting)) = inr (ended, All-append (λ r. (n : ℕ) → r.step ≡ Poll n → r.note ≡ Waiting) one two before waiting)
+ReportsEnd-append : (E : Fault → Type 0) (one two : List Receipt) (fault : Fault) → AreUncovered one → ReportsEnd E two fault → ReportsEnd E (one ++ two) fault
+ReportsEnd-append E one two fault before (inl tells) = inl (ReportsFault-append one two fault tells)
+ReportsEnd-append E one two fault before (inr (ended, waiting)) = inr (ended, All-append (λ r. (n : ℕ) → r.step ≡ Poll n → r.note ≡ Waiting) one two before waiting)
 
 no_draw_polls : (n k : ℕ) → Draw n ≡ Poll k → ⊥
 no_draw_polls n k e = cc
@@ -103,7 +103,7 @@ asks_some phase n one two three is asks polls ends short = record {
 }
 
 -- where a transaction is open, a call is declined as its steps tell
-pub declines : (E : Fault → Type 0) (phase : Phase) (added : List Receipt) (fault : Fault) → phase ≢ Idle → TellsEnd E added fault → AreUnended added → DeclinesCall E phase added fault
+pub declines : (E : Fault → Type 0) (phase : Phase) (added : List Receipt) (fault : Fault) → phase ≢ Idle → ReportsEnd E added fault → AreUnended added → DeclinesCall E phase added fault
 declines E Idle added fault is_open tells unended = absurd (is_open refl)
 declines E (Active n) added fault is_open tells unended = (tells, unended)
 declines E (Drawn n t) added fault is_open tells unended = (tells, unended)
@@ -127,22 +127,22 @@ commit_only_prepared E old new phase fault c = Called-weaken _ _ _ _ c (λ added
 
 -- a poll failed
 pub commit_polled : (E : Fault → Type 0) (old mid new : List Receipt) (phase : Phase) (n : ℕ) (fault : Fault) (R : List Receipt → Type 0) → IsOpenAs n phase → Called old mid (λ one. AskPrepare phase one × R one)
-    → Called mid new (λ two. ArePolls n two × TellsEnd E two fault) → Called old new (λ added. AskCommit phase added × DeclinesCall E phase added fault)
+    → Called mid new (λ two. ArePolls n two × ReportsEnd E two fault) → Called old new (λ added. AskCommit phase added × DeclinesCall E phase added fault)
 commit_polled E old mid new phase n fault R is c d = Called-append _ _ _ _ _ _ c d (λ one two prepared polled. (
   subst (λ (rs : List Receipt). AskCommit phase (one ++ rs)) (append-nil two) (asks_some phase n one two [] is.number prepared.0 polled.0 (All-nil (λ (r : Receipt). r.step ≡ End n)) (omega arith)),
-  declines E phase _ fault is.is_open (TellsEnd-append E one two fault (prepared_uncovered phase one prepared.0) polled.1) (both_unended one two (prepared_unended phase one prepared.0) (polls_unended n two polled.0)),
+  declines E phase _ fault is.is_open (ReportsEnd-append E one two fault (prepared_uncovered phase one prepared.0) polled.1) (both_unended one two (prepared_unended phase one prepared.0) (polls_unended n two polled.0)),
 ))
 
 -- it ended
 pub commit_ended : (old mid mid' new : List Receipt) (phase : Phase) (n : ℕ) (answer : Option ℕ) (R : List Receipt → Type 0) → IsOpenAs n phase → Called old mid (λ one. AskPrepare phase one × R one)
-    → Called mid mid' (λ two. ArePolls n two × TellsLast two (note_of_commit answer)) → Asks mid' new (End n) Done → Called old new (λ added. AskCommit phase added × TellsCommit phase added answer)
+    → Called mid mid' (λ two. ArePolls n two × ReportsLast two (note_of_commit answer)) → Asks mid' new (End n) Done → Called old new (λ added. AskCommit phase added × ReportsCommit phase added answer)
 commit_ended old mid mid' new phase n answer R is c d a =
-    Called-append _ _ _ _ (λ three. (two : List Receipt) × (r : Receipt) × (three ≡ two ++ r ∷ []) × (ArePolls n two × TellsLast two (note_of_commit answer)) × (r.step ≡ End n) × (r.note ≡ Done)) _ c
+    Called-append _ _ _ _ (λ three. (two : List Receipt) × (r : Receipt) × (three ≡ two ++ r ∷ []) × (ArePolls n two × ReportsLast two (note_of_commit answer)) × (r.step ≡ End n) × (r.note ≡ Done)) _ c
     (Called-more _ _ _ _ _ _ _ d a (λ two r polled step done. (two, r, refl, polled, step, done))) join
   where
     join : (one three : List Receipt) → AskPrepare phase one × R one
-        → (two : List Receipt) × (r : Receipt) × (three ≡ two ++ r ∷ []) × (ArePolls n two × TellsLast two (note_of_commit answer)) × (r.step ≡ End n) × (r.note ≡ Done)
-        → AskCommit phase (one ++ three) × TellsCommit phase (one ++ three) answer
+        → (two : List Receipt) × (r : Receipt) × (three ≡ two ++ r ∷ []) × (ArePolls n two × ReportsLast two (note_of_commit answer)) × (r.step ≡ End n) × (r.note ≡ Done)
+        → AskCommit phase (one ++ three) × ReportsCommit phase (one ++ three) answer
     join one three prepared (two, r, same, (polls, (before, poll, last, told)), step, done) = (
       subst (λ (rs : List Receipt). AskCommit phase (one ++ rs)) (sym same)
           (asks_some phase n one two (r ∷ []) is.number prepared.0 polls (All-cons (λ (s : Receipt). s.step ≡ End n) r [] step (All-nil (λ (s : Receipt). s.step ≡ End n))) (omega arith)),
@@ -154,7 +154,7 @@ commit_ended old mid mid' new phase n answer R is c d a =
         is = ap (λ (rs : List Receipt). one ++ rs) (same ∙ ap (λ (rs : List Receipt). rs ++ r ∷ []) last)
             ∙ (sym (append_assoc one (before ++ poll ∷ []) (r ∷ [])) ∙ ap (λ (rs : List Receipt). rs ++ r ∷ []) (sym (append_assoc one before (poll ∷ []))));
         polled = last_of before poll (subst (ArePolls n) last polls) ∙ ap Poll is.number;
-        told = told;
+        noted = told;
         ended = step ∙ ap End is.number;
         done = done;
       },
@@ -180,7 +180,7 @@ commit_end_failed E old mid mid' new phase n fault R S is c d (inr a) =
     join one three prepared (two, r, same, polls, step, told) = (
       subst (λ (rs : List Receipt). AskCommit phase (one ++ rs)) (sym same)
           (asks_some phase n one two (r ∷ []) is.number prepared.0 polls (All-cons (λ (s : Receipt). s.step ≡ End n) r [] step (All-nil (λ (s : Receipt). s.step ≡ End n))) (omega arith)),
-      declines E phase _ fault is.is_open (inl (TellsFault-append one three fault (inr (two, r, same, told))))
+      declines E phase _ fault is.is_open (inl (ReportsFault-append one three fault (inr (two, r, same, told))))
           (both_unended one three (prepared_unended phase one prepared.0)
           (subst AreUnended (sym same)
           (both_unended two (r ∷ []) (polls_unended n two polls)

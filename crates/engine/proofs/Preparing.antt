@@ -10,7 +10,7 @@ use Rattle.audited.specs.declared.receipt.Receipt.{Receipt}
 use Rattle.engine.specs.declared.phase.Phase.{Phase}
 use Rattle.engine.specs.declared.phase.Phase.TheVariants.{Active}
 use Rattle.engine.specs.Receipts.{Asks, Refuses}
-use Rattle.engine.specs.Calls.{Called, AskPrepare, TellsPrepare, TellsLast, TellsFault, DeclinesPrepare, note_of_draw}
+use Rattle.engine.specs.Calls.{Called, AskPrepare, ReportsPrepare, ReportsLast, ReportsFault, DeclinesPrepare, note_of_draw}
 use Rattle.std.proofs.lemmas.List.Elements.{All-nil}
 use Rattle.engine.proofs.Calls.{Called-none, Called-one, Called-append}
 
@@ -45,11 +45,11 @@ draw_refused E old new phase n fault is (inr a) =
     subst (λ (p : Phase). AskPrepare p (r ∷ []) × DeclinesPrepare E p (r ∷ []) fault) (sym is)
     (inr (r, [], refl, step, All-nil (λ (s : Receipt). s.step ≡ Stamp n)), inl (inr ([], r, refl, told))))
 
-one_before : (note : Note) (r : Receipt) (rest : List Receipt) → TellsLast rest note → TellsLast (r ∷ rest) note
+one_before : (note : Note) (r : Receipt) (rest : List Receipt) → ReportsLast rest note → ReportsLast (r ∷ rest) note
 one_before note r rest (before, last, same, told) = (r ∷ before, last, ap (λ (rs : List Receipt). r ∷ rs) same, told)
 
 pub broken_off : (E : Fault → Type 0) (old mid new : List Receipt) (phase : Phase) (n : ℕ) (note : Note) (fault : Fault) → phase ≡ Active n
-    → Asks old mid (Draw n) note → Called mid new (λ added. All (λ r. r.step ≡ Stamp n) added × TellsFault added fault)
+    → Asks old mid (Draw n) note → Called mid new (λ added. All (λ r. r.step ≡ Stamp n) added × ReportsFault added fault)
     → Called old new (λ added. AskPrepare phase added × DeclinesPrepare E phase added fault)
 broken_off E old mid new phase n note fault is a c =
     drawn_first old mid new n note _ _ a c (λ r rest step told stamps. (
@@ -57,15 +57,15 @@ broken_off E old mid new phase n note fault is a c =
       subst (λ (p : Phase). DeclinesPrepare E p (r ∷ rest) fault) (sym is) (inl (longer r rest stamps.1)),
     ))
   where
-    longer : (r : Receipt) (rest : List Receipt) → TellsFault rest fault → TellsFault (r ∷ rest) fault
+    longer : (r : Receipt) (rest : List Receipt) → ReportsFault rest fault → ReportsFault (r ∷ rest) fault
     longer r rest (inl none) = inl none
     longer r rest (inr last) = inr (one_before (Refused fault) r rest last)
 
 pub drawn_told : (old mid new : List Receipt) (phase : Phase) (n t : ℕ) (answer : Option ℕ) → phase ≡ Active n → answer ≡ Some t
-    → Asks old mid (Draw n) (note_of_draw answer) → Called mid new (λ added. All (λ r. r.step ≡ Stamp n) added × TellsLast added AllStamped)
-    → Called old new (λ added. AskPrepare phase added × TellsPrepare phase added (Some t))
+    → Asks old mid (Draw n) (note_of_draw answer) → Called mid new (λ added. All (λ r. r.step ≡ Stamp n) added × ReportsLast added AllStamped)
+    → Called old new (λ added. AskPrepare phase added × ReportsPrepare phase added (Some t))
 drawn_told old mid new phase n t answer is at a c =
     drawn_first old mid new n (note_of_draw answer) _ _ a c (λ r rest step told stamps. (
       subst (λ (p : Phase). AskPrepare p (r ∷ rest)) (sym is) (inr (r, rest, refl, step, stamps.0)),
-      subst (λ (p : Phase). TellsPrepare p (r ∷ rest) (Some t)) (sym is) ((r, rest, refl, told ∙ ap note_of_draw at), one_before AllStamped r rest stamps.1),
+      subst (λ (p : Phase). ReportsPrepare p (r ∷ rest) (Some t)) (sym is) ((r, rest, refl, told ∙ ap note_of_draw at), one_before AllStamped r rest stamps.1),
     ))

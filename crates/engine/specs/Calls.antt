@@ -18,23 +18,23 @@ pub record Called (old new : List Receipt) (fact : List Receipt → Type 0) : Ty
   pub added : List Receipt
   pub is : new ≡ old ++ added
   pub runs : All (λ r. ∥ EndsRun r ∥₁) added
-  pub tells : fact added
+  pub holds : fact added
 
 -- the last note is this
-abbrev pub TellsLast : List Receipt → Note → Type 0
-TellsLast added note = (before : List Receipt) × (r : Receipt) × (added ≡ before ++ r ∷ []) × (r.note ≡ note)
+abbrev pub ReportsLast : List Receipt → Note → Type 0
+ReportsLast added note = (before : List Receipt) × (r : Receipt) × (added ≡ before ++ r ∷ []) × (r.note ≡ note)
 
 -- the last note refuses with this fault, or for want of memory a step wasn't made
-abbrev pub TellsFault : List Receipt → Fault → Type 0
-TellsFault added fault = (fault ≡ OutOfMemory) ⊎ TellsLast added (Refused fault)
+abbrev pub ReportsFault : List Receipt → Fault → Type 0
+ReportsFault added fault = (fault ≡ OutOfMemory) ⊎ ReportsLast added (Refused fault)
 
 -- whichever of them polled was told that the commit isn't covered
 abbrev pub AreUncovered : List Receipt → Type 0
 AreUncovered added = All (λ r. (n : ℕ) → r.step ≡ Poll n → r.note ≡ Waiting) added
 
 -- so it is, or the fault is what ended the committer, and no poll told that the commit is covered
-abbrev pub TellsEnd : (Fault → Type 0) → List Receipt → Fault → Type 0
-TellsEnd Ended added fault = TellsFault added fault ⊎ (Ended fault × AreUncovered added)
+abbrev pub ReportsEnd : (Fault → Type 0) → List Receipt → Fault → Type 0
+ReportsEnd Ended added fault = ReportsFault added fault ⊎ (Ended fault × AreUncovered added)
 
 -- whichever of them is an end wasn't done
 abbrev pub AreUnended : List Receipt → Type 0
@@ -43,7 +43,7 @@ AreUnended added = All (λ r. (n : ℕ) → r.step ≡ End n → r.note ≢ Done
 -- so it is where a transaction is open, which stays so; and else the fault is NoSession and no step was made
 abbrev pub DeclinesCall : (Fault → Type 0) → Phase → List Receipt → Fault → Type 0
 DeclinesCall Ended Idle added fault = (fault ≡ NoSession) × (added ≡ [])
-DeclinesCall Ended _ added fault = TellsEnd Ended added fault × AreUnended added
+DeclinesCall Ended _ added fault = ReportsEnd Ended added fault × AreUnended added
 
 -- ---- a prepare
 
@@ -57,8 +57,8 @@ AskPrepare _ added = added ≡ []
 -- made. So it is NoSession where no transaction is open; and where all is stamped, or nothing was written, it isn't refused
 abbrev pub DeclinesPrepare : (Fault → Type 0) → Phase → List Receipt → Fault → Type 0
 DeclinesPrepare Ended Idle added fault = (fault ≡ NoSession) × (added ≡ [])
-DeclinesPrepare Ended (Active n) added fault = TellsFault added fault ⊎ (Ended fault × (added ≡ []))
-DeclinesPrepare Ended (Drawn n t) added fault = TellsFault added fault
+DeclinesPrepare Ended (Active n) added fault = ReportsFault added fault ⊎ (Ended fault × (added ≡ []))
+DeclinesPrepare Ended (Drawn n t) added fault = ReportsFault added fault
 DeclinesPrepare Ended _ added fault = ⊥
 
 -- what a draw is answered
@@ -67,21 +67,21 @@ note_of_draw (Some t) = DrewAs t
 note_of_draw None = Done
 
 -- the first note is this
-abbrev pub TellsFirst : List Receipt → Note → Type 0
-TellsFirst added note = (r : Receipt) × (rest : List Receipt) × (added ≡ r ∷ rest) × (r.note ≡ note)
+abbrev pub ReportsFirst : List Receipt → Note → Type 0
+ReportsFirst added note = (r : Receipt) × (rest : List Receipt) × (added ≡ r ∷ rest) × (r.note ≡ note)
 
 -- where there is a timestamp, the last note says that all keys are stamped
-abbrev pub TellsStamped : List Receipt → Option ℕ → Type 0
-TellsStamped added (Some t) = TellsLast added AllStamped
-TellsStamped added None = Unit {0}
+abbrev pub ReportsStamped : List Receipt → Option ℕ → Type 0
+ReportsStamped added (Some t) = ReportsLast added AllStamped
+ReportsStamped added None = Unit {0}
 
 -- the answer is the draw's, by the first note or by an earlier call; and all keys are stamped, by the last note or by an earlier call
-abbrev pub TellsPrepare : Phase → List Receipt → Option ℕ → Type 0
-TellsPrepare (Active n) added answer = TellsFirst added (note_of_draw answer) × TellsStamped added answer
-TellsPrepare (Drawn n t) added answer = (answer ≡ Some t) × TellsStamped added answer
-TellsPrepare (Stamped n t) added answer = answer ≡ Some t
-TellsPrepare (Covered n) added answer = answer ≡ None
-TellsPrepare Idle added answer = ⊥
+abbrev pub ReportsPrepare : Phase → List Receipt → Option ℕ → Type 0
+ReportsPrepare (Active n) added answer = ReportsFirst added (note_of_draw answer) × ReportsStamped added answer
+ReportsPrepare (Drawn n t) added answer = (answer ≡ Some t) × ReportsStamped added answer
+ReportsPrepare (Stamped n t) added answer = answer ≡ Some t
+ReportsPrepare (Covered n) added answer = answer ≡ None
+ReportsPrepare Idle added answer = ⊥
 
 -- ---- a commit
 
@@ -112,13 +112,13 @@ pub record AskCommit (phase : Phase) (added : List Receipt) : Type 0 where
   pub one_end : length end ≤ 1
 
 -- a transaction was open, its last poll's note tells the answer, and an end that was done follows it
-pub record TellsCommit (phase : Phase) (added : List Receipt) (answer : Option ℕ) : Type 0 where
+pub record ReportsCommit (phase : Phase) (added : List Receipt) (answer : Option ℕ) : Type 0 where
   pub open_then : phase ≢ Idle
   pub before : List Receipt
   pub poll : Receipt
   pub end : Receipt
   pub is : added ≡ (before ++ poll ∷ []) ++ end ∷ []
   pub polled : poll.step ≡ Poll (number_of phase)
-  pub told : poll.note ≡ note_of_commit answer
+  pub noted : poll.note ≡ note_of_commit answer
   pub ended : end.step ≡ End (number_of phase)
   pub done : end.note ≡ Done

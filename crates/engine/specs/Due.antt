@@ -41,8 +41,8 @@ pub record KeepsNews (old new : News) : Type 0 where
   pub waiting : IsTrue old.waiting → IsTrue new.waiting
 
 -- nobody is to be told
-abbrev pub IsTold : News → Type 0
-IsTold news = (news.committer ≡ false) × (news.collector ≡ false) × (news.waiting ≡ false)
+abbrev pub IsDelivered : News → Type 0
+IsDelivered news = (news.committer ≡ false) × (news.collector ≡ false) × (news.waiting ≡ false)
 
 -- ---- what a step leaves due
 
@@ -53,7 +53,7 @@ pub record MakesDue (old new : Due) (reply : Reply) : Type 0 where
   pub within : IsTrue old.visit → IsFalse new.visit → reply ≡ SweepEnd
 
 -- who sleeps is to be told of what is due then, whoever waits for a commit of what was covered, or that nothing may be, and nobody is forgotten
-pub record TellsDue (old new : Due) (reply : Reply) : Type 0 where
+pub record NotifiesDue (old new : Due) (reply : Reply) : Type 0 where
   pub committer : IsFalse old.tick → IsTrue new.tick → IsTrue new.news.committer
   pub collector : IsFalse old.visit → IsTrue new.visit → IsTrue new.news.collector
   pub waiting : IsTrue (wakes_waiting reply) → IsTrue new.news.waiting

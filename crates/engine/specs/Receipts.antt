@@ -25,7 +25,7 @@ pub record Asks (old new : List Receipt) (step : Step) (note : Note) : Type 0 wh
   pub receipt : Receipt
   pub added : new ≡ old ++ receipt ∷ []
   pub asked : receipt.step ≡ step
-  pub told : receipt.note ≡ note
+  pub noted : receipt.note ≡ note
   pub run : ∥ EndsRun receipt ∥₁
 
 -- the step was asked and refused with this fault; or for want of memory none was made, or none that is kept

@@ -73,7 +73,7 @@ impl<D: Pmem + Drop, J: Origin> Desk<D, J> {
     ghost use Rattle.room.specs.Room.{Shows};
     ghost use Rattle.engine.specs.Origins.{HasCovered};
     ghost use Rattle.engine.specs.declared.desk.Duty.TheVariants.{Commit, Collect};
-    ghost use Rattle.engine.specs.Due.{IsTold, MakesDue, TellsDue, WantsRecord};
+    ghost use Rattle.engine.specs.Due.{IsDelivered, MakesDue, NotifiesDue, WantsRecord};
     ghost use Rattle.engine.specs.Lending.{HasMade, MakesOnly, has_failed, is_covered, halted_after, refusals_after, why_not, waited};
 
     /// No room yet.
@@ -163,7 +163,7 @@ impl<D: Pmem + Drop, J: Origin> Desk<D, J> {
     /// Notes what a step was answered, and what it made due.
     pub fn note(&mut self, reply: &Reply)
         ensures due { IfSome self.old.audited (λ audited. MakesDue self.old.due self.new.due reply.now) }
-        ensures news { IfSome self.old.audited (λ audited. TellsDue self.old.due self.new.due reply.now) }
+        ensures news { IfSome self.old.audited (λ audited. NotifiesDue self.old.due self.new.due reply.now) }
         ensures record { IfSome self.old.audited (λ audited. (q : State) → Shows D.state audited.room q → WantsRecord reply.now q.ruling q.next q.layout.window → IsTrue self.new.due.tick) }
         ensures asleep { self.new.asleep ≡ self.old.asleep }
         ensures room { self.new.audited ≡ self.old.audited }
@@ -198,7 +198,7 @@ impl<D: Pmem + Drop, J: Origin> Desk<D, J> {
     /// Whom to tell of what was noted since the last call.
     pub fn take_news(&mut self) -> News
         ensures news { result ≡ self.old.due.news }
-        ensures told { IsTold self.new.due.news }
+        ensures delivered { IsDelivered self.new.due.news }
         ensures due { (self.new.due.tick ≡ self.old.due.tick) × (self.new.due.visit ≡ self.old.due.visit) }
         ensures counts { (self.new.due.covered ≡ self.old.due.covered) × (self.new.due.is_slot_wanted ≡ self.old.due.is_slot_wanted) }
         ensures asleep { self.new.asleep ≡ self.old.asleep }
@@ -214,7 +214,7 @@ impl<D: Pmem + Drop, J: Origin> Desk<D, J> {
     /// Why nothing will be covered: the fault that ended the committer, or that it was refused memory too often in a row.
     pub fn why_not(&self) -> Option<Fault>
         ensures why { result ≡ why_not self.now.halted self.now.refusals }
-        ensures told { IfSome result (λ fault. (fault ≡ OutOfMemory) ⊎ HasHalted J.image fault) }
+        ensures fault { IfSome result (λ fault. (fault ≡ OutOfMemory) ⊎ HasHalted J.image fault) }
     {
         match self.halted {
             Some(fault) => Some(fault),
@@ -231,7 +231,7 @@ impl<D: Pmem + Drop, J: Origin> Desk<D, J> {
     pub fn waited(&self, timestamp: Ts) -> Option<Result<(), Fault>>
         ensures over { MatchOption self.now.audited (result ≡ None)
             (λ audited. (q : State) → Shows D.state audited.room q → result ≡ waited (is_covered q.ruling timestamp) (why_not self.now.halted self.now.refusals) (has_failed audited.entries.items)) }
-        ensures told { IfSome result (λ over. IfErr over (λ fault. (fault ≡ OutOfMemory) ⊎ HasHalted J.image fault)) }
+        ensures fault { IfSome result (λ over. IfErr over (λ fault. (fault ≡ OutOfMemory) ⊎ HasHalted J.image fault)) }
     {
         let Some(audited) = &self.audited else {
             return None;

@@ -3,7 +3,7 @@
 //! finds something once commits were covered, or where a slot is wanted.
 ghost use Rattle.std.specs.Prelude.{◌≡◌, ◌⊎◌, ◌≤◌, IsTrue, IsFalse, true, false};
 ghost use Rattle.base.specs.declared.step.Reply.TheVariants.{Refused, SweepEnd};
-ghost use Rattle.engine.specs.Due.{covered_after, tick_after, wants_visit, wakes_waiting, KeepsNews, IsTold};
+ghost use Rattle.engine.specs.Due.{covered_after, tick_after, wants_visit, wakes_waiting, KeepsNews, IsDelivered};
 
 use base::fault::Fault;
 use base::step::Reply;
@@ -33,7 +33,7 @@ pub struct News {
 
 impl News {
     fn none() -> News
-        ensures { IsTold result }
+        ensures { IsDelivered result }
     {
         News {
             committer: false,
@@ -48,7 +48,7 @@ impl Due {
     pub fn new() -> Due
         ensures tick { result.tick ≡ true }
         ensures visit { result.visit ≡ true }
-        ensures told { IsTold result.news }
+        ensures delivered { IsDelivered result.news }
     {
         Due {
             tick: true,
@@ -74,7 +74,7 @@ impl Due {
     /// Whom to tell of what was noted since the last call.
     pub fn take_news(&mut self) -> News
         ensures news { result ≡ self.old.news }
-        ensures told { IsTold self.new.news }
+        ensures delivered { IsDelivered self.new.news }
         ensures due { (self.new.tick ≡ self.old.tick) × (self.new.visit ≡ self.old.visit) }
         ensures counts { (self.new.covered ≡ self.old.covered) × (self.new.is_slot_wanted ≡ self.old.is_slot_wanted) }
     {

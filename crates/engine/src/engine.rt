@@ -26,7 +26,7 @@ pub struct Engine<D: Pmem, J: Origin, B: Drop> {
     shared: Arc<Shared<D, J, B>, Global>,
     readers: Mutex<Vec<Reader<J>>>,
     // What was published at the start.
-    told: Token<J>,
+    published: Token<J>,
     opening: Status,
     first: u64,
     workers: Option<Workers>,
@@ -64,7 +64,7 @@ impl<
         requires from { IsFrom D.state J.image audited }
         ensures opening { IfOk result (λ engine. engine.opening ≡ audited.opening) }
         ensures first { IfOk result (λ engine. engine.first ≡ length audited.entries.items) }
-        ensures told { IfOk result (λ engine. (q : State) → Shows D.state audited.room q → IsStartedOn q engine.told) }
+        ensures published { IfOk result (λ engine. (q : State) → Shows D.state audited.room q → IsStartedOn q engine.published) }
         ensures fault { IfErr result (λ e. (e.0 ≡ OutOfMemory) ⊎ (e.0 ≡ NoThread)) }
         ensures back { IfErr result (λ e. e.1 ≡ audited) }
     {
@@ -73,7 +73,7 @@ impl<
         let Ok((board, readers)) = board_of(*rt, alloc, history, &audited) else {
             return Err((Fault::OutOfMemory, audited));
         };
-        let told = board.token();
+        let published = board.token();
         let Ok(shared) = Arc::new(alloc, Shared::new(board)) else {
             return Err((Fault::OutOfMemory, audited));
         };
@@ -99,7 +99,7 @@ impl<
             alloc,
             shared,
             readers: Mutex::new(readers),
-            told,
+            published,
             opening,
             first,
             workers: Some(Workers {
@@ -122,7 +122,7 @@ impl<D: Pmem + Drop, J: Origin, B: Drop> Engine<D, J, B> {
     pub fn session<R: Wait>(&self, rt: &R) -> Result<Session<D, J, B>, Fault>
         ensures empty { IfOk result (λ session. session.receipts.items ≡ []) }
         ensures phase { IfOk result (λ session. session.phase ≡ Idle) }
-        ensures told { IfOk result (λ session. session.told ≡ self.now.told) }
+        ensures published { IfOk result (λ session. session.published ≡ self.now.published) }
         ensures memory { IfErr result (λ fault. fault ≡ OutOfMemory) }
     {
         let Ok(shared) = Arc::try_clone(&self.shared) else {
@@ -133,19 +133,19 @@ impl<D: Pmem + Drop, J: Origin, B: Drop> Engine<D, J, B> {
             return Err(fault);
         }
         drop(desk);
-        Ok(Session::new(self.alloc, shared, self.told.again()))
+        Ok(Session::new(self.alloc, shared, self.published.again()))
     }
 
     /// A reader, for one thread. There are eight at most.
     pub fn reader<R: Wait>(&self, rt: &R) -> Result<Reader<J>, Fault>
-        ensures told { IfOk result (λ reader. Begins self.now.told reader) }
+        ensures published { IfOk result (λ reader. Begins self.now.published reader) }
         ensures fault { IfErr result (λ fault. fault ≡ ReadersOut) }
     {
         let mut readers = self.readers.lock(rt);
         match readers.pop() {
             Some(reader) => {
                 let mut reader = reader;
-                reader.learn(self.told.again());
+                reader.learn(self.published.again());
                 Ok(reader)
             }
             None => Err(Fault::ReadersOut),
@@ -164,7 +164,7 @@ impl<D: Pmem + Drop, J: Origin, B: Drop> Engine<D, J, B> {
         ensures agrees { IfOk result (λ audited. Agrees audited.entries.items self.first (receipts_in sessions.items)) }
         ensures from { IfOk result (IsFrom D.state J.image) }
         ensures fault { IfErr result (λ e. e.0 ≡ WrongState) }
-        ensures back { IfErr result (λ e. (e.1.opening ≡ self.opening) × (e.1.first ≡ self.first) × (e.1.told ≡ self.told) × (e.2.items ≡ sessions.items)) }
+        ensures back { IfErr result (λ e. (e.1.opening ≡ self.opening) × (e.1.first ≡ self.first) × (e.1.published ≡ self.published) × (e.2.items ≡ sessions.items)) }
     {
         let count = sessions.len() as u64;
         if !may_close(&mut self.shared.desk.lock(rt), count) {

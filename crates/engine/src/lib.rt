@@ -13,9 +13,9 @@ mod opening;
 mod origin;
 mod phase;
 mod posting;
+mod reporting;
 mod session;
 mod shared;
-mod telling;
 mod transacting;
 mod worker;
 

@@ -73,7 +73,7 @@ impl<D: Pmem + Drop, J: Origin, B: Drop> Session<D, J, B> {
     /// Where its transaction stands: where its receipts leave it.
     pub fn phase(&self) -> Phase
         ensures phase { result ≡ self.now.phase }
-        ensures told { result ≡ phase_after Idle self.now.receipts.items }
+        ensures reached { result ≡ phase_after Idle self.now.receipts.items }
     {
         self.phase
     }

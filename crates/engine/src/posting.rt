@@ -52,7 +52,7 @@ pub fn post<R: Wait + Drop, D: Pmem + Drop, J: Origin>(
     for _ in rt.forever() {
         let mut board = shared.board.lock(rt);
         match post_left(&mut board, left) {
-            Ok(told) => return Some(told),
+            Ok(published) => return Some(published),
             Err(rest) => match rest {
                 Some(rest) => left = rest,
                 None => return None,
@@ -75,7 +75,7 @@ fn post_left<R: Wait + Drop, J: Naming>(
     board: &mut Board<J, R>,
     left: Left<J>,
 ) -> Result<Token<J>, Option<Left<J>>>
-    ensures told { IfOk result (λ list. list ≡ board.new.list) }
+    ensures published { IfOk result (λ list. list ≡ board.new.list) }
     ensures left { (batch : BatchOf) → IsLeftOf batch left → MatchResult result (λ list. EndsIn list batch × IsShort list) (λ rest. IfSome rest (IsLeftOf batch)) }
 {
     match left {
@@ -89,7 +89,7 @@ fn post_batch<R: Wait + Drop, J: Naming>(
     board: &mut Board<J, R>,
     batch: Batch,
 ) -> Result<Token<J>, Option<Left<J>>>
-    ensures told { IfOk result (λ list. (list ≡ board.new.list) × EndsIn list batch × IsShort list) }
+    ensures published { IfOk result (λ list. (list ≡ board.new.list) × EndsIn list batch × IsShort list) }
     ensures left { IfErr result (λ rest. MatchOption rest ((Fits (whole board.old) batch → ⊥) × (board.new ≡ board.old)) (IsLeftOf batch)) }
 {
     match publish_and_prune(board, Some(batch)) {
@@ -107,14 +107,14 @@ fn post_announced<R: Wait + Drop, J: Naming>(
     board: &mut Board<J, R>,
     due: Token<J>,
 ) -> Result<Token<J>, Option<Left<J>>>
-    ensures told { IfOk result (λ list. (list ≡ board.new.list) × Begins due list × (last_stamp list ≡ last_stamp due) × IsShort list) }
+    ensures published { IfOk result (λ list. (list ≡ board.new.list) × Begins due list × (last_stamp list ≡ last_stamp due) × IsShort list) }
     ensures left { IfErr result (λ rest. IfSome rest (λ left. (batch : BatchOf) → EndsIn due batch → IsLeftOf batch left)) }
 {
     match publish_and_prune(board, None) {
         Posting::Done => {
-            let told = board.token();
-            if due.begins(&told) && told.stamp() == due.stamp() {
-                Ok(told)
+            let published = board.token();
+            if due.begins(&published) && published.stamp() == due.stamp() {
+                Ok(published)
             } else {
                 Err(None)
             }

@@ -23,7 +23,7 @@ use std::sync::{Arc, Wait};
 pub struct Session<D: Pmem, J: Origin, B: Drop> {
     pub(crate) shared: Arc<Shared<D, J, B>, Global>,
     // What had been published when the engine was started.
-    pub(crate) told: Token<J>,
+    pub(crate) published: Token<J>,
     pub(crate) phase: Phase,
     receipts: Vec<Receipt>,
     floor: u64,
@@ -177,15 +177,15 @@ impl<D: Pmem + Drop, J: Origin, B: Drop> Session<D, J, B> {
     pub(crate) fn new(
         alloc: Global,
         shared: Arc<Shared<D, J, B>, Global>,
-        told: Token<J>,
+        published: Token<J>,
     ) -> Session<D, J, B>
         ensures receipts { result.receipts.items ≡ [] }
         ensures phase { result.phase ≡ Idle }
-        ensures told { result.told ≡ told }
+        ensures published { result.published ≡ published }
     {
         Session {
             shared,
-            told,
+            published,
             phase: Phase::Idle,
             receipts: Vec::new(alloc),
             floor: 0,
@@ -216,7 +216,7 @@ impl<D: Pmem + Drop, J: Origin, B: Drop> Session<D, J, B> {
             unreachable!()
         };
         let (reply, receipt) = audited.step(step);
-        self.shared.tell(&mut desk, &reply);
+        self.shared.notify(&mut desk, &reply);
         let Some(receipt) = receipt else {
             return Err(Fault::OutOfMemory);
         };

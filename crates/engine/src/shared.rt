@@ -29,7 +29,7 @@ impl<D: Pmem + Drop, J: Origin, B: Drop> Shared<D, J, B> {
     ghost use Rattle.std.specs.Prelude.{◌≡◌, ◌⊎◌, IfErr, IfSome};
     ghost use Rattle.std.specs.Sync.Mutex.{mutex_guard_value};
     ghost use Rattle.base.specs.declared.fault.Fault.TheVariants.{OutOfMemory};
-    ghost use Rattle.engine.specs.Due.{IsTold, MakesDue};
+    ghost use Rattle.engine.specs.Due.{IsDelivered, MakesDue};
     ghost use Rattle.engine.specs.Lending.{HasMade};
     ghost use Rattle.engine.specs.Origins.{HasHalted};
 
@@ -116,9 +116,9 @@ impl<D: Pmem + Drop, J: Origin, B: Drop> Shared<D, J, B> {
     }
 
     /// Notes what a step was answered, and wakes whom it concerns.
-    pub fn tell(&self, desk: &mut Desk<D, J>, reply: &Reply)
+    pub fn notify(&self, desk: &mut Desk<D, J>, reply: &Reply)
         ensures due { IfSome desk.old.audited (λ audited. MakesDue desk.old.due desk.new.due reply.now) }
-        ensures told { IsTold desk.new.due.news }
+        ensures delivered { IsDelivered desk.new.due.news }
         ensures asleep { desk.new.asleep ≡ desk.old.asleep }
         ensures room { desk.new.audited ≡ desk.old.audited }
         ensures handed { desk.new.handed ≡ desk.old.handed }

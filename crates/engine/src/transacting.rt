@@ -19,12 +19,12 @@ impl<D: Pmem + Drop, J: Origin, B: Drop> Session<D, J, B> {
     ghost use Rattle.engine.specs.Phases.{number_of, timestamp_of, phase_after, phase_after_step, added_since, prepared};
     ghost use Rattle.engine.specs.Origins.{HasHalted};
     ghost use Rattle.engine.specs.Receipts.{Asks, Refuses};
-    ghost use Rattle.engine.specs.Calls.{Called, TellsLast, TellsFault, TellsEnd, DeclinesCall, AskPrepare, TellsPrepare, DeclinesPrepare, note_of_draw, AskCommit, TellsCommit, ArePolls, note_of_commit};
+    ghost use Rattle.engine.specs.Calls.{Called, ReportsLast, ReportsFault, ReportsEnd, DeclinesCall, AskPrepare, ReportsPrepare, DeclinesPrepare, note_of_draw, AskCommit, ReportsCommit, ArePolls, note_of_commit};
 
     /// Draws a timestamp and stamps all keys, or goes on from where an earlier call left that. `None` if nothing was written. Where
     /// the committer has ended, nothing is drawn any more, and it fails with the fault that ended that.
     pub fn prepare<R: Wait>(&mut self, rt: &R) -> Result<Option<Ts>, Fault>
-        ensures steps { Called self.old.receipts.items self.new.receipts.items (λ added. AskPrepare self.old.phase added × MatchResult result (TellsPrepare self.old.phase added) (DeclinesPrepare (HasHalted J.image) self.old.phase added)) }
+        ensures steps { Called self.old.receipts.items self.new.receipts.items (λ added. AskPrepare self.old.phase added × MatchResult result (ReportsPrepare self.old.phase added) (DeclinesPrepare (HasHalted J.image) self.old.phase added)) }
         ensures ok { IfOk result (λ answer. self.new.phase ≡ prepared (number_of self.old.phase) answer) }
         ensures phase { self.new.phase ≡ phase_after self.old.phase (added_since self.old.receipts.items self.new.receipts.items) }
     {
@@ -55,7 +55,7 @@ impl<D: Pmem + Drop, J: Origin, B: Drop> Session<D, J, B> {
     /// Prepares, waits until the commit is covered, and ends the transaction. `None` if nothing was written. Where the committer
     /// ends first, it fails with the fault that ended that, and with OutOfMemory where that is refused memory again and again.
     pub fn commit<R: Wait>(&mut self, rt: &R) -> Result<Option<Ts>, Fault>
-        ensures steps { Called self.old.receipts.items self.new.receipts.items (λ added. AskCommit self.old.phase added × MatchResult result (TellsCommit self.old.phase added) (DeclinesCall (HasHalted J.image) self.old.phase added)) }
+        ensures steps { Called self.old.receipts.items self.new.receipts.items (λ added. AskCommit self.old.phase added × MatchResult result (ReportsCommit self.old.phase added) (DeclinesCall (HasHalted J.image) self.old.phase added)) }
         ensures ok { OnOk result (self.new.phase ≡ Idle) }
         ensures phase { self.new.phase ≡ phase_after self.old.phase (added_since self.old.receipts.items self.new.receipts.items) }
     {
@@ -92,7 +92,7 @@ impl<D: Pmem + Drop, J: Origin, B: Drop> Session<D, J, B> {
 
     // Stamps the keys that aren't yet.
     fn stamp_all<R: Wait>(&mut self, rt: &R, number: u8) -> Result<(), Fault>
-        ensures steps { Called self.old.receipts.items self.new.receipts.items (λ added. All (λ r. r.step ≡ Stamp number) added × MatchResult result (λ _. TellsLast added AllStamped) (TellsFault added)) }
+        ensures steps { Called self.old.receipts.items self.new.receipts.items (λ added. All (λ r. r.step ≡ Stamp number) added × MatchResult result (λ _. ReportsLast added AllStamped) (ReportsFault added)) }
         ensures stamped { OnOk result (self.new.phase ≡ Stamped number (timestamp_of self.old.phase)) }
     {
         for _ in rt.forever() {
@@ -113,7 +113,7 @@ impl<D: Pmem + Drop, J: Origin, B: Drop> Session<D, J, B> {
         number: u8,
         timestamp: Option<Ts>,
     ) -> Result<Option<Ts>, Fault>
-        ensures steps { Called self.old.receipts.items self.new.receipts.items (λ added. ArePolls number added × MatchResult result (λ answer. TellsLast added (note_of_commit answer)) (TellsEnd (HasHalted J.image) added)) }
+        ensures steps { Called self.old.receipts.items self.new.receipts.items (λ added. ArePolls number added × MatchResult result (λ answer. ReportsLast added (note_of_commit answer)) (ReportsEnd (HasHalted J.image) added)) }
     {
         for _ in rt.forever() {
             if let Err(fault) = self.wait_once(rt, timestamp) {

@@ -31,7 +31,7 @@ pub struct Turn<J: Naming> {
     /// Of its tick.
     pub note: Note,
     /// Where the tick covered a batch: what is published since.
-    pub told: Option<Token<J>>,
+    pub published: Option<Token<J>>,
 }
 
 ghost use Rattle.std.specs.Prelude.{◌≡◌, ◌⊎◌, IfSome, IfOk, IfErr, MatchResult};
@@ -110,7 +110,7 @@ fn take_turn<R: Wait + Drop, D: Pmem + Drop, J: Origin>(
     shared: &Arc<Shared<D, J, Board<J, R>>, Global>,
     step: &Step,
 ) -> Result<Turn<J>, Missed>
-    ensures { IfOk result (λ turn. IsPosted J.image turn.note turn.told) }
+    ensures { IfOk result (λ turn. IsPosted J.image turn.note turn.published) }
 {
     let made = tick(rt, shared, step);
     finish_turn(rt, shared, made)
@@ -123,7 +123,7 @@ fn finish_turn<R: Wait + Drop, D: Pmem + Drop, J: Origin>(
     made: Option<(Reply, Option<Receipt>)>,
 ) -> Result<Turn<J>, Missed>
     requires { ForSome made (IsTurn J.image) }
-    ensures posted { IfOk result (λ turn. IsPosted J.image turn.note turn.told) }
+    ensures posted { IfOk result (λ turn. IsPosted J.image turn.note turn.published) }
     ensures why { MatchResult result (λ turn. IsTurnOf made turn.note) (Misses made) }
 {
     let Some((reply, receipt)) = made else {
@@ -134,15 +134,15 @@ fn finish_turn<R: Wait + Drop, D: Pmem + Drop, J: Origin>(
     };
     match reply {
         Reply::Covered(batch) => match post(rt, shared, batch) {
-            Some(told) => Ok(Turn {
+            Some(published) => Ok(Turn {
                 note: receipt.note,
-                told: Some(told),
+                published: Some(published),
             }),
             None => Err(Missed::Over),
         },
         _ => Ok(Turn {
             note: receipt.note,
-            told: None,
+            published: None,
         }),
     }
 }
@@ -159,7 +159,7 @@ fn tick<R: Wait, D: Pmem + Drop, J: Origin, B: Drop>(
     let mut desk = shared.desk.lock(rt);
     let made = desk.tick(step);
     if let Some((reply, _)) = &made {
-        shared.tell(&mut desk, reply);
+        shared.notify(&mut desk, reply);
     }
     made
 }

@@ -71,8 +71,8 @@ abbrev pub StandsAs : (ℕ → ℕ → Type 0) → ℕ → ℕ → List ℕ → 
 StandsAs may_hold words room file = IsFile words room (length file) → (image : List ℕ) → Opens words room file image → FoundOpens may_hold words room image
 
 -- why no image is read: the file has another length, or its pass is none, or there is no memory
-abbrev pub TellsUnread : ℕ → ℕ → List ℕ → ErrorKind → Type 0
-TellsUnread words room file kind =
+abbrev pub ReportsUnread : ℕ → ℕ → List ℕ → ErrorKind → Type 0
+ReportsUnread words room file kind =
     ((kind ≡ InvalidInput) × (IsFile words room (length file) → ⊥))
     ⊎ (((kind ≡ InvalidData) × (1 < slice_index file (words + room + 3))) ⊎ (kind ≡ OutOfMemory))
 

@@ -2,7 +2,7 @@ ghost use Rattle.std.specs.Prelude.{◌≡◌, ℕ, ◌+◌, ◌*◌, ◌/◌, �
 ghost use Rattle.std.specs.IoError.{error_kind};
 ghost use Rattle.journal.specs.LinePayloads.{lines_of};
 ghost use Rattle.journal.specs.InPlace.{put_over};
-ghost use Rattle.journal.specs.Files.{HasTail, IsTail, IsFile, Opens, TellsUnread};
+ghost use Rattle.journal.specs.Files.{HasTail, IsTail, IsFile, Opens, ReportsUnread};
 
 use crate::journal::read_journal;
 use crate::line::{Line, line_of};
@@ -18,7 +18,7 @@ pub fn image_in(alloc: Global, file: &[u64], words: usize, room: usize) -> io::R
     ensures file { OnOk result (IsFile words room (length file.now)) }
     ensures pass { OnOk result (slice_index file.now (words + room + 3) < 2) }
     ensures stands { IfOk result (λ image. Opens words room file.now image.items) }
-    ensures err { IfErr result (λ error. TellsUnread words room file.now (error_kind error)) }
+    ensures err { IfErr result (λ error. ReportsUnread words room file.now (error_kind error)) }
 {
     if !is_file(words, room, file.len()) {
         return Err(io::Error::from(ErrorKind::InvalidInput));

@@ -22,15 +22,15 @@ use Rattle.pmem.specs.Device.{Device, MayLeave, IsOrderly}
 use Rattle.pmem.specs.Words.{LeavesOnly, IsAtRest, image_of}
 use Rattle.pmem.proofs.AtRest.{left_at_rest}
 use Rattle.recovery.specs.Opened.{IsRefusal}
-use Rattle.recovery.specs.Read.{TellsLogFault}
+use Rattle.recovery.specs.Read.{ReportsLogFault}
 use Rattle.recovery.proofs.openings.Faults.{fault-log}
 use Rattle.image_check.specs.Checked.{ListsTables}
 use Rattle.lives.specs.declared.life.Life.{Life}
 use Rattle.lives.specs.declared.life.LifeReport.{LifeReport}
-use Rattle.lives.specs.Plain.{IsReport, Tells, asked_of, closed_of, opening_of, report_of}
+use Rattle.lives.specs.Plain.{IsReport, ReportsLife, asked_of, closed_of, opening_of, report_of}
 use Rattle.lives.specs.Chains.{fresh_world, AreLives}
 use Rattle.lives.specs.Stops.{AreStopped, IsStopped, WhereItStands}
-use Rattle.lives.specs.Told.{steps_of}
+use Rattle.lives.specs.ReportedReplies.{steps_of}
 use Rattle.lives.specs.Parts.{HasLived, HasObeyed, HasEnded, MayAsk, HasPlayed}
 use Rattle.lives.proofs.Taken.{runs-up}
 use Rattle.lives.proofs.Ends.{leaves-now, may-ask, ends-as_asked}
@@ -39,14 +39,14 @@ use Rattle.lives.proofs.Ends.{leaves-now, may-ask, ends-as_asked}
 
 pub lived-refused : (old new : Device) (image image' : Image) (life : Life) (report : LifeReport) (fault : Fault)
     → IsAtRest old → IsOrderly new → image ≡ image_of old → MayLeave new image'
-    → opening_of report.opening ≡ Fails fault → Tells life report [] → closed_of report.closed ≡ None
-    → IsRefusal (opening_fault image) old new fault → TellsLogFault image fault
+    → opening_of report.opening ≡ Fails fault → ReportsLife life report [] → closed_of report.closed ≡ None
+    → IsRefusal (opening_fault image) old new fault → ReportsLogFault image fault
     → ((history drawn : List Commit) (next : ℕ) → Stands image history drawn next → LeavesOnly old new (StandsOpening image history next))
     → (P : World → List Reply → Type 0) → ((before : World) → IsWorld before → before.image ≡ image → P before [])
     → WhereItStands image (λ before. HasLived before life report image' (P before))
 lived-refused old new image image' life report fault rest tidy is may opening tells closed refusal log images P so before w same =
     let lived = by refusal in
-    record { replies = []; tells = tells; after = lived.0; leaves = lived.1; lives = lived.2; so = so before w same }
+    record { replies = []; reported = tells; after = lived.0; leaves = lived.1; lives = lived.2; so = so before w same }
   where
     told : (after : World) → FailsAs fault before after → PlainLife before (asked_of life) (report_of report []) after
     told after fails = subst (λ (o : Opening). LifeAs before (asked_of life) o [] (closed_of report.closed) after) (sym opening) (fails, refl, closed)
@@ -54,7 +54,7 @@ lived-refused old new image image' life report fault rest tidy is may opening te
     kept : new ≡ old → before.image ≡ image'
     kept e = same ∙ is ∙ sym (left_at_rest old rest image' (subst (λ (d : Device). MayLeave d image') e may))
 
-    by_log : (fault ≡ OutOfMemory) → TellsLogFault image fault → FailsAs fault before before
+    by_log : (fault ≡ OutOfMemory) → ReportsLogFault image fault → FailsAs fault before before
     by_log memory (inl found) = inl (ap opening_fault same ∙ fault-log image fault found, refl)
     by_log memory (inr none) = inr (inl (memory, ap log_damage same ∙ none, refl))
 
@@ -97,7 +97,7 @@ lists-after image rows history drawn next listed stands = record {
 
 pub lived-played : (image image' : Image) (rows : List (Key × List ℕ)) (life : Life) (report : LifeReport) (replies : List Reply) (before : World) (q : State) (P : List Reply → Type 0)
     → opening_fault image ≡ None → ListsTables image rows → IsWorld before → before.image ≡ image → OpensAs image before.history before.lost q
-    → HasPlayed q rows life report replies image' → Tells life report replies → P replies
+    → HasPlayed q rows life report replies image' → ReportsLife life report replies → P replies
     → HasLived before life report image' P
 lived-played image image' rows life report replies before q P may listed w same opened played tells so =
     let stands : Stands image before.history before.drawn before.next = subst (λ (i : Image). Stands i before.history before.drawn before.next) same w in
@@ -106,7 +106,7 @@ lived-played image image' rows life report replies before q P may listed w same 
     let lists : Lists rows (after q.history) = subst (λ (h : List Commit). Lists rows (after h)) (sym (ap (λ (x : State). x.history) opens.2)) (lists-after image rows before.history before.drawn before.next listed stands) in
     record {
       replies = replies;
-      tells = tells;
+      reported = tells;
       after = ended.0;
       leaves = ended.1;
       lives = subst (λ (o : Opening). LifeAs before (asked_of life) o replies (closed_of report.closed) ended.0) (sym played.opening)
@@ -185,7 +185,7 @@ chain-more layout lives reports image image' life report w chain lived =
     record {
       last = one.after;
       plain = chain.plain ++ report_of report one.replies ∷ [];
-      stopped = stopped-more (fresh_world layout) lives reports chain.plain chain.last life report (report_of report one.replies) one.after chain.stopped (record { is = refl; tells = one.tells }) one.lives stop;
+      stopped = stopped-more (fresh_world layout) lives reports chain.plain chain.last life report (report_of report one.replies) one.after chain.stopped (record { is = refl; reported = one.reported }) one.lives stop;
       left = one.leaves;
     }
 

@@ -15,7 +15,7 @@ use Rattle.pmem_model.specs.Orderly.{orderly_of}
 use Rattle.pmem_model.specs.declared.sim.SimPmem.{SimPmem}
 use Rattle.recovery.proofs.openings.Faults.{log-first}
 use Rattle.room.specs.Closing.{IsClosingRefusal}
-use Rattle.lives.specs.declared.life.Numbers.{Numbers as ToldNumbers}
+use Rattle.lives.specs.declared.life.Numbers.{Numbers as ReportedNumbers}
 use Rattle.lives.specs.Plain.{numbers_of, closed_of}
 use Rattle.lives.specs.Parts.{HasEnded, MayAsk, ruling_numbers}
 
@@ -42,7 +42,7 @@ pub ends-open : (q : State) (image : Image) → StandsAt q image → HasEnded q 
 ends-open q image stands lost = let s = stopped q (covers_at q) lost image stands in (s.0, s.1, (refl, s.2))
 
 -- after a close that succeeded
-pub ends-closed : (q : State) (image : Image) (told : Result ToldNumbers Fault) → q.failed ≡ false → closing_fault q ≡ None → StandsClosed q image
+pub ends-closed : (q : State) (image : Image) (told : Result ReportedNumbers Fault) → q.failed ≡ false → closing_fault q ≡ None → StandsClosed q image
     → IfOk told (λ numbers. numbers_of numbers ≡ ruling_numbers image) → IfErr told (λ fault. log_damage image ≡ Some fault)
     → HasEnded q true (closed_of (Some told)) image
 ends-closed q image (Ok numbers) works may stands is found = λ lost.

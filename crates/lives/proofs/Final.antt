@@ -20,7 +20,7 @@ use Rattle.room.specs.Committing.{ShowsIn}
 use Rattle.room.specs.declared.room.Room.{Room}
 use Rattle.room.specs.declared.volatile.VolatileState.{VolatileState}
 use Rattle.lives.specs.Stops.{StepsOn}
-use Rattle.lives.specs.Told.{is_final}
+use Rattle.lives.specs.ReportedReplies.{is_final}
 
 -- ---- replies
 

@@ -32,7 +32,7 @@ use Rattle.lives.specs.declared.life.LifeReport.{LifeReport}
 use Rattle.lives.specs.declared.life.Numbers.{Numbers}
 use Rattle.lives.specs.declared.life.Opened.{Opened}
 use Rattle.lives.specs.declared.life.Repeated.{Repeated}
-use Rattle.lives.specs.Told.{AreTold, IsTold, has_failed, is_final, steps_of}
+use Rattle.lives.specs.ReportedReplies.{AreReported, IsReported, has_failed, is_final, steps_of}
 use Rattle.lives.specs.Stops.{ClosesWithDevice, EndsOn, FailsOn, GoesOn, IsStopped, LivesOn, OpensOn, PlaysOn, ReportsDevice, StepsOn, StopsBy}
 
 -- ---- going on
@@ -127,7 +127,7 @@ repeated-is zero x y has = absurd (none-yet y has)
 repeated-is (suc n) x y has = first-or x y (Contains (replicate n x) y) (repeated-is n x y) (has-first x (replicate n x) y has)
 
 -- a failure is the one that is told
-own-told : (own : List Reply) (answer : Option Reply) → IsTold own answer → Contains own failed_reply → answer ≡ Some failed_reply
+own-told : (own : List Reply) (answer : Option Reply) → IsReported own answer → Contains own failed_reply → answer ≡ Some failed_reply
 own-told own None none has = absurd (none-yet failed_reply (subst (λ (l : List Reply). Contains l failed_reply) none has))
 own-told own (Some answer) (before, more, busy, is) has = by (Contains-append_cases before (replicate (suc more) answer) failed_reply (subst (λ (l : List Reply). Contains l failed_reply) is has))
   where
@@ -135,7 +135,7 @@ own-told own (Some answer) (before, more, busy, is) has = by (Contains-append_ca
     by (inl early) = absurd (busy-not true (All-contains (λ r. is_final r ≡ false) before failed_reply busy early) refl)
     by (inr late) = ap Some (repeated-is (suc more) answer failed_reply late)
 
-told-own : (own : List Reply) (answer : Option Reply) → IsTold own answer → answer ≡ Some failed_reply → Contains own failed_reply
+told-own : (own : List Reply) (answer : Option Reply) → IsReported own answer → answer ≡ Some failed_reply → Contains own failed_reply
 told-own own None none is = absurd (cc is)
 told-own own (Some answer) (before, more, busy, made) is =
     let same : answer ≡ failed_reply = cc is in
@@ -146,13 +146,13 @@ told-own own (Some answer) (before, more, busy, made) is =
 -- what is told of a step, and of those after it
 abbrev Rest : List Repeated → Repeated → List Reply → List Reply → Option Reply → List (Option Reply) → Type 0
 Rest asked one own later answer told =
-    ((has_failed answer ≡ true) × (later ≡ []) × (told ≡ [])) ⊎ ((has_failed answer ≡ false) × (length own ≡ one.times) × AreTold asked later told)
+    ((has_failed answer ≡ true) × (later ≡ []) × (told ≡ [])) ⊎ ((has_failed answer ≡ false) × (length own ≡ one.times) × AreReported asked later told)
 
 first-has : {X : Type 0} (x : X) (xs : List X) → Contains (x ∷ xs) x
 first-has x xs = Contains-append_left (x ∷ []) xs x (Contains-push [] x)
 
-later-told : (asked : List Repeated) (one : Repeated) (own later : List Reply) (answer : Option Reply) (told : List (Option Reply)) → IsTold own answer
-    → (AreTold asked later told → Contains later failed_reply → Contains told (Some failed_reply))
+later-told : (asked : List Repeated) (one : Repeated) (own later : List Reply) (answer : Option Reply) (told : List (Option Reply)) → IsReported own answer
+    → (AreReported asked later told → Contains later failed_reply → Contains told (Some failed_reply))
     → Contains own failed_reply ⊎ Contains later failed_reply → Rest asked one own later answer told → Contains (answer ∷ told) (Some failed_reply)
 later-told asked one own later answer told mine others (inl early) rest =
     subst (λ (x : Option Reply). Contains (answer ∷ told) x) (own-told own answer mine early) (first-has answer told)
@@ -160,20 +160,20 @@ later-told asked one own later answer told mine others (inr late) (inl (fails, n
 later-told asked one own later answer told mine others (inr late) (inr (works, counted, more)) = Contains-append_right (answer ∷ []) told (Some failed_reply) (others more late)
 
 -- so it is of all steps
-told-has : (asked : List Repeated) (replies : List Reply) (told : List (Option Reply)) → AreTold asked replies told → Contains replies failed_reply → Contains told (Some failed_reply)
+told-has : (asked : List Repeated) (replies : List Reply) (told : List (Option Reply)) → AreReported asked replies told → Contains replies failed_reply → Contains told (Some failed_reply)
 told-has [] replies told (none, empty) has = absurd (none-yet failed_reply (subst (λ (l : List Reply). Contains l failed_reply) none has))
 told-has (one ∷ asked) replies [] none has = absurd none
 told-has (one ∷ asked) replies (answer ∷ told) (own, later, is, mine, rest) has =
     later-told asked one own later answer told mine (told-has asked later told) (Contains-append_cases own later failed_reply (subst (λ (l : List Reply). Contains l failed_reply) is has)) rest
 
-told-later : (asked : List Repeated) (one : Repeated) (own later : List Reply) (answer : Option Reply) (told : List (Option Reply)) → IsTold own answer
-    → (AreTold asked later told → Contains told (Some failed_reply) → Contains later failed_reply)
+told-later : (asked : List Repeated) (one : Repeated) (own later : List Reply) (answer : Option Reply) (told : List (Option Reply)) → IsReported own answer
+    → (AreReported asked later told → Contains told (Some failed_reply) → Contains later failed_reply)
     → (answer ≡ Some failed_reply) ⊎ Contains told (Some failed_reply) → Rest asked one own later answer told → Contains (own ++ later) failed_reply
 told-later asked one own later answer told mine others (inl early) rest = Contains-append_left own later failed_reply (told-own own answer mine early)
 told-later asked one own later answer told mine others (inr late) (inl (fails, none, end)) = absurd (none-yet (Some failed_reply) (subst (λ (l : List (Option Reply)). Contains l (Some failed_reply)) end late))
 told-later asked one own later answer told mine others (inr late) (inr (works, counted, more)) = Contains-append_right own later failed_reply (others more late)
 
-has-told : (asked : List Repeated) (replies : List Reply) (told : List (Option Reply)) → AreTold asked replies told → Contains told (Some failed_reply) → Contains replies failed_reply
+has-told : (asked : List Repeated) (replies : List Reply) (told : List (Option Reply)) → AreReported asked replies told → Contains told (Some failed_reply) → Contains replies failed_reply
 has-told [] replies told (none, empty) has = absurd (none-yet (Some failed_reply) (subst (λ (l : List (Option Reply)). Contains l (Some failed_reply)) empty has))
 has-told (one ∷ asked) replies [] none has = absurd none
 has-told (one ∷ asked) replies (answer ∷ told) (own, later, is, mine, rest) has =
@@ -320,7 +320,7 @@ ok-not opened e = cc
 
 -- a life whose opening succeeded goes on by its steps, and up to its stop
 pub played-stops : (life : Life) (q after : State) (old mid : Device) (left : Image) (opened : Opened) (report : LifeReport) (replies : List Reply) → report.opening ≡ Ok opened
-    → AreTold life.steps.items replies report.replies.items → StepsOn q old (steps_of life.steps.items) replies after mid
+    → AreReported life.steps.items replies report.replies.items → StepsOn q old (steps_of life.steps.items) replies after mid
     → StopsBy life.choice mid (ClosesWithDevice report.closed) (EndsOn after report.closed mid) left
     → StopsBy life.choice old (ReportsDevice report) (PlaysOn q old life report replies) left
 played-stops life q after old mid left opened report replies opening tells steps stops = record {

@@ -18,7 +18,7 @@ use Rattle.room.specs.declared.volatile.VolatileState.{VolatileState}
 use Rattle.room.specs.declared.room.Room.{Room}
 use Rattle.lives.specs.Parts.{HasObeyed, HasRepeated}
 use Rattle.lives.specs.Stops.{StepsOn}
-use Rattle.lives.specs.Told.{AreTold, has_failed, is_final, steps_of}
+use Rattle.lives.specs.ReportedReplies.{AreReported, has_failed, is_final, steps_of}
 use Rattle.lives.specs.declared.life.Repeated.{Repeated}
 use Rattle.lives.proofs.Final.{final-works, is-final-again, repeats}
 
@@ -122,7 +122,7 @@ false-true b f t = cc
 pub repeated-none : (q : State) (device : Device) (asked : Repeated) (P : State → Type 0) → asked.times ≡ 0 → P q → HasRepeated q device asked None device P
 repeated-none q device asked P none p = record {
   own = [];
-  told = refl;
+  reported = refl;
   last = q;
   after_it = p;
   failure = λ began. began;
@@ -175,7 +175,7 @@ repeated-so state room q device asked count rest reply orderly times done so_far
     by : (b : Bool) → is_failure reply ≡ b → HasRepeated q device asked (Some reply) next (Shows state room)
     by true fails = record {
       own = so_far.before ++ reply ∷ [];
-      told = (so_far.before, 0, so_far.busy, refl);
+      reported = (so_far.before, 0, so_far.busy, refl);
       last = last;
       after_it = so_far.after_it;
       failure = failure;
@@ -187,7 +187,7 @@ repeated-so state room q device asked count rest reply orderly times done so_far
     }
     by false works = record {
       own = so_far.before ++ replicate (suc rest) reply;
-      told = (so_far.before, rest, so_far.busy, refl);
+      reported = (so_far.before, rest, so_far.busy, refl);
       last = last;
       after_it = so_far.after_it;
       failure = failure;
@@ -204,13 +204,13 @@ repeated-so state room q device asked count rest reply orderly times done so_far
 -- ---- all steps
 
 -- of these so much is told
-pub record ToldSoFar (q : State) (device : Device) (asked : List Repeated) (told : List (Option Reply)) (now : Device) (P : State → Type 0) : Type 0 where
+pub record ReportedSoFar (q : State) (device : Device) (asked : List Repeated) (told : List (Option Reply)) (now : Device) (P : State → Type 0) : Type 0 where
   pub replies : List Reply
   pub so_far : SoFar q device (steps_of asked) replies now P
-  pub tells : (more : List Repeated) (later : List Reply) (rest : List (Option Reply)) → AreTold more later rest → AreTold (asked ++ more) (replies ++ later) (told ++ rest)
+  pub reported : (more : List Repeated) (later : List Reply) (rest : List (Option Reply)) → AreReported more later rest → AreReported (asked ++ more) (replies ++ later) (told ++ rest)
 
-pub told-none : (q : State) (device : Device) (P : State → Type 0) → P q → ToldSoFar q device [] [] device P
-told-none q device P p = record { replies = []; so_far = so-far-none q device P p; tells = λ more later rest told. told }
+pub told-none : (q : State) (device : Device) (P : State → Type 0) → P q → ReportedSoFar q device [] [] device P
+told-none q device P p = record { replies = []; so_far = so-far-none q device P p; reported = λ more later rest told. told }
 
 abbrev pub each : Repeated → List Step
 each asked = replicate asked.times asked.step
@@ -223,8 +223,8 @@ steps-last asked one = steps-more asked one [] ∙ ap (λ (l : List Step). steps
 
 -- a step more, in which the device didn't fail
 pub told-more : (q : State) (device now next : Device) (asked : List Repeated) (told : List (Option Reply)) (P P' : State → Type 0) (one : Repeated) (answer : Option Reply)
-    → has_failed answer ≡ false → (so_far : ToldSoFar q device asked told now P) → HasRepeated so_far.so_far.at now one answer next P'
-    → ToldSoFar q device (asked ++ one ∷ []) (told ++ answer ∷ []) next P'
+    → has_failed answer ≡ false → (so_far : ReportedSoFar q device asked told now P) → HasRepeated so_far.so_far.at now one answer next P'
+    → ReportedSoFar q device (asked ++ one ∷ []) (told ++ answer ∷ []) next P'
 told-more q device now next asked told P P' one answer works so_far took = record {
   replies = so_far.replies ++ took.own;
   so_far = record {
@@ -236,38 +236,38 @@ told-more q device now next asked told P P' one answer works so_far took = recor
     after_it = took.after_it;
     works = λ began. took.failure (so_far.so_far.works began) ∙ works;
   };
-  tells = λ more later rest tells.
-      subst (λ (l : List Repeated). AreTold l ((so_far.replies ++ took.own) ++ later) ((told ++ answer ∷ []) ++ rest)) (sym (append_assoc asked (one ∷ []) more))
-      (subst (λ (l : List Reply). AreTold (asked ++ one ∷ more) l ((told ++ answer ∷ []) ++ rest)) (sym (append_assoc so_far.replies took.own later))
-      (subst (λ (l : List (Option Reply)). AreTold (asked ++ one ∷ more) (so_far.replies ++ (took.own ++ later)) l) (sym (append_assoc told (answer ∷ []) rest))
-      (so_far.tells (one ∷ more) (took.own ++ later) (answer ∷ rest) (took.own, later, refl, took.told, inr (works, took.counted works, tells)))));
+  reported = λ more later rest tells.
+      subst (λ (l : List Repeated). AreReported l ((so_far.replies ++ took.own) ++ later) ((told ++ answer ∷ []) ++ rest)) (sym (append_assoc asked (one ∷ []) more))
+      (subst (λ (l : List Reply). AreReported (asked ++ one ∷ more) l ((told ++ answer ∷ []) ++ rest)) (sym (append_assoc so_far.replies took.own later))
+      (subst (λ (l : List (Option Reply)). AreReported (asked ++ one ∷ more) (so_far.replies ++ (took.own ++ later)) l) (sym (append_assoc told (answer ∷ []) rest))
+      (so_far.reported (one ∷ more) (took.own ++ later) (answer ∷ rest) (took.own, later, refl, took.reported, inr (works, took.counted works, tells)))));
 }
 
 -- all steps are taken
-pub obeyed-all : (q : State) (device now : Device) (asked : List Repeated) (told : List (Option Reply)) (P : State → Type 0) → ToldSoFar q device asked told now P
+pub obeyed-all : (q : State) (device now : Device) (asked : List Repeated) (told : List (Option Reply)) (P : State → Type 0) → ReportedSoFar q device asked told now P
     → HasObeyed q device asked told false now P
 obeyed-all q device now asked told P so_far = record {
   last = so_far.so_far.at;
   replies = so_far.replies;
   runs = subst (λ (x : List Reply). StepsOn q device (steps_of asked) x so_far.so_far.at now) (append-nil so_far.replies)
       (subst (λ (x : List Step). StepsOn q device x (so_far.replies ++ []) so_far.so_far.at now) (append-nil (steps_of asked)) (so_far.so_far.goes_on [] [] so_far.so_far.at now (refl, refl)));
-  tells = subst (λ (x : List Repeated). AreTold x so_far.replies told) (append-nil asked)
-      (subst (λ (x : List Reply). AreTold (asked ++ []) x told) (append-nil so_far.replies)
-      (subst (λ (x : List (Option Reply)). AreTold (asked ++ []) (so_far.replies ++ []) x) (append-nil told) (so_far.tells [] [] [] (refl, refl))));
+  reported = subst (λ (x : List Repeated). AreReported x so_far.replies told) (append-nil asked)
+      (subst (λ (x : List Reply). AreReported (asked ++ []) x told) (append-nil so_far.replies)
+      (subst (λ (x : List (Option Reply)). AreReported (asked ++ []) (so_far.replies ++ []) x) (append-nil told) (so_far.reported [] [] [] (refl, refl))));
   after_it = so_far.so_far.after_it;
   failure = so_far.so_far.works;
 }
 
 -- the next one is the first in which the device fails
 pub obeyed-failed : (q : State) (device now next : Device) (asked : List Repeated) (told : List (Option Reply)) (P P' : State → Type 0) (one : Repeated) (answer : Option Reply) (unread : List Repeated)
-    → has_failed answer ≡ true → (so_far : ToldSoFar q device asked told now P) → HasRepeated so_far.so_far.at now one answer next P'
+    → has_failed answer ≡ true → (so_far : ReportedSoFar q device asked told now P) → HasRepeated so_far.so_far.at now one answer next P'
     → HasObeyed q device (asked ++ one ∷ unread) (told ++ answer ∷ []) true next P'
 obeyed-failed q device now next asked told P P' one answer unread fails so_far took = record {
   last = took.last;
   replies = so_far.replies ++ took.own;
   runs = subst (λ (l : List Step). StepsOn q device l (so_far.replies ++ took.own) took.last next) (sym (steps-more asked one unread))
       (so_far.so_far.goes_on (each one ++ steps_of unread) took.own took.last next (took.stops fails (steps_of unread)));
-  tells = so_far.tells (one ∷ unread) took.own (answer ∷ []) (took.own, [], sym (append-nil took.own), took.told, inl (fails, refl, refl));
+  reported = so_far.reported (one ∷ unread) took.own (answer ∷ []) (took.own, [], sym (append-nil took.own), took.reported, inl (fails, refl, refl));
   after_it = took.after_it;
   failure = λ began. took.failure (so_far.so_far.works began) ∙ fails;
 }

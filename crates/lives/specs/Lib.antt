@@ -1,5 +1,5 @@
 pub mod Plain
-pub mod Told
+pub mod ReportedReplies
 pub mod Stops
 pub mod Chains
 pub mod Parts

@@ -8,9 +8,9 @@ use Rattle.base.specs.Images.{Image, ruling}
 use Rattle.machine.specs.Machine.{State, final}
 use Rattle.machine.specs.Lives.{World, Numbers, Opens, RunsUp, EndsAs, Life as PlainLife, numbers_of as state_numbers}
 use Rattle.pmem.specs.Device.{Device}
-use Rattle.lives.specs.Plain.{Tells, asked_of, closed_of, opening_of, report_of}
+use Rattle.lives.specs.Plain.{ReportsLife, asked_of, closed_of, opening_of, report_of}
 use Rattle.lives.specs.Stops.{PlaysOn, ReportsDevice, StepsOn, StopsBy}
-use Rattle.lives.specs.Told.{AreTold, IsTold, has_failed, steps_of}
+use Rattle.lives.specs.ReportedReplies.{AreReported, IsReported, has_failed, steps_of}
 use Rattle.lives.specs.declared.life.Life.{Life}
 use Rattle.lives.specs.declared.life.LifeReport.{LifeReport}
 use Rattle.lives.specs.declared.life.Repeated.{Repeated}
@@ -23,7 +23,7 @@ ruling_numbers image = record { gate = (ruling image).gate; persisted = (ruling 
 -- whatever steps come after it; where the device fails in it, none of them is taken. This is told of its replies
 pub record HasRepeated (q : State) (device : Device) (asked : Repeated) (answer : Option Reply) (left : Device) (P : State → Type 0) : Type 0 where
   pub own : List Reply
-  pub told : IsTold own answer
+  pub reported : IsReported own answer
   pub last : State
   pub after_it : P last
   pub failure : q.failed ≡ false → last.failed ≡ has_failed answer
@@ -34,11 +34,11 @@ pub record HasRepeated (q : State) (device : Device) (asked : Repeated) (answer 
 
 -- the steps lead from the state on the one device to a state on the other, and this is told of their replies, and this holds of
 -- that state; the device has failed in it just where it did so in one of them
-pub record HasObeyed (q : State) (device : Device) (steps : List Repeated) (told : List (Option Reply)) (failed : Bool) (left : Device) (P : State → Type 0) : Type 0 where
+pub record HasObeyed (q : State) (device : Device) (steps : List Repeated) (kept : List (Option Reply)) (failed : Bool) (left : Device) (P : State → Type 0) : Type 0 where
   pub last : State
   pub replies : List Reply
   pub runs : StepsOn q device (steps_of steps) replies last left
-  pub tells : AreTold steps replies told
+  pub reported : AreReported steps replies kept
   pub after_it : P last
   pub failure : q.failed ≡ false → last.failed ≡ failed
 
@@ -60,14 +60,14 @@ pub record HasPlayed (q : State) (rows : List (Key × List ℕ)) (life : Life) (
 -- so it does, and its device went on so
 pub record Plays (q : State) (device : Device) (rows : List (Key × List ℕ)) (life : Life) (report : LifeReport) (image : Image) : Type 0 where
   pub replies : List Reply
-  pub tells : Tells life report replies
+  pub reported : ReportsLife life report replies
   pub played : q.failed ≡ false → HasPlayed q rows life report replies image
   pub stopped : StopsBy life.choice device (ReportsDevice report) (PlaysOn q device life report replies) image
 
 -- this is a life over what the stop before it left, which leaves the image; and this holds of its replies
 pub record HasLived (before : World) (life : Life) (report : LifeReport) (left : Image) (P : List Reply → Type 0) : Type 0 where
   pub replies : List Reply
-  pub tells : Tells life report replies
+  pub reported : ReportsLife life report replies
   pub after : World
   pub leaves : after.image ≡ left
   pub lives : PlainLife before (asked_of life) (report_of report replies) after

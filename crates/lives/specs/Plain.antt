@@ -7,7 +7,7 @@ use Rattle.lives.specs.declared.life.Life.{Life}
 use Rattle.lives.specs.declared.life.LifeReport.{LifeReport}
 use Rattle.lives.specs.declared.life.Numbers.{Numbers}
 use Rattle.lives.specs.declared.life.Opened.{Opened}
-use Rattle.lives.specs.Told.{TellsOf, steps_of}
+use Rattle.lives.specs.ReportedReplies.{ReportsOf, steps_of}
 
 -- what is asked of a life
 abbrev pub asked_of : Life → Asked
@@ -30,10 +30,10 @@ abbrev pub report_of : LifeReport → List Reply → Report
 report_of report replies = record { opening = opening_of report.opening; replies = replies; closed = closed_of report.closed }
 
 -- the report tells so of the replies
-abbrev pub Tells : Life → LifeReport → List Reply → Type 0
-Tells life report replies = TellsOf report.opening life.steps.items replies report.replies.items
+abbrev pub ReportsLife : Life → LifeReport → List Reply → Type 0
+ReportsLife life report replies = ReportsOf report.opening life.steps.items replies report.replies.items
 
 -- the report of a life is this in plain words
 pub record IsReport (life : Life) (report : LifeReport) (plain : Report) : Type 0 where
   pub is : plain ≡ report_of report plain.replies
-  pub tells : Tells life report plain.replies
+  pub reported : ReportsLife life report plain.replies

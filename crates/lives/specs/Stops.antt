@@ -25,7 +25,7 @@ use Rattle.lives.specs.declared.life.LifeReport.{LifeReport}
 use Rattle.lives.specs.declared.life.Numbers.{Numbers}
 use Rattle.lives.specs.declared.life.Opened.{Opened}
 use Rattle.lives.specs.Plain.{IsReport, asked_of}
-use Rattle.lives.specs.Told.{steps_of}
+use Rattle.lives.specs.ReportedReplies.{steps_of}
 
 -- ---- what a life does on its device
 

@@ -6,7 +6,7 @@ ghost use Rattle.machine.specs.Machine.{State};
 ghost use Rattle.pmem_model.specs.Sim.{device_of};
 ghost use Rattle.room.specs.Room.{Shows, device_of as device_in};
 ghost use Rattle.lives.specs.Parts.{HasObeyed, HasRepeated};
-ghost use Rattle.lives.specs.Told.{has_failed, is_final};
+ghost use Rattle.lives.specs.ReportedReplies.{has_failed, is_final};
 
 use crate::life::Repeated;
 use base::step::Reply;

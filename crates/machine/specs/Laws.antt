@@ -263,5 +263,5 @@ DrawnOnceOverLives = (before : World) (asked : List Asked) (reports : List Repor
     → RiseBetween before.next (drawn_over reports) after.next
 
 -- a close that was asked is told of, unless the device had failed
-abbrev pub CloseTold : Type 0
-CloseTold = (q : State) (lost : List ℕ) (after : World) → q.failed ≡ false → EndsAs q true None lost after → ⊥
+abbrev pub CloseReported : Type 0
+CloseReported = (q : State) (lost : List ℕ) (after : World) → q.failed ≡ false → EndsAs q true None lost after → ⊥

@@ -1,6 +1,6 @@
 //! What follows from the definitions. The functions do nothing: the contract of each is a law.
 
-ghost use Rattle.machine.specs.Laws.{SnapshotsStay, CyclesAreWhole, OthersKeepHand, WorldsAdd, AcknowledgedStaysOverLives, OpenedGaps, OneGapList, OneOpening, UpdatedOpen, HasRun, RefusedKeeps, FailedStays, OneReply, HasReply, HistoryGrows, AcknowledgedStays, CoveredIsKept, DrawnOnce, WorldsStand, WorldsGrow, NeverReturns, DrawnOnceOverLives, CloseTold};
+ghost use Rattle.machine.specs.Laws.{SnapshotsStay, CyclesAreWhole, OthersKeepHand, WorldsAdd, AcknowledgedStaysOverLives, OpenedGaps, OneGapList, OneOpening, UpdatedOpen, HasRun, RefusedKeeps, FailedStays, OneReply, HasReply, HistoryGrows, AcknowledgedStays, CoveredIsKept, DrawnOnce, WorldsStand, WorldsGrow, NeverReturns, DrawnOnceOverLives, CloseReported};
 ghost use Rattle.machine.specs.Rounds.{VisitsFollow, RoundsRepeat};
 
 /// An opening has one list of gaps, and so gives one state.
@@ -54,7 +54,7 @@ pub fn lives_keep_the_history()
     ensures grow { WorldsGrow }
     ensures add { WorldsAdd }
     ensures acknowledged { AcknowledgedStaysOverLives }
-    ensures told { CloseTold }
+    ensures closes { CloseReported }
 {}
 
 /// A commit that some stop left out never returns.

@@ -8,7 +8,7 @@ use Rattle.recovery.specs.declared.slots.SlotReading.{SlotReading}
 use Rattle.recovery.specs.declared.slots.SlotContent.TheVariants.{Live}
 use Rattle.recovery.specs.declared.rows.LiveSlot.{LiveSlot}
 use Rattle.recovery.specs.declared.holding.Held.{Held}
-use Rattle.recovery.specs.declared.holding.Told.{Told}
+use Rattle.recovery.specs.declared.holding.Findings.{Findings}
 use Rattle.recovery.specs.Slots.{AreReadings, bad_below, free_below, held_key, is_unfit}
 use Rattle.recovery.specs.Live.{live_below}
 
@@ -44,9 +44,9 @@ pub record AreHeld (image : Image) (slots : ℕ) (held : Held) : Type 0 where
   pub placed_so : HavePlaces held.live.items held.places.entries
 
 -- which slots are free and which live, where none is bad, and whether each holds by itself what it should
-pub record IsTold (readings : List SlotReading) (told : Told) : Type 0 where
-  pub free : (image : Image) → AreReadings image readings → told.free.items ≡ free_below image (length readings)
-  pub live : (image : Image) → AreReadings image readings → told.live.items ≡ live_below image (length readings)
-  pub each : HasEach readings (length readings) told.live.items
-  pub keys : map (λ s. s.key) told.live.items ≡ held_keys readings
-  pub are_fit : IsTrue told.are_fit ↔ All (λ reading. is_unfit reading.found ≡ false) readings
+pub record AreFindings (readings : List SlotReading) (findings : Findings) : Type 0 where
+  pub free : (image : Image) → AreReadings image readings → findings.free.items ≡ free_below image (length readings)
+  pub live : (image : Image) → AreReadings image readings → findings.live.items ≡ live_below image (length readings)
+  pub each : HasEach readings (length readings) findings.live.items
+  pub keys : map (λ s. s.key) findings.live.items ≡ held_keys readings
+  pub are_fit : IsTrue findings.are_fit ↔ All (λ reading. is_unfit reading.found ≡ false) readings

@@ -35,8 +35,8 @@ abbrev pub IsLogRefusal : Image → Fault → Type 0
 IsLogRefusal image fault = (log_damage image ≡ Some fault) ⊎ ((log_damage image ≡ None) × (fault ≡ OutOfMemory))
 
 -- the fault of the superblock, of a gate or of the ruling record is the one that is answered, where there is one
-abbrev pub TellsLogFault : Image → Fault → Type 0
-TellsLogFault image fault = (log_damage image ≡ Some fault) ⊎ (log_damage image ≡ None)
+abbrev pub ReportsLogFault : Image → Fault → Type 0
+ReportsLogFault image fault = (log_damage image ≡ Some fault) ⊎ (log_damage image ≡ None)
 
 -- this was read of the image: what rules it, and each slot
 pub record AreOf (image : Image) (readings : Readings) : Type 0 where

@@ -8,7 +8,7 @@ ghost use Rattle.recovery.specs.Gaps.{MayRule, few_gaps};
 ghost use Rattle.recovery.specs.Held.{HavePlaces};
 ghost use Rattle.recovery.specs.Sweeping.{is_hit_by, AreHits};
 ghost use Rattle.recovery.specs.Opened.{Examined as IsExaminedAs, HasExamined, Refuses};
-ghost use Rattle.recovery.specs.Read.{AreOf, IsLogRefusal, TellsLogFault};
+ghost use Rattle.recovery.specs.Read.{AreOf, IsLogRefusal, ReportsLogFault};
 
 use crate::gaps::opened_gaps;
 use crate::holding::{Held, held_slots};
@@ -107,7 +107,7 @@ pub fn examine<R: Threads + Sync, D: Pmem + Sync>(
     ensures places { IfOk result (λ found. HavePlaces found.live.items found.places.entries) }
     ensures hits { IfOk result (λ found. AreHits (image_of (D.state device.now)) found.geometry found.gaps found.hits.items) }
     ensures fault { IfErr result (Refuses (image_of (D.state device.now))) }
-    ensures log { IfErr result (TellsLogFault (image_of (D.state device.now))) }
+    ensures log { IfErr result (ReportsLogFault (image_of (D.state device.now))) }
 {
     let readings = match read(rt, alloc, device) {
         Ok(readings) => readings,

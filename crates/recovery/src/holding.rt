@@ -6,7 +6,7 @@ ghost use Rattle.std.specs.BTreeMap.{IsFromIterResult};
 ghost use Rattle.std.specs.BTreeSet.{contains};
 ghost use Rattle.base.specs.Images.{Image};
 ghost use Rattle.recovery.specs.Slots.{AreReadings, HasKeys, IsVisitFault, IsSlotsFault, found_in, readings_below, free_below, bad_below, held_key, is_bad, is_unfit, key_cmp};
-ghost use Rattle.recovery.specs.Held.{AreHeld, IsTold, held_keys, numbered};
+ghost use Rattle.recovery.specs.Held.{AreHeld, AreFindings, held_keys, numbered};
 
 use crate::rows::{LiveSlot, live_slots};
 use crate::slots::{SlotContent, SlotReading};
@@ -50,10 +50,10 @@ pub fn held_slots<R: Threads + Sync>(
             Err(fault) => return Err(fault),
         }
     }
-    let (places, told) = made;
+    let (places, findings) = made;
     Ok(Held {
-        free: told.free,
-        live: told.live,
+        free: findings.free,
+        live: findings.live,
         places,
     })
 }
@@ -63,7 +63,7 @@ const FEW: usize = 1024;
 
 // What the readings tell without regard to keys.
 #[derive(Drop)]
-struct Told {
+struct Findings {
     // Whether each slot is free.
     free: Vec<bool>,
     // Those that hold a live version, in their order.
@@ -72,7 +72,7 @@ struct Told {
     are_fit: bool,
 }
 
-impl Told {
+impl Findings {
     fn are_fit(&self) -> bool
         ensures { IsTrue result ↔ IsTrue self.now.are_fit }
     {
@@ -86,30 +86,30 @@ fn side_by_side<R: Threads + Sync>(
     rt: &R,
     alloc: Global,
     readings: &[SlotReading],
-) -> Result<(BTreeMap<Key, usize, Global>, Told), AllocError>
+) -> Result<(BTreeMap<Key, usize, Global>, Findings), AllocError>
     ensures places { IfOk result (λ made. IsFromIterResult key_cmp (numbered 0 (held_keys readings.now)) made.0) }
-    ensures told { IfOk result (λ made. IsTold readings.now made.1) }
+    ensures findings { IfOk result (λ made. AreFindings readings.now made.1) }
 {
     if readings.len() < FEW {
         let places = places_of(alloc, readings)?;
-        return Ok((places, told_by(alloc, readings)?));
+        return Ok((places, findings_of(alloc, readings)?));
     }
     let keyed = move || -> Result<BTreeMap<Key, usize, Global>, AllocError>
         ensures { IfOk result (λ places. IsFromIterResult key_cmp (numbered 0 (held_keys readings.entry.now)) places) }
     { places_of(alloc, readings) };
-    let listed = move || -> Result<Told, AllocError>
-        ensures { IfOk result (IsTold readings.entry.now) }
-    { told_by(alloc, readings) };
-    let (told, places) = join(rt, listed, keyed);
-    Ok((places?, told?))
+    let listed = move || -> Result<Findings, AllocError>
+        ensures { IfOk result (AreFindings readings.entry.now) }
+    { findings_of(alloc, readings) };
+    let (findings, places) = join(rt, listed, keyed);
+    Ok((places?, findings?))
 }
 
-fn told_by(alloc: Global, readings: &[SlotReading]) -> Result<Told, AllocError>
-    ensures { IfOk result (IsTold readings.now) }
+fn findings_of(alloc: Global, readings: &[SlotReading]) -> Result<Findings, AllocError>
+    ensures { IfOk result (AreFindings readings.now) }
 {
     let free = free_slots(alloc, readings)?;
     let live = live_slots(alloc, readings)?;
-    Ok(Told {
+    Ok(Findings {
         free,
         live,
         are_fit: are_fit(readings),

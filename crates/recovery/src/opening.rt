@@ -14,7 +14,7 @@ ghost use Rattle.recovery.specs.Gaps.{few_gaps};
 ghost use Rattle.recovery.specs.Held.{HavePlaces};
 ghost use Rattle.recovery.specs.Sweeping.{AreHits};
 ghost use Rattle.recovery.specs.Opened.{Examined as IsExaminedAs, HasOpened, IsCutShort, IsRefusal, IsUpdatedFirst, gap_operations, today_operations};
-ghost use Rattle.recovery.specs.Read.{TellsLogFault};
+ghost use Rattle.recovery.specs.Read.{ReportsLogFault};
 
 use crate::examining::{Examined, examine};
 use crate::rows::LiveSlot;
@@ -58,7 +58,7 @@ pub fn open<R: Threads + Sync, D: Pmem + Drop + Send + Sync>(
     ensures fault { IfErr result (λ e. IsRefusal (opening_fault (image_of (D.state device))) (D.state device) (D.state e.1) e.0) }
 
     // A fault of the superblock, of a gate or of the ruling record is reported even where memory is wanting.
-    ensures log { IfErr result (λ e. TellsLogFault (image_of (D.state device)) e.0) }
+    ensures log { IfErr result (λ e. ReportsLogFault (image_of (D.state device)) e.0) }
 
     // A crash at any moment leaves the same history, under the record that ruled or the one that the opening writes.
     // What was drawn and not covered is left out.
@@ -117,7 +117,7 @@ pub fn open_device<R: Threads + Sync, D: Pmem + Sync>(
     ensures ok { IfOk result (λ life. HasOpened (D.state device.old) (D.state device.new) life.geometry life.ruling life.next life.free.items life.live.items) }
     ensures places { IfOk result (λ life. HavePlaces life.live.items life.places.entries) }
     ensures fault { IfErr result (IsRefusal (opening_fault (image_of (D.state device.old))) (D.state device.old) (D.state device.new)) }
-    ensures log { IfErr result (TellsLogFault (image_of (D.state device.old))) }
+    ensures log { IfErr result (ReportsLogFault (image_of (D.state device.old))) }
     ensures images { (history drawn : List Commit) (next : ℕ) → Stands (image_of (D.state device.old)) history drawn next
         → LeavesOnly (D.state device.old) (D.state device.new) (StandsOpening (image_of (D.state device.old)) history next) }
     ensures version { LeavesOnly (D.state device.old) (D.state device.new) (IsUpdatedFirst (image_of (D.state device.old))) }

@@ -12,7 +12,7 @@ use Rattle.machine.specs.Machine.{State, Stepped, most_operations, most_operatio
 use Rattle.pmem.specs.Device.{Device, MayLeave}
 use Rattle.pmem.specs.Words.{LeavesOnly, operations_of}
 use Rattle.pmem.specs.declared.device.Pmem.{Ghosts}
-use Rattle.session_steps.specs.Steps.{TellsFailure, HasEffect}
+use Rattle.session_steps.specs.Steps.{ReportsFailure, HasEffect}
 use Rattle.room.specs.Committing.{Shows as CommitterShows}
 use Rattle.room.specs.Steps.{actor_of}
 use Rattle.room.specs.declared.room.Room.{Room}
@@ -64,7 +64,7 @@ pub record RunsTo {D : Type 0} {G : Ghosts D} (state : D → Device) (old new : 
   pub run : Run q steps replies states
   pub shows : Shows state new (final q states)
   pub images : LeavesOnly (device_of state old) (device_of state new) (StandsAlong q states)
-  pub failure : TellsFailure (device_of state old) (device_of state new) (Contains replies (Refused DeviceFault))
+  pub failure : ReportsFailure (device_of state old) (device_of state new) (Contains replies (Refused DeviceFault))
   pub operations : operations_of (device_of state new) ≤ operations_of (device_of state old) + most_operations_along q steps states
 
 -- the numbers, the gaps and the long commits of the state

@@ -8,7 +8,7 @@ ghost use Rattle.base.specs.Stands.{Stands};
 ghost use Rattle.machine.specs.Openings.{StandsOpening};
 ghost use Rattle.pmem.specs.Words.{LeavesOnly, IsAtRest, image_of};
 ghost use Rattle.recovery.specs.Opened.{HasExamined, IsRefusal, MakesOpening, Refuses};
-ghost use Rattle.recovery.specs.Read.{AreOf, TellsLogFault};
+ghost use Rattle.recovery.specs.Read.{AreOf, ReportsLogFault};
 ghost use Rattle.room.specs.Opening.{HasBegun, HasEntries, HasLearnt};
 
 use crate::room::Room;
@@ -50,7 +50,7 @@ impl<D: Pmem + Drop + Send + Sync> Room<D> {
         ensures fault { IfErr result (λ e. IsRefusal (opening_fault (image_of (D.state device))) (D.state device) (D.state e.1) e.0) }
 
         // What is wrong with its log is reported before want of memory.
-        ensures log { IfErr result (λ e. TellsLogFault (image_of (D.state device)) e.0) }
+        ensures log { IfErr result (λ e. ReportsLogFault (image_of (D.state device)) e.0) }
 
         // It makes the operations of one record, after those that change the version of an image of the first one, and
         // those of a sweep where there are more than eight gaps. The words of superblock and slots are settled as they
@@ -90,7 +90,7 @@ fn begin<R: Threads + Sync, D: Pmem + Sync>(
     requires at_rest { IsAtRest (D.state device.old) }
     ensures ok { IfOk result (HasBegun (D.state device.old) (D.state device.new)) }
     ensures fault { IfErr result (IsRefusal (opening_fault (image_of (D.state device.old))) (D.state device.old) (D.state device.new)) }
-    ensures log { IfErr result (TellsLogFault (image_of (D.state device.old))) }
+    ensures log { IfErr result (ReportsLogFault (image_of (D.state device.old))) }
     ensures images { (history drawn : List Commit) (next : ℕ) → Stands (image_of (D.state device.old)) history drawn next
         → LeavesOnly (D.state device.old) (D.state device.new) (StandsOpening (image_of (D.state device.old)) history next) }
 {
@@ -139,7 +139,7 @@ fn learn<R: Threads + Sync, D: Pmem + Sync>(
 ) -> Result<Learnt, Fault>
     ensures ok { IfOk result (HasLearnt (image_of (D.state device.now))) }
     ensures fault { IfErr result (Refuses (image_of (D.state device.now))) }
-    ensures log { IfErr result (TellsLogFault (image_of (D.state device.now))) }
+    ensures log { IfErr result (ReportsLogFault (image_of (D.state device.now))) }
 {
     let readings = match read(rt, alloc, device) {
         Ok(readings) => readings,

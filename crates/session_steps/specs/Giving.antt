@@ -20,7 +20,7 @@ abbrev pub fits_writes : ℕ → List Write → Bool
 fits_writes slots writes = list_all (λ write. fits_slot slots write.slot) writes
 
 -- the slots that the writes have are free, and the others as they were
-pub record GivesBack (writes : List Write) (old new : List Bool) : Type 0 where
+pub record ReleasesSlots (writes : List Write) (old new : List Bool) : Type 0 where
   pub size : length new ≡ length old
   pub given : (write : Write) (slot : ℕ) → Contains writes write → write.slot ≡ Some slot → slice_get new slot ≡ Some true
   pub others : (slot : ℕ) → ((write : Write) → Contains writes write → write.slot ≡ Some slot → ⊥) → slice_get new slot ≡ slice_get old slot

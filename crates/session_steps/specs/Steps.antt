@@ -25,10 +25,10 @@ use Rattle.session_steps.specs.Shows.{Hidden, plain_of, Agrees, Shows}
 -- ---- what a step did to its device
 
 -- a failing device is reported exactly where an operation failed
-pub record TellsFailure (old new : Device) (told : Type 0) : Type 0 where
+pub record ReportsFailure (old new : Device) (Reported : Type 0) : Type 0 where
   pub no_fewer : old.failures ≤ new.failures
-  pub cause : told → old.failures < new.failures
-  pub shown : old.failures < new.failures → told
+  pub cause : Reported → old.failures < new.failures
+  pub shown : old.failures < new.failures → Reported
 
 -- where it is refused for another reason than a failing device, the device is as it was
 abbrev pub Declines : Device → Device → (Fault → Type 0) → Type 0
@@ -54,7 +54,7 @@ pub record RunsBy (actor : Option ℕ) (old new : Device) : Type 0 where
 -- only where the device is as it was
 pub record HasEffect (before now : Device) (Within : Image → Type 0) (most : ℕ) (by : Option ℕ) (Refuses : Fault → Type 0) : Type 0 where
   pub images : LeavesOnly before now Within
-  pub failure : TellsFailure before now (Refuses DeviceFault)
+  pub failure : ReportsFailure before now (Refuses DeviceFault)
   pub operations : operations_of now ≤ operations_of before + most
   pub actor : RunsBy by before now
   pub declined : Declines before now Refuses

@@ -1,7 +1,7 @@
 //! An abort makes no operation: each slot of the session has 0 in its begin and keeps it, so it is free as it is.
 
 use crate::active::active_in;
-use crate::giving::give_back;
+use crate::giving::release;
 use crate::sessions::Sessions;
 use base::fault::Fault;
 
@@ -18,7 +18,7 @@ impl Sessions {
     {
         match active_in(&self.transactions, session) {
             Ok(active) => {
-                give_back(&mut self.slots, active.writes);
+                release(&mut self.slots, active.writes);
                 self.transactions.end(session);
                 Ok(())
             }

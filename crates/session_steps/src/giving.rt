@@ -1,7 +1,7 @@
 ghost use Rattle.std.specs.Prelude.{◌≡◌, IsTrue, length};
 ghost use Rattle.std.specs.Bool.{OnFalse};
 ghost use Rattle.txn.specs.WriteSets.{HasRoomFor};
-ghost use Rattle.session_steps.specs.Giving.{fits_slot, fits_writes, given, own_of, is_full_of, GivesBack};
+ghost use Rattle.session_steps.specs.Giving.{fits_slot, fits_writes, given, own_of, is_full_of, ReleasesSlots};
 
 use base::SlotNo;
 use base::key::Key;
@@ -9,9 +9,9 @@ use slot_alloc::SlotAlloc;
 use txn::WriteSet;
 
 /// Makes the slots of a transaction's versions free.
-pub fn give_back(slots: &mut SlotAlloc, writes: &WriteSet)
+pub fn release(slots: &mut SlotAlloc, writes: &WriteSet)
     requires { IsTrue (fits_writes (length slots.old) writes.now) }
-    ensures { GivesBack writes.now slots.old slots.new }
+    ensures { ReleasesSlots writes.now slots.old slots.new }
 {
     for write in writes.as_slice() {
         if let Some(slot) = write.slot {

@@ -21,7 +21,7 @@ use Rattle.state_invariant.proofs.steps.Shown.{shows-step}
 use Rattle.state_invariant.proofs.steps.Links.{links-step}
 use Rattle.state_invariant.proofs.Lookups.{held-by}
 use Rattle.device_invariant.specs.Upholds.{Upholds}
-use Rattle.device_invariant.specs.Laws.{ChangesHolder, stays, given_back}
+use Rattle.device_invariant.specs.Laws.{ChangesHolder, stays, released}
 use Rattle.device_invariant.proofs.moves.Holders.{holders-keep}
 use Rattle.step_simulation.specs.Moves.{is_quiet}
 use Rattle.step_simulation.specs.Laws.{RefusalsLead, QuietStepsLead}
@@ -37,14 +37,14 @@ deletes : (q : State) (n : ℕ) (key : Key) (device : Device) (slot : ℕ) → C
 deletes q n key device slot = by (is_own_at n key (q.held slot)) refl
   where
     by : (b : Bool) → is_own_at n key (q.held slot) ≡ b → ChangesHolder q (held_after_delete q n key) device slot
-    by true is = given_back n key (own-at n key (q.held slot) is) (ap (λ (b : Bool). cond b None (q.held slot)) is)
+    by true is = released n key (own-at n key (q.held slot) is) (ap (λ (b : Bool). cond b None (q.held slot)) is)
     by false is = stays (ap (λ (b : Bool). cond b None (q.held slot)) is)
 
 aborts : (q : State) (n : ℕ) (device : Device) (slot : ℕ) → ChangesHolder q (held_after_abort q n) device slot
 aborts q n device slot = by (is_held_by n (q.held slot)) refl
   where
     by : (b : Bool) → is_held_by n (q.held slot) ≡ b → ChangesHolder q (held_after_abort q n) device slot
-    by true is = let at = held-by n (q.held slot) is in given_back n at.0 at.1 (ap (λ (b : Bool). cond b None (q.held slot)) is)
+    by true is = let at = held-by n (q.held slot) is in released n at.0 at.1 (ap (λ (b : Bool). cond b None (q.held slot)) is)
     by false is = stays (ap (λ (b : Bool). cond b None (q.held slot)) is)
 
 -- ---- each step

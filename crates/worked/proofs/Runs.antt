@@ -131,7 +131,7 @@ session_numbers = record { lowest = refl }
 
 pub own_writes : OwnWrites
 unfolding most_sessions
-own_writes = record { sees = refl; gives_back = refl; operations = refl; covers = refl }
+own_writes = record { sees = refl; releases = refl; operations = refl; covers = refl }
 
 pub scans : Scans
 scans = record { whole = refl; ends = refl; empty = refl; refuses = refl }
@@ -155,7 +155,7 @@ two_keys_stamped = record {
 
 pub aborted_writes : AbortedWrites
 unfolding most_sessions
-aborted_writes = record { aborts = refl; gives_back = refl; drawn = refl }
+aborted_writes = record { aborts = refl; releases = refl; drawn = refl }
 
 pub full_write_set : FullWriteSet
 full_write_set = record {

@@ -132,7 +132,7 @@ pub record SessionNumbers : Type 0 where
 -- a transaction sees what it wrote and what it deleted; a deletion of what never was is a commit, without a slot or a line
 pub record OwnWrites : Type 0 where
   pub sees : replies start (Begin ∷ Put 2 key_7 ab ∷ Get 2 key_7 ∷ Delete 2 key_7 ∷ Get 2 key_7 ∷ Draw 2 ∷ Stamp 2 ∷ []) ≡ Began 2 ∷ Done ∷ Row (Some ab) ∷ Done ∷ Row None ∷ DrewAs 1 ∷ Stamped ∷ []
-  pub gives_back : (end start (Begin ∷ Put 2 key_7 ab ∷ Delete 2 key_7 ∷ [])).held 0 ≡ None
+  pub releases : (end start (Begin ∷ Put 2 key_7 ab ∷ Delete 2 key_7 ∷ [])).held 0 ≡ None
   pub operations : operates (end start (Begin ∷ Delete 2 key_7 ∷ Draw 2 ∷ [])) (Stamp 2) ≡ false
   pub covers : last_reply (replies start (Begin ∷ Delete 2 key_7 ∷ Draw 2 ∷ Stamp 2 ∷ ticks 41))
       ≡ Covered (record { from = 2; stamp = 3; persisted = 1; longs = []; commits = record { timestamp = 1; writes = (key_7, None) ∷ [] } ∷ [] })
@@ -180,7 +180,7 @@ pub record TwoKeys : Type 0 where
 -- an abort frees the slots and the number
 pub record AbortedWrites : Type 0 where
   pub aborts : replies start (Begin ∷ Put 2 key_7 ab ∷ Put 2 key_8 ab ∷ Abort 2 ∷ Get 2 key_7 ∷ Begin ∷ Get 2 key_7 ∷ []) ≡ Began 2 ∷ Done ∷ Done ∷ Done ∷ Refused NoSession ∷ Began 2 ∷ Row None ∷ []
-  pub gives_back : map (end start (Begin ∷ Put 2 key_7 ab ∷ Put 2 key_8 ab ∷ Abort 2 ∷ [])).held (0 ∷ 1 ∷ []) ≡ None ∷ None ∷ []
+  pub releases : map (end start (Begin ∷ Put 2 key_7 ab ∷ Put 2 key_8 ab ∷ Abort 2 ∷ [])).held (0 ∷ 1 ∷ []) ≡ None ∷ None ∷ []
   pub drawn : replies start (Begin ∷ Put 2 key_7 ab ∷ Draw 2 ∷ Abort 2 ∷ []) ≡ Began 2 ∷ Done ∷ DrewAs 1 ∷ Refused WrongState ∷ []
 
 -- thirty-two keys, and no more; one of them may be written again

@@ -14,30 +14,30 @@ use Rattle.base.specs.declared.step.Note.TheVariants.{Began, Committed, Covered 
 use Rattle.audited.specs.declared.receipt.Receipt.{Receipt}
 use Rattle.engine.specs.declared.phase.Phase.{Phase}
 use Rattle.engine.specs.declared.phase.Phase.TheVariants.{Idle, Active, Drawn, Stamped, Covered}
-use Rattle.engine.specs.Calls.{ArePolls, AreUnended, AskCommit, AskPrepare, Called, DeclinesCall, TellsCommit, TellsEnd, TellsLast}
+use Rattle.engine.specs.Calls.{ArePolls, AreUnended, AskCommit, AskPrepare, Called, DeclinesCall, ReportsCommit, ReportsEnd, ReportsLast}
 use Rattle.engine.specs.Phases.{added_since, number_of, phase_after, phase_after_step}
 use Rattle.engine.specs.Receipts.{Answers, Asks, Declines, Refuses}
 use Rattle.engine.proofs.Phasing.{phase_after-append}
-use Rattle.workload.specs.Load.{GivesUp, IsRefusedWith, Makes, MakesNone, MakesOne, acknowledged, draws, ended_of, has_drawn, may_pass, pending, told_to}
+use Rattle.workload.specs.Load.{GivesUp, IsRefusedWith, Makes, MakesNone, MakesOne, acknowledged, draws, ended_of, has_drawn, may_pass, pending, reported_to}
 use Rattle.workload.proofs.Counted.{acknowledged-none, acknowledged-one, count-one, draws-append, draws-cons, ends, ends-append, ends-cons, ends-short, none-counted}
 
 -- ---- one after the other
 
 pub none-yet : (phase : Phase) (receipts : List Receipt) → MakesNone phase receipts phase receipts
-none-yet phase receipts = record { told = refl; drawn = omega arith }
+none-yet phase receipts = record { acknowledges = refl; drawn = omega arith }
 
 pub none-then : (p q s : Phase) (old mid new : List Receipt) → MakesNone p old q mid → MakesNone q mid s new → MakesNone p old s new
-none-then p q s old mid new one two = record { told = two.told ∙ one.told; drawn = omega (arith, one.drawn, two.drawn) }
+none-then p q s old mid new one two = record { acknowledges = two.acknowledges ∙ one.acknowledges; drawn = omega (arith, one.drawn, two.drawn) }
 
 pub none-then-one : (p q : Phase) (old mid new : List Receipt) → MakesNone p old q mid → MakesOne q mid new → MakesOne p old new
-none-then-one p q old mid new one two = record { told = two.told ∙ ap (λ (n : ℕ). n + 1) one.told; drawn = omega (arith, one.drawn, two.drawn) }
+none-then-one p q old mid new one two = record { acknowledges = two.acknowledges ∙ ap (λ (n : ℕ). n + 1) one.acknowledges; drawn = omega (arith, one.drawn, two.drawn) }
 
 -- one more
 pub makes-one : (made : ℕ) (phase : Phase) (old new : List Receipt) → Makes made old → MakesOne phase old new → Makes (made + 1) new
-makes-one made phase old new earlier last = record { told = last.told ∙ ap (λ (n : ℕ). n + 1) earlier.told; drawn = omega (arith, earlier.drawn, last.drawn) }
+makes-one made phase old new earlier last = record { acknowledges = last.acknowledges ∙ ap (λ (n : ℕ). n + 1) earlier.acknowledges; drawn = omega (arith, earlier.drawn, last.drawn) }
 
 pub makes-zero : (receipts : List Receipt) → receipts ≡ [] → Makes 0 receipts
-makes-zero receipts none = subst (Makes 0) (sym none) (record { told = refl; drawn = omega arith })
+makes-zero receipts none = subst (Makes 0) (sym none) (record { acknowledges = refl; drawn = omega arith })
 
 -- ---- a step that neither draws nor ends
 
@@ -57,11 +57,11 @@ abort-plain n = record { ends = λ note. refl; draws = λ note. refl }
 
 -- what it leaves
 record LeavesAll (old new : List Receipt) : Type 0 where
-  told : acknowledged new ≡ acknowledged old
+  acknowledges : acknowledged new ≡ acknowledged old
   drawn : draws new ≡ draws old
 
 leaves-same : (old new : List Receipt) → new ≡ old → LeavesAll old new
-leaves-same old new is = record { told = ap acknowledged is; drawn = ap draws is }
+leaves-same old new is = record { acknowledges = ap acknowledged is; drawn = ap draws is }
 
 asked-plain : (old new : List Receipt) (step : Step) (note : Note) → IsPlain step → Asks old new step note → LeavesAll old new
 asked-plain old new step note plain a =
@@ -70,7 +70,7 @@ asked-plain old new step note plain a =
     let none : ends (a.receipt ∷ []) ≡ 0 = count-one (λ r. is_some (ended_of r.step r.note)) a.receipt ∙ ap (λ (o : Option ℕ). if is_some o then 1 else 0) ended in
     let nothing : draws (a.receipt ∷ []) ≡ 0 = count-one (λ r. has_drawn r.step r.note) a.receipt ∙ ap (λ (b : Bool). if b then 1 else 0) drew in
     record {
-      told = ap acknowledged a.added ∙ acknowledged-none old (a.receipt ∷ []) none;
+      acknowledges = ap acknowledged a.added ∙ acknowledged-none old (a.receipt ∷ []) none;
       drawn = ap draws a.added ∙ omega (arith, draws-append old (a.receipt ∷ []), nothing);
     }
 
@@ -83,7 +83,7 @@ declined-plain phase old new step fault plain (inl (there, refuses)) = refused-p
 declined-plain phase old new step fault plain (inr (idle, none, same)) = leaves-same old new same
 
 leaves-none : (p q : Phase) (old new : List Receipt) → pending p ≤ pending q → LeavesAll old new → MakesNone p old q new
-leaves-none p q old new less all = record { told = all.told; drawn = omega (arith, less, all.drawn) }
+leaves-none p q old new less all = record { acknowledges = all.acknowledges; drawn = omega (arith, less, all.drawn) }
 
 same-pending : (p q : Phase) → q ≡ p → pending p ≤ pending q
 same-pending p q is = omega (arith, ap pending is)
@@ -176,16 +176,16 @@ asked-ends phase added asks =
 
 -- ---- a commit that answers a timestamp
 
-poll-told : (n t : ℕ) (r : Receipt) → r.step ≡ Poll n → r.note ≡ Committed t → told_to r.step r.note ≡ Some n
-poll-told n t r is told = ap (λ (s : Step). told_to s r.note) is ∙ ap (told_to (Poll n)) told
+poll-told : (n t : ℕ) (r : Receipt) → r.step ≡ Poll n → r.note ≡ Committed t → reported_to r.step r.note ≡ Some n
+poll-told n t r is told = ap (λ (s : Step). reported_to s r.note) is ∙ ap (reported_to (Poll n)) told
 
 end-done : (n : ℕ) (r : Receipt) → r.step ≡ End n → r.note ≡ Done → ended_of r.step r.note ≡ Some n
 end-done n r is done = ap (λ (s : Step). ended_of s r.note) is ∙ ap (ended_of (End n)) done
 
-pub commit-one : (old new : List Receipt) (phase : Phase) (t : ℕ) → Called old new (λ added. AskCommit phase added × TellsCommit phase added (Some t)) → MakesOne phase old new
+pub commit-one : (old new : List Receipt) (phase : Phase) (t : ℕ) → Called old new (λ added. AskCommit phase added × ReportsCommit phase added (Some t)) → MakesOne phase old new
 commit-one old new phase t called =
-    let asks = called.tells.0 in
-    let tells = called.tells.1 in
+    let asks = called.holds.0 in
+    let tells = called.holds.1 in
     let poll = tells.poll in
     let end = tells.end in
     let front : List Receipt = tells.before ++ poll ∷ [] in
@@ -196,12 +196,12 @@ commit-one old new phase t called =
     called.is ∙ (ap (λ (rs : List Receipt). old ++ rs) (tells.is ∙ append_assoc tells.before (poll ∷ []) (end ∷ [])) ∙ sym (append_assoc old tells.before (poll ∷ end ∷ []))) in
     let earlier : acknowledged ((old ++ tells.before) ++ poll ∷ []) ≡ acknowledged old = ap acknowledged (append_assoc old tells.before (poll ∷ [])) ∙ acknowledged-none old front none in
     record {
-      told = ap acknowledged whole
-          ∙ (acknowledged-one (old ++ tells.before) poll end (number_of phase) (poll-told (number_of phase) t poll tells.polled tells.told) done ∙ ap (λ (n : ℕ). n + 1) earlier);
+      acknowledges = ap acknowledged whole
+          ∙ (acknowledged-one (old ++ tells.before) poll end (number_of phase) (poll-told (number_of phase) t poll tells.polled tells.noted) done ∙ ap (λ (n : ℕ). n + 1) earlier);
       drawn = omega (arith, ap draws called.is, draws-append old called.added, asked-draws phase called.added asks, prepare-draws phase asks.prepare asks.asks);
     }
 
-pub commit-some : (p q : Phase) (first old new : List Receipt) (answer : Option ℕ) → MakesNone p first q old → Called old new (λ added. AskCommit q added × TellsCommit q added answer)
+pub commit-some : (p q : Phase) (first old new : List Receipt) (answer : Option ℕ) → MakesNone p first q old → Called old new (λ added. AskCommit q added × ReportsCommit q added answer)
     → is_some answer ≡ true → MakesOne p first new
 commit-some p q first old new None earlier called is = absurd (false≢true is)
 commit-some p q first old new (Some t) earlier called is = none-then-one p q first old new earlier (commit-one old new q t called)
@@ -345,7 +345,7 @@ asked-keeps phase added asks still =
     let there : phase_after phase added ≡ phase_after (phase_after phase asks.prepare) later = ap (phase_after phase) asks.is ∙ phase_after-append phase asks.prepare later in
     omega (arith, asked-draws phase added asks, prepare-keeps phase asks.prepare asks.asks, all-keep (phase_after phase asks.prepare) later keep, ap pending there)
 
-declined-there : (Halted : Fault → Type 0) (phase : Phase) (added : List Receipt) (fault : Fault) → phase ≢ Idle → DeclinesCall Halted phase added fault → TellsEnd Halted added fault × AreUnended added
+declined-there : (Halted : Fault → Type 0) (phase : Phase) (added : List Receipt) (fault : Fault) → phase ≢ Idle → DeclinesCall Halted phase added fault → ReportsEnd Halted added fault × AreUnended added
 declined-there Halted Idle added fault there declined = absurd (there refl)
 declined-there Halted (Active n) added fault there declined = declined
 declined-there Halted (Drawn n t) added fault there declined = declined
@@ -355,26 +355,26 @@ declined-there Halted (Covered n) added fault there declined = declined
 pub commit-none : (Halted : Fault → Type 0) (p q : Phase) (old new : List Receipt) (fault : Fault) → p ≢ Idle → Called old new (λ added. AskCommit p added × DeclinesCall Halted p added fault)
     → q ≡ phase_after p (added_since old new) → MakesNone p old q new
 commit-none Halted p q old new fault there called is =
-    let still = (declined-there Halted p called.added fault there called.tells.1).1 in
+    let still = (declined-there Halted p called.added fault there called.holds.1).1 in
     let since : added_since old new ≡ called.added = ap (drop (length old)) called.is ∙ drop-append_seam old called.added in
     record {
-      told = ap acknowledged called.is ∙ acknowledged-none old called.added (unended-ends called.added still);
-      drawn = omega (arith, ap draws called.is, draws-append old called.added, asked-keeps p called.added called.tells.0 still, ap pending (is ∙ ap (phase_after p) since));
+      acknowledges = ap acknowledged called.is ∙ acknowledged-none old called.added (unended-ends called.added still);
+      drawn = omega (arith, ap draws called.is, draws-append old called.added, asked-keeps p called.added called.holds.0 still, ap pending (is ∙ ap (phase_after p) since));
     }
 
 -- ---- a call is refused
 
-tells-more : (old added new : List Receipt) (note : Note) → new ≡ old ++ added → TellsLast added note → TellsLast new note
+tells-more : (old added new : List Receipt) (note : Note) → new ≡ old ++ added → ReportsLast added note → ReportsLast new note
 tells-more old added new note is (before, r, last, told) = (old ++ before, r, is ∙ (ap (λ (rs : List Receipt). old ++ rs) last ∙ sym (append_assoc old before (r ∷ []))), told)
 
-ended-more : (Halted : Fault → Type 0) (old added new : List Receipt) (fault : Fault) → new ≡ old ++ added → TellsEnd Halted added fault → (fault ≡ OutOfMemory) ⊎ IsRefusedWith Halted new fault
+ended-more : (Halted : Fault → Type 0) (old added new : List Receipt) (fault : Fault) → new ≡ old ++ added → ReportsEnd Halted added fault → (fault ≡ OutOfMemory) ⊎ IsRefusedWith Halted new fault
 ended-more Halted old added new fault is (inl (inl memory)) = inl memory
 ended-more Halted old added new fault is (inl (inr last)) = inr (inl (tells-more old added new (Refused fault) is last))
 ended-more Halted old added new fault is (inr (halted, waiting)) = inr (inr halted)
 
 pub refused-called : (Halted : Fault → Type 0) (phase : Phase) (old new : List Receipt) (fault : Fault) (Asked : List Receipt → Type 0) → phase ≢ Idle
     → Called old new (λ added. Asked added × DeclinesCall Halted phase added fault) → (fault ≡ OutOfMemory) ⊎ ((fault ≡ WrongState) ⊎ IsRefusedWith Halted new fault)
-refused-called Halted phase old new fault Asked there called = either (ended-more Halted old called.added new fault called.is (declined-there Halted phase called.added fault there called.tells.1).0)
+refused-called Halted phase old new fault Asked there called = either (ended-more Halted old called.added new fault called.is (declined-there Halted phase called.added fault there called.holds.1).0)
   where
     either : (fault ≡ OutOfMemory) ⊎ IsRefusedWith Halted new fault → (fault ≡ OutOfMemory) ⊎ ((fault ≡ WrongState) ⊎ IsRefusedWith Halted new fault)
     either (inl memory) = inl memory
@@ -394,7 +394,7 @@ final-refused R fault final (inr is) = is
 
 -- after a step back that failed
 pub gives-up : (Halted : Fault → Type 0) (mid new : List Receipt) (fault why : Fault) → (fault ≡ OutOfMemory) ⊎ ((fault ≡ WrongState) ⊎ IsRefusedWith Halted mid fault)
-    → (may_pass why ≡ false) × (((why ≡ fault) × (new ≡ mid)) ⊎ TellsLast new (Refused why)) → GivesUp Halted new why
+    → (may_pass why ≡ false) × (((why ≡ fault) × (new ≡ mid)) ⊎ ReportsLast new (Refused why)) → GivesUp Halted new why
 gives-up Halted mid new fault why is (final, inr last) = record { is_final = final; why = inr (inl last) }
 gives-up Halted mid new fault why is (final, inl (same, kept)) = record {
   is_final = final;

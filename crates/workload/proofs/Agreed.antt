@@ -20,7 +20,7 @@ use Rattle.audited.specs.declared.receipt.Receipt.{Receipt}
 use Rattle.room.specs.declared.room.Room.{Room}
 use Rattle.room.specs.declared.status.Status.{Status}
 use Rattle.engine.specs.Agreement.{Agrees, IsEntry}
-use Rattle.engine.specs.Calls.{TellsLast}
+use Rattle.engine.specs.Calls.{ReportsLast}
 use Rattle.engine.specs.Origins.{HasHalted, IsRunFrom}
 use Rattle.workload.specs.Load.{AreMade, GivesUp, HasRefusal, IsRefusedWith, Makes, Works, may_pass}
 
@@ -69,7 +69,7 @@ run-from state room image opening entries a = record {
 }
 
 last-refusal : {D : Type 0} {G : Ghosts D} (state : D → Device) (room : Room D G) (image : Image) (opening : Status) (entries : List (Step × Note)) (first : ℕ) (receipts : List Receipt) (fault : Fault)
-    → All (IsEntry entries first) receipts → TellsLast receipts (Refused fault) → IsAudited state room image opening entries → HasRefusal image fault
+    → All (IsEntry entries first) receipts → ReportsLast receipts (Refused fault) → IsAudited state room image opening entries → HasRefusal image fault
 last-refusal state room image opening entries first receipts fault all (before, r, last, told) audited =
     let one : IsEntry entries first r = All-head (IsEntry entries first) r [] (All-right (IsEntry entries first) before (r ∷ []) (subst (All (IsEntry entries first)) last all)) in record {
       entries = entries;

@@ -5,7 +5,7 @@ use Rattle.std.proofs.lemmas.List.Elements.{All-head, All-tail}
 use Rattle.std.proofs.lemmas.List.Sums.{count_by-le-length, sum_by-append, sum_by-cons}
 use Rattle.std.proofs.lemmas.Bool.Decides.{nat_tests}
 use Rattle.audited.specs.declared.receipt.Receipt.{Receipt}
-use Rattle.workload.specs.Load.{acknowledged, draws, ended_of, has_drawn, is_acknowledged, is_same, told_to}
+use Rattle.workload.specs.Load.{acknowledged, draws, ended_of, has_drawn, is_acknowledged, is_same, reported_to}
 
 -- how many ends were done
 abbrev pub ends : List Receipt → ℕ
@@ -55,7 +55,7 @@ same-none (Some n) = refl
 unacknowledged : (r : Receipt) (added : List Receipt) → ends added ≡ 0 → is_acknowledged r added ≡ false
 unacknowledged r [] none = refl
 unacknowledged r (e ∷ rest) none =
-    ap (is_same (told_to r.step r.note)) (none-first (ended_of e.step e.note) (ends rest) (sym (ends-cons e rest) ∙ none)) ∙ same-none (told_to r.step r.note)
+    ap (is_same (reported_to r.step r.note)) (none-first (ended_of e.step e.note) (ends rest) (sym (ends-cons e rest) ∙ none)) ∙ same-none (reported_to r.step r.note)
 
 first-same : (r : Receipt) (old added : List Receipt) → ends added ≡ 0 → is_acknowledged r (old ++ added) ≡ is_acknowledged r old
 first-same r [] added none = unacknowledged r added none
@@ -84,10 +84,10 @@ one-same n = grind (arith, nat_tests)
 told-one : (one other : Option ℕ) (n : ℕ) → one ≡ Some n → other ≡ Some n → is_same one other ≡ true
 told-one one other n first second = ap (λ (o : Option ℕ). is_same o other) first ∙ (ap (is_same (Some n)) second ∙ one-same n)
 
-pub acknowledged-one : (xs : List Receipt) (poll end : Receipt) (n : ℕ) → told_to poll.step poll.note ≡ Some n → ended_of end.step end.note ≡ Some n
+pub acknowledged-one : (xs : List Receipt) (poll end : Receipt) (n : ℕ) → reported_to poll.step poll.note ≡ Some n → ended_of end.step end.note ≡ Some n
     → acknowledged (xs ++ poll ∷ end ∷ []) ≡ acknowledged (xs ++ poll ∷ []) + 1
 acknowledged-one [] poll end n told ended =
-    ap (λ (b : Bool). (if b then 1 else 0) + 0) (told-one (told_to poll.step poll.note) (ended_of end.step end.note) n told ended)
+    ap (λ (b : Bool). (if b then 1 else 0) + 0) (told-one (reported_to poll.step poll.note) (ended_of end.step end.note) n told ended)
 acknowledged-one (x ∷ xs) poll end n told ended =
     let first = first-end x xs poll end in
     let rest = acknowledged-one xs poll end n told ended in

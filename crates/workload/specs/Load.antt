@@ -19,7 +19,7 @@ use Rattle.audited.specs.declared.receipt.Receipt.{Receipt}
 use Rattle.engine.specs.Agreement.{Agrees}
 use Rattle.engine.specs.declared.phase.Phase.{Phase}
 use Rattle.engine.specs.declared.phase.Phase.TheVariants.{Drawn, Stamped}
-use Rattle.engine.specs.Calls.{TellsLast}
+use Rattle.engine.specs.Calls.{ReportsLast}
 use Rattle.engine.specs.Origins.{IsRunFrom}
 use Rattle.room.specs.declared.room.Room.{Room}
 use Rattle.room.specs.declared.status.Status.{Status}
@@ -60,9 +60,9 @@ has_drawn (Draw session) (DrewAs timestamp) = true
 has_drawn _ _ = false
 
 -- the session whose poll was told a timestamp
-abbrev pub told_to : Step → Note → Option ℕ
-told_to (Poll session) (Committed timestamp) = Some session
-told_to _ _ = None
+abbrev pub reported_to : Step → Note → Option ℕ
+reported_to (Poll session) (Committed timestamp) = Some session
+reported_to _ _ = None
 
 -- the session whose end was done
 abbrev pub ended_of : Step → Note → Option ℕ
@@ -77,7 +77,7 @@ is_same _ _ = false
 -- a poll was told a timestamp, and the first step after it ended its transaction
 abbrev pub is_acknowledged : Receipt → List Receipt → Bool
 is_acknowledged poll [] = false
-is_acknowledged poll (end ∷ rest) = is_same (told_to poll.step poll.note) (ended_of end.step end.note)
+is_acknowledged poll (end ∷ rest) = is_same (reported_to poll.step poll.note) (ended_of end.step end.note)
 
 -- how many timestamps were drawn, and how many commits were acknowledged
 abbrev pub draws : List Receipt → ℕ
@@ -89,7 +89,7 @@ acknowledged (r ∷ rest) = (if is_acknowledged r rest then 1 else 0) + acknowle
 
 -- Exactly so many commits were made: so many were acknowledged, and no timestamp was drawn beyond
 pub record Makes (commits : ℕ) (receipts : List Receipt) : Type 0 where
-  pub told : acknowledged receipts ≡ commits
+  pub acknowledges : acknowledged receipts ≡ commits
   pub drawn : draws receipts ≤ commits
 
 -- whether the transaction has drawn a timestamp, as a number
@@ -100,17 +100,17 @@ pending _ = 0
 
 -- No commit was acknowledged between the two, and no timestamp was drawn but one that is to be acknowledged still
 pub record MakesNone (phase : Phase) (old : List Receipt) (phase' : Phase) (new : List Receipt) : Type 0 where
-  pub told : acknowledged new ≡ acknowledged old
+  pub acknowledges : acknowledged new ≡ acknowledged old
   pub drawn : draws new + pending phase ≤ draws old + pending phase'
 
 -- One was acknowledged, and it alone was drawn, or had been
 pub record MakesOne (phase : Phase) (old new : List Receipt) : Type 0 where
-  pub told : acknowledged new ≡ acknowledged old + 1
+  pub acknowledges : acknowledged new ≡ acknowledged old + 1
   pub drawn : draws new + pending phase ≤ draws old + 1
 
 -- the last receipt's step was refused with this fault, or it is what ended the committer
 abbrev pub IsRefusedWith : (Fault → Type 0) → List Receipt → Fault → Type 0
-IsRefusedWith Halted receipts fault = TellsLast receipts (Refused fault) ⊎ Halted fault
+IsRefusedWith Halted receipts fault = ReportsLast receipts (Refused fault) ⊎ Halted fault
 
 -- So it is, and a thread that meets the fault gives up; or a commit told that nothing was written, which no step of a run does after a put
 pub record GivesUp (Halted : Fault → Type 0) (receipts : List Receipt) (fault : Fault) : Type 0 where

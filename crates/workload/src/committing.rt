@@ -2,7 +2,7 @@ ghost use Rattle.std.specs.Prelude.{◌≡◌, ◌≢◌, ◌⊎◌, [], true, f
 ghost use Rattle.base.specs.declared.fault.Fault.TheVariants.{OutOfMemory, WrongState};
 ghost use Rattle.base.specs.declared.step.Note.TheVariants.{Refused};
 ghost use Rattle.engine.specs.declared.phase.Phase.TheVariants.{Idle};
-ghost use Rattle.engine.specs.Calls.{TellsLast};
+ghost use Rattle.engine.specs.Calls.{ReportsLast};
 ghost use Rattle.engine.specs.Origins.{HasHalted};
 ghost use Rattle.workload.specs.Load.{GivesUp, IsRefusedWith, Makes, MakesNone, MakesOne, Works, may_pass};
 ghost use Rattle.workload.specs.Tasks.{AllWork, AreFresh};
@@ -156,7 +156,7 @@ fn begin_once<T: Wait, D: Pmem + Drop, J: Origin, B: Drop>(
 ) -> Result<(), Fault>
     ensures none { MakesNone session.old.phase session.old.receipts.items session.new.phase session.new.receipts.items }
     ensures is_open { OnOk result (session.new.phase ≢ Idle) }
-    ensures err { IfErr result (λ fault. (fault ≡ OutOfMemory) ⊎ TellsLast session.new.receipts.items (Refused fault)) }
+    ensures err { IfErr result (λ fault. (fault ≡ OutOfMemory) ⊎ ReportsLast session.new.receipts.items (Refused fault)) }
 {
     if matches!(session.phase(), Phase::Idle) {
         begin_with(rt, session, key, row)
@@ -175,7 +175,7 @@ fn begin_with<T: Wait, D: Pmem + Drop, J: Origin, B: Drop>(
     requires { session.old.phase ≡ Idle }
     ensures none { MakesNone session.old.phase session.old.receipts.items session.new.phase session.new.receipts.items }
     ensures is_open { OnOk result (session.new.phase ≢ Idle) }
-    ensures err { IfErr result (λ fault. (fault ≡ OutOfMemory) ⊎ TellsLast session.new.receipts.items (Refused fault)) }
+    ensures err { IfErr result (λ fault. (fault ≡ OutOfMemory) ⊎ ReportsLast session.new.receipts.items (Refused fault)) }
 {
     match session.begin(rt) {
         Ok(()) => session.put(rt, key, row),
@@ -191,7 +191,7 @@ fn step_back<T: Wait, D: Pmem + Drop, J: Origin, B: Drop>(
     fault: Fault,
 ) -> Result<(), Fault>
     ensures ok { OnOk result ((may_pass fault ≡ true) × MakesNone session.old.phase session.old.receipts.items session.new.phase session.new.receipts.items) }
-    ensures err { IfErr result (λ why. (may_pass why ≡ false) × (((why ≡ fault) × (session.new.receipts.items ≡ session.old.receipts.items)) ⊎ TellsLast session.new.receipts.items (Refused why))) }
+    ensures err { IfErr result (λ why. (may_pass why ≡ false) × (((why ≡ fault) × (session.new.receipts.items ≡ session.old.receipts.items)) ⊎ ReportsLast session.new.receipts.items (Refused why))) }
 {
     if !may_pass(fault) {
         return Err(fault);
@@ -208,7 +208,7 @@ fn give_up<T: Wait, D: Pmem + Drop, J: Origin, B: Drop>(
     session: &mut Session<D, J, B>,
 ) -> Result<(), Fault>
     ensures ok { OnOk result (MakesNone session.old.phase session.old.receipts.items session.new.phase session.new.receipts.items) }
-    ensures err { IfErr result (λ why. (may_pass why ≡ false) × TellsLast session.new.receipts.items (Refused why)) }
+    ensures err { IfErr result (λ why. (may_pass why ≡ false) × ReportsLast session.new.receipts.items (Refused why)) }
 {
     for _ in rt.forever() {
         match session.phase() {

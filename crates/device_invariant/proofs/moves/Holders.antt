@@ -16,7 +16,7 @@ use Rattle.state_invariant.proofs.covers.Kept.{batch-drawn}
 use Rattle.device_invariant.specs.Slots.{SlotHolds}
 use Rattle.device_invariant.specs.Log.{Line, line_at, lines_at, is_own, is_ended, HoldsHand}
 use Rattle.device_invariant.specs.Upholds.{HoldsState}
-use Rattle.device_invariant.specs.Laws.{ChangesHolder, stays, given_back, taken, freed, HoldersKeep}
+use Rattle.device_invariant.specs.Laws.{ChangesHolder, stays, released, taken, freed, HoldersKeep}
 use Rattle.pmem.proofs.Changes.{each-settled, each-weaken}
 
 module _ (q : State) (sessions : ℕ → Option Session) (held : ℕ → Option Version) (device : Device) where
@@ -44,7 +44,7 @@ module _ (q : State) (sessions : ℕ → Option Session) (held : ℕ → Option 
 
   slot-then : (slot : ℕ) → ChangesHolder q held device slot → SlotHolds q device slot → SlotHolds then device slot
   slot-then slot (stays same) h = same-slot slot same h
-  slot-then slot (given_back n key own none) h = undrawn-slot slot (λ t k at. not-none slot t k none at) (h.own n key own) h
+  slot-then slot (released n key own none) h = undrawn-slot slot (λ t k at. not-none slot t k none at) (h.own n key own) h
   slot-then slot (taken n key free own cleared) h = undrawn-slot slot (λ t k at. not-session slot t n k key own at) cleared h
   slot-then slot (freed t key at undrawn apart none) h = freed-slot slot t key at undrawn apart none h
 
@@ -56,13 +56,13 @@ module _ (q : State) (sessions : ℕ → Option Session) (held : ℕ → Option 
 
   own-same : (commits : List Commit) (slot : ℕ) → AreUncovered commits → ChangesHolder q held device slot → is_own commits (held slot) ≡ is_own commits (q.held slot)
   own-same commits slot uncovered (stays same) = ap (is_own commits) same
-  own-same commits slot uncovered (given_back n key own none) = ap (is_own commits) none ∙ sym (ap (is_own commits) own)
+  own-same commits slot uncovered (released n key own none) = ap (is_own commits) none ∙ sym (ap (is_own commits) own)
   own-same commits slot uncovered (taken n key free own cleared) = ap (is_own commits) own ∙ sym (ap (is_own commits) free)
   own-same commits slot uncovered (freed t key at undrawn apart none) = ap (is_own commits) none ∙ sym (ap (is_own commits) at ∙ uncovered t undrawn)
 
   ended-same : (commits : List Commit) (slot : ℕ) → ChangesHolder q held device slot → is_ended q commits (held slot) ≡ is_ended q commits (q.held slot)
   ended-same commits slot (stays same) = ap (is_ended q commits) same
-  ended-same commits slot (given_back n key own none) = ap (is_ended q commits) none ∙ sym (ap (is_ended q commits) own)
+  ended-same commits slot (released n key own none) = ap (is_ended q commits) none ∙ sym (ap (is_ended q commits) own)
   ended-same commits slot (taken n key free own cleared) = ap (is_ended q commits) own ∙ sym (ap (is_ended q commits) free)
   ended-same commits slot (freed t key at undrawn apart none) =
       ap (is_ended q commits) none ∙ sym (ap (is_ended q commits) at ∙ ap (λ (b : Bool). b && list_any (writes_key key) commits) (ne_eqb (last_writer q.history key) t (λ same. apart (sym same))))

@@ -79,7 +79,7 @@ Among ts commit = Contains ts commit.timestamp
 
 -- The history is what was covered before and by these batches; and the commits that are covered or drawn are those
 -- whose timestamps were given out
-record Told (before covered : List Commit) (ts : List ℕ) (q : State) : Type 0 where
+record Reported (before covered : List Commit) (ts : List ℕ) (q : State) : Type 0 where
   history : q.history ≡ before ++ covered
   covered_among : All (Among ts) covered
   drawn_among : All (Among ts) (drawn_of q)
@@ -93,10 +93,10 @@ widen ts us commits all = All-weaker (Among ts) (Among (ts ++ us)) (λ c h. Cont
 abbrev IsQuiet : Reply → Type 0
 IsQuiet reply = (covered_by reply ≡ []) × (drawn_by reply ≡ [])
 
-abbrev ToldAfter : List Commit → List Commit → List ℕ → Reply → State → Type 0
-ToldAfter before covered ts reply q = Told before (covered ++ covered_by reply) (ts ++ drawn_by reply) q
+abbrev ReportedAfter : List Commit → List Commit → List ℕ → Reply → State → Type 0
+ReportedAfter before covered ts reply q = Reported before (covered ++ covered_by reply) (ts ++ drawn_by reply) q
 
-told-quiet : (before covered : List Commit) (ts : List ℕ) (reply : Reply) (q q' : State) → IsQuiet reply → Told before covered ts q' → ToldAfter before covered ts reply q'
+told-quiet : (before covered : List Commit) (ts : List ℕ) (reply : Reply) (q q' : State) → IsQuiet reply → Reported before covered ts q' → ReportedAfter before covered ts reply q'
 told-quiet before covered ts reply q q' quiet told = grind (arith, append-nil)
 
 -- the state has the same commits
@@ -105,7 +105,7 @@ record SameCommits (q q' : State) : Type 0 where
   drawn : drawn_of q' ≡ drawn_of q
   hand : in_hand q' ≡ in_hand q
 
-told-same : (before covered : List Commit) (ts : List ℕ) (q q' : State) → SameCommits q q' → Told before covered ts q → Told before covered ts q'
+told-same : (before covered : List Commit) (ts : List ℕ) (q q' : State) → SameCommits q q' → Reported before covered ts q → Reported before covered ts q'
 told-same before covered ts q q' same told = record {
   history = same.history ∙ told.history;
   covered_among = told.covered_among;
@@ -114,8 +114,8 @@ told-same before covered ts q q' same told = record {
   each = subst (λ (l : List Commit). All (λ t. has_timestamp (covered ++ l) t ≡ true) ts) (sym same.drawn) told.each;
 }
 
-told-drawn : (before covered : List Commit) (ts : List ℕ) (q : State) (n : ℕ) (writes : Writes) → Told before covered ts q
-    → ToldAfter before covered ts (if is_nil writes then Done else DrewAs q.next) (state_drawn q n writes)
+told-drawn : (before covered : List Commit) (ts : List ℕ) (q : State) (n : ℕ) (writes : Writes) → Reported before covered ts q
+    → ReportedAfter before covered ts (if is_nil writes then Done else DrewAs q.next) (state_drawn q n writes)
 told-drawn before covered ts q n [] told = told-quiet before covered ts Done q (state_drawn q n []) (refl, refl) (told-same before covered ts q (state_drawn q n []) (record { history = refl; drawn = refl; hand = refl }) told)
 told-drawn before covered ts q n (write ∷ writes) told =
     let made : Commit = record { timestamp = q.next; writes = write ∷ writes } in
@@ -127,7 +127,7 @@ told-drawn before covered ts q n (write ∷ writes) told =
     let old : All Has ts = All-weaker (λ t. has_timestamp (covered ++ drawn_of q) t ≡ true) Has (λ t h. any-append (covered ++ drawn_of q) (made ∷ []) t h) ts told.each in
     let this : Has q.next = has-right (covered ++ drawn_of q) (made ∷ []) q.next (ap (λ (b : Bool). b || false) (eq-eqb q.next q.next refl)) in
     let each : All Has new = All-append Has ts (q.next ∷ []) old (All-cons Has q.next [] this (All-nil Has)) in
-    subst (λ (l : List Commit). Told before l new (state_drawn q n (write ∷ writes))) (sym none) (record {
+    subst (λ (l : List Commit). Reported before l new (state_drawn q n (write ∷ writes))) (sym none) (record {
       history = told.history;
       covered_among = widen ts (q.next ∷ []) covered told.covered_among;
       drawn_among = All-same (Among new) (drawn_of (state_drawn q n (write ∷ writes))) (drawn_of q ++ made ∷ []) now
@@ -137,8 +137,8 @@ told-drawn before covered ts q n (write ∷ writes) told =
     })
 
 -- a batch that is covered
-told-covered : (before covered : List Commit) (ts : List ℕ) (q : State) (hand : Hand) → All (Among ts) hand.commits → Told before covered ts q
-    → ToldAfter before covered ts (Covered (batch_of q hand)) (state_covered q hand)
+told-covered : (before covered : List Commit) (ts : List ℕ) (q : State) (hand : Hand) → All (Among ts) hand.commits → Reported before covered ts q
+    → ReportedAfter before covered ts (Covered (batch_of q hand)) (state_covered q hand)
 told-covered before covered ts q hand among told =
     let none : ts ++ [] ≡ ts = append-nil ts in
     let stays : Commit → Bool = λ c. not (has_timestamp hand.commits c.timestamp) in
@@ -149,7 +149,7 @@ told-covered before covered ts q hand among told =
       | inl old ↦ any-append (covered ++ hand.commits) left t (any-append covered hand.commits t old)
       | inr new ↦ subst (λ (l : List Commit). has_timestamp l t ≡ true) (sym (append_assoc covered hand.commits left)) (has-right covered (hand.commits ++ left) t (has-parts hand.commits (drawn_of q) t new))
     ] in
-    subst (λ (l : List ℕ). Told before (covered ++ hand.commits) l (state_covered q hand)) (sym none) (record {
+    subst (λ (l : List ℕ). Reported before (covered ++ hand.commits) l (state_covered q hand)) (sym none) (record {
       history = ap (λ (l : List Commit). l ++ hand.commits) told.history ∙ append_assoc before covered hand.commits;
       covered_among = All-append (Among ts) covered hand.commits told.covered_among among;
       drawn_among = All-same (Among ts) (drawn_of (state_covered q hand)) left now (All-filter stays (Among ts) (drawn_of q) told.drawn_among);
@@ -158,8 +158,8 @@ told-covered before covered ts q hand among told =
           (All-weaker (λ t. has_timestamp (covered ++ drawn_of q) t ≡ true) (λ t. has_timestamp ((covered ++ hand.commits) ++ left) t ≡ true) each ts told.each);
     })
 
-told-on : (before covered : List Commit) (ts : List ℕ) (q : State) (hand : Hand) (o : Option Stage) → All (Among ts) hand.commits → Told before covered ts q
-    → ToldAfter before covered ts (ticked_on q hand o) (state_ticked_on q hand o)
+told-on : (before covered : List Commit) (ts : List ℕ) (q : State) (hand : Hand) (o : Option Stage) → All (Among ts) hand.commits → Reported before covered ts q
+    → ReportedAfter before covered ts (ticked_on q hand o) (state_ticked_on q hand o)
 told-on before covered ts q hand None among told = told-covered before covered ts q hand among told
 told-on before covered ts q hand (Some stage) among told =
     told-quiet before covered ts (Ticked stage) q (state_ticked_on q hand (Some stage)) (refl, refl) (record {
@@ -180,8 +180,8 @@ chosen-among ts q all =
     unmap (d ∷ ds) all =
         All-cons (λ (d : Drawn). Among ts d.commit) d ds (All-head (Among ts) d.commit (map (λ (d : Drawn). d.commit) ds) all) (unmap ds (All-tail (Among ts) d.commit (map (λ (d : Drawn). d.commit) ds) all))
 
-told-idle : (before covered : List Commit) (ts : List ℕ) (q : State) (b : Bool) → Told before covered ts q
-    → ToldAfter before covered ts (cond b Idle (Ticked Chosen)) (cond b q (record q { hand = Some (taken_in_hand q) }))
+told-idle : (before covered : List Commit) (ts : List ℕ) (q : State) (b : Bool) → Reported before covered ts q
+    → ReportedAfter before covered ts (cond b Idle (Ticked Chosen)) (cond b q (record q { hand = Some (taken_in_hand q) }))
 told-idle before covered ts q true told = told-quiet before covered ts Idle q q (refl, refl) told
 told-idle before covered ts q false told =
     told-quiet before covered ts (Ticked Chosen) q (record q { hand = Some (taken_in_hand q) }) (refl, refl) (record {
@@ -192,8 +192,8 @@ told-idle before covered ts q false told =
       each = told.each;
     })
 
-told-ticked : (before covered : List Commit) (ts : List ℕ) (q : State) (o : Option Hand) → All (Among ts) (option_map_or (λ hand. hand.commits) o []) → Told before covered ts q
-    → ToldAfter before covered ts (ticked q o) (state_ticked q o)
+told-ticked : (before covered : List Commit) (ts : List ℕ) (q : State) (o : Option Hand) → All (Among ts) (option_map_or (λ hand. hand.commits) o []) → Reported before covered ts q
+    → ReportedAfter before covered ts (ticked q o) (state_ticked q o)
 told-ticked before covered ts q None among told = told-idle before covered ts q (is_idle q) told
 told-ticked before covered ts q (Some hand) among told = told-on before covered ts q hand (next_stage q hand) among told
 
@@ -208,18 +208,18 @@ quiet-polled q (Some (Drew t)) = quiet-if (has_timestamp q.history t) (Committed
 quiet-polled q (Some WroteNothing) = (refl, refl)
 
 -- a step with this reply, after which the commits are the same
-told-still : (before covered : List Commit) (ts : List ℕ) (q : State) (reply other : Reply) (q' : State) → Told before covered ts q → reply ≡ other → IsQuiet other → SameCommits q q' → ToldAfter before covered ts reply q'
+told-still : (before covered : List Commit) (ts : List ℕ) (q : State) (reply other : Reply) (q' : State) → Reported before covered ts q → reply ≡ other → IsQuiet other → SameCommits q q' → ReportedAfter before covered ts reply q'
 told-still before covered ts q reply other q' told e quiet same =
-    subst (λ (r : Reply). ToldAfter before covered ts r q') (sym e) (told-quiet before covered ts other q q' quiet (told-same before covered ts q q' same told))
+    subst (λ (r : Reply). ReportedAfter before covered ts r q') (sym e) (told-quiet before covered ts other q q' quiet (told-same before covered ts q q' same told))
 
-told-next : (before covered : List Commit) (ts : List ℕ) (q : State) (step : Step) (reply : Reply) → Told before covered ts q → Answers q step reply → ToldAfter before covered ts reply (next_state q step)
+told-next : (before covered : List Commit) (ts : List ℕ) (q : State) (step : Step) (reply : Reply) → Reported before covered ts q → Answers q step reply → ReportedAfter before covered ts reply (next_state q step)
 told-next before covered ts q Begin reply told a = told-still before covered ts q reply _ (next_state q Begin) told a (refl, refl) (record { history = refl; drawn = refl; hand = refl })
 told-next before covered ts q (Get n key) reply told a = told-still before covered ts q reply _ q told a (refl, refl) (record { history = refl; drawn = refl; hand = refl })
 told-next before covered ts q (Scan n table lo hi) reply told a = told-still before covered ts q reply (Rows a.0) q told a.1 (refl, refl) (record { history = refl; drawn = refl; hand = refl })
 told-next before covered ts q (Put n key row) reply told a = told-still before covered ts q reply _ (next_state q (Put n key row)) told a (refl, refl) (record { history = refl; drawn = refl; hand = refl })
 told-next before covered ts q (Delete n key) reply told a = told-still before covered ts q reply _ (next_state q (Delete n key)) told a (refl, refl) (record { history = refl; drawn = refl; hand = refl })
 told-next before covered ts q (Draw n) reply told a =
-    subst (λ (r : Reply). ToldAfter before covered ts r (next_state q (Draw n))) (sym a) (told-drawn before covered ts q n (writes_of (q.sessions n)) told)
+    subst (λ (r : Reply). ReportedAfter before covered ts r (next_state q (Draw n))) (sym a) (told-drawn before covered ts q n (writes_of (q.sessions n)) told)
 told-next before covered ts q (Stamp n) reply told a =
     told-still before covered ts q reply _ (next_state q (Stamp n)) told a (quiet-if (is_last_stamp q n) Stamped More (refl, refl) (refl, refl))
     (record { history = refl; drawn = counted-commits (timestamp_of (q.sessions n)) q.drawn; hand = refl })
@@ -227,7 +227,7 @@ told-next before covered ts q (Poll n) reply told a = told-still before covered 
 told-next before covered ts q (Abort n) reply told a = told-still before covered ts q reply _ (next_state q (Abort n)) told a (refl, refl) (record { history = refl; drawn = refl; hand = refl })
 told-next before covered ts q (End n) reply told a = told-still before covered ts q reply _ (next_state q (End n)) told a (refl, refl) (record { history = refl; drawn = refl; hand = refl })
 told-next before covered ts q CommitTick reply told a =
-    subst (λ (r : Reply). ToldAfter before covered ts r (next_state q CommitTick)) (sym a) (told-ticked before covered ts q q.hand told.hand_among told)
+    subst (λ (r : Reply). ReportedAfter before covered ts r (next_state q CommitTick)) (sym a) (told-ticked before covered ts q q.hand told.hand_among told)
 told-next before covered ts q Collect reply told a =
     let changes = visit-changes q in
     told-still before covered ts q reply _ (visited q) told a (quiet-if (is_at_slot q) (Visited q.place) SweepEnd (refl, refl) (refl, refl)) (record {
@@ -236,30 +236,30 @@ told-next before covered ts q Collect reply told a =
       hand = ap (λ (o : Option Hand). option_map_or (λ (h : Hand). h.commits) o []) changes.hand;
     })
 
-told-stepped : (before covered : List Commit) (ts : List ℕ) (q : State) (step : Step) (reply : Reply) (q' : State) → Told before covered ts q → Stepped q step reply q' → ToldAfter before covered ts reply q'
+told-stepped : (before covered : List Commit) (ts : List ℕ) (q : State) (step : Step) (reply : Reply) (q' : State) → Reported before covered ts q → Stepped q step reply q' → ReportedAfter before covered ts reply q'
 told-stepped before covered ts q step reply q' told (refused fault e r s) =
-    subst (λ (p : State). ToldAfter before covered ts reply p) (sym s) (told-still before covered ts q reply _ q told r (refl, refl) (record { history = refl; drawn = refl; hand = refl }))
-told-stepped before covered ts q step reply q' told (answered e a s) = subst (λ (p : State). ToldAfter before covered ts reply p) (sym s) (told-next before covered ts q step reply told a)
+    subst (λ (p : State). ReportedAfter before covered ts reply p) (sym s) (told-still before covered ts q reply _ q told r (refl, refl) (record { history = refl; drawn = refl; hand = refl }))
+told-stepped before covered ts q step reply q' told (answered e a s) = subst (λ (p : State). ReportedAfter before covered ts reply p) (sym s) (told-next before covered ts q step reply told a)
 told-stepped before covered ts q step reply q' told (memory_refused e m r s) =
-    subst (λ (p : State). ToldAfter before covered ts reply p) (sym s) (told-still before covered ts q reply _ q told r (refl, refl) (record { history = refl; drawn = refl; hand = refl }))
+    subst (λ (p : State). ReportedAfter before covered ts reply p) (sym s) (told-still before covered ts q reply _ q told r (refl, refl) (record { history = refl; drawn = refl; hand = refl }))
 told-stepped before covered ts q step reply q' told (device_failed e m r s) =
-    subst (λ (p : State). ToldAfter before covered ts reply p) (sym s) (told-still before covered ts q reply _ (record q { failed = true }) told r (refl, refl) (record { history = refl; drawn = refl; hand = refl }))
+    subst (λ (p : State). ReportedAfter before covered ts reply p) (sym s) (told-still before covered ts q reply _ (record q { failed = true }) told r (refl, refl) (record { history = refl; drawn = refl; hand = refl }))
 
-told-run : (before covered : List Commit) (ts : List ℕ) (q : State) (steps : List Step) (replies : List Reply) (states : List State) → Told before covered ts q → Run q steps replies states
-    → Told before (covered ++ covered_in replies) (ts ++ drawn_in replies) (final q states)
+told-run : (before covered : List Commit) (ts : List ℕ) (q : State) (steps : List Step) (replies : List Reply) (states : List State) → Reported before covered ts q → Run q steps replies states
+    → Reported before (covered ++ covered_in replies) (ts ++ drawn_in replies) (final q states)
 told-run before covered ts q [] [] [] told run =
-    subst (λ (l : List Commit). Told before l (ts ++ []) q) (sym (append-nil covered)) (subst (λ (l : List ℕ). Told before covered l q) (sym (append-nil ts)) told)
+    subst (λ (l : List Commit). Reported before l (ts ++ []) q) (sym (append-nil covered)) (subst (λ (l : List ℕ). Reported before covered l q) (sym (append-nil ts)) told)
 told-run before covered ts q (step ∷ steps) (reply ∷ replies) (q1 ∷ states) told run =
     let first = told-stepped before covered ts q step reply q1 told run.0 in
     let rest = told-run before (covered ++ covered_by reply) (ts ++ drawn_by reply) q1 steps replies states first run.1 in
-    subst (λ (l : List Commit). Told before l (ts ++ (drawn_by reply ++ drawn_in replies)) (final q1 states)) (append_assoc covered (covered_by reply) (covered_in replies))
-    (subst (λ (l : List ℕ). Told before ((covered ++ covered_by reply) ++ covered_in replies) l (final q1 states)) (append_assoc ts (drawn_by reply) (drawn_in replies)) rest)
+    subst (λ (l : List Commit). Reported before l (ts ++ (drawn_by reply ++ drawn_in replies)) (final q1 states)) (append_assoc covered (covered_by reply) (covered_in replies))
+    (subst (λ (l : List ℕ). Reported before ((covered ++ covered_by reply) ++ covered_in replies) l (final q1 states)) (append_assoc ts (drawn_by reply) (drawn_in replies)) rest)
 told-run before covered ts q [] [] (q1 ∷ states) told run = absurd run
 told-run before covered ts q [] (r1 ∷ replies) states told run = absurd run
 told-run before covered ts q (s1 ∷ steps) [] states told run = absurd run
 told-run before covered ts q (s1 ∷ steps) (r1 ∷ replies) [] told run = absurd run
 
-told-opened : (start : State) (history : List Commit) → start.history ≡ history → start.drawn ≡ [] → start.hand ≡ None → Told history [] [] start
+told-opened : (start : State) (history : List Commit) → start.history ≡ history → start.drawn ≡ [] → start.hand ≡ None → Reported history [] [] start
 told-opened start history same drawn hand = grind (arith, append-nil)
 
 -- ---- what a stop adds
@@ -428,7 +428,7 @@ told-life-opened : (before : World) (start : State) (steps done : List Step) (re
     → AddsDrawn before steps replies after × All (λ t. has_timestamp after.history t ≡ true) (flat_map acknowledged_by replies ++ (if has_closed c then drawn_in replies else []))
 told-life-opened before start steps done replies states closes opening c after opens runs same drawn hand run ends =
     let q : State = final start states in
-    let told : Told before.history (covered_in replies) (drawn_in replies) q = told-run before.history [] [] start done replies states (told-opened start before.history same drawn hand) run in
+    let told : Reported before.history (covered_in replies) (drawn_in replies) q = told-run before.history [] [] start done replies states (told-opened start before.history same drawn hand) run in
     let left = end-leaves q closes c before.lost after ends in
     let each : All (λ t. has_timestamp (covered_in replies ++ uncovered q) t ≡ true) (drawn_in replies) =
     All-weaker (λ t. has_timestamp (covered_in replies ++ drawn_of q) t ≡ true) (λ t. has_timestamp (covered_in replies ++ uncovered q) t ≡ true) (λ t h. uncovered-has (covered_in replies) q t h) (drawn_in replies) told.each in (

@@ -10,7 +10,7 @@ use Rattle.base.specs.Layout.{Layout, is_known_version}
 use Rattle.base.specs.Records.{Record}
 use Rattle.base.specs.Images.{Image, IsSound, layout_of, ruling, is_formatted, has_good_geometry, is_wrong_gate, is_ruled, ruling_place, is_bad_slot, IsRuledBy, log_damage}
 use Rattle.recovery.specs.Slots.{IsSlotsFault, bad_below}
-use Rattle.recovery.specs.Read.{IsLogRefusal, IsRead, IsReadRefusal, TellsLogFault, rows_below}
+use Rattle.recovery.specs.Read.{IsLogRefusal, IsRead, IsReadRefusal, ReportsLogFault, rows_below}
 use Rattle.recovery.proofs.openings.Images.{known-good}
 use Rattle.recovery.specs.Opened.{Examined}
 use Rattle.recovery.specs.declared.rows.LiveSlot.{LiveSlot}
@@ -22,7 +22,7 @@ pub refusal-log : (image : Image) (fault : Fault) → IsLogRefusal image fault �
 refusal-log image fault (inl is) = inl (log-first image fault is)
 refusal-log image fault (inr memory) = inr memory
 
-pub tells-read : (image : Image) (fault : Fault) → IsLogRefusal image fault → TellsLogFault image fault
+pub tells-read : (image : Image) (fault : Fault) → IsLogRefusal image fault → ReportsLogFault image fault
 tells-read image fault (inl is) = inl is
 tells-read image fault (inr memory) = inr memory.0
 
@@ -38,7 +38,7 @@ module _ (layout : Layout) (r : Record) (image : Image) (rules : IsRuledBy layou
   pub log-none : log_damage image ≡ None
   log-none = first-is None
 
-  pub tells-later : (fault : Fault) → TellsLogFault image fault
+  pub tells-later : (fault : Fault) → ReportsLogFault image fault
   tells-later fault = inr log-none
 
   pub refusal-slots : (fault : Fault) → IsSlotsFault layout image fault → IsReadRefusal image fault
@@ -57,7 +57,7 @@ module _ (layout : Layout) (r : Record) (image : Image) (rules : IsRuledBy layou
   is-read none rows are = grind (arith, no-damage) steps 800000
 
 -- what is answered where an image was examined
-pub tells-examined : (image : Image) (layout : Layout) (r : Record) (gaps : Option (List Gap)) (free : List Bool) (live : List LiveSlot) → Examined image layout r gaps free live → (fault : Fault) → TellsLogFault image fault
+pub tells-examined : (image : Image) (layout : Layout) (r : Record) (gaps : Option (List Gap)) (free : List Bool) (live : List LiveSlot) → Examined image layout r gaps free live → (fault : Fault) → ReportsLogFault image fault
 tells-examined image layout r gaps free live ex = tells-later layout r image (is image layout r gaps free live ex).rules
 
 -- want of memory is all that a sound image is refused for

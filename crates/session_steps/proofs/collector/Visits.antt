@@ -54,7 +54,7 @@ use Rattle.collect_simulation.specs.Garbage.{is_covered_for}
 use Rattle.collect_simulation.specs.Visits.{visit_operations}
 use Rattle.collect_simulation.proofs.Visits.{visits-lead}
 use Rattle.collect_simulation.proofs.Counting.{visits-count}
-use Rattle.collect_simulation.proofs.Garbage.{ends-tell-garbage}
+use Rattle.collect_simulation.proofs.Garbage.{ends-show-garbage}
 use Rattle.session_steps.specs.declared.sessions.Sessions.{Sessions}
 use Rattle.session_steps.specs.Shows.{Hidden, plain_of, plain_session, HoldsSession, HoldsEntry, Agrees, ShowsAny}
 use Rattle.session_steps.specs.Steps.{is_by_actor, HoldsOn, ShowsSome}
@@ -212,7 +212,7 @@ module _ (s : Sessions) (h : Hidden) (before now : Device) (holds : HoldsOn s h 
     covered-garbage : (v : Version) → h.held place ≡ Some v → covered ≡ is_garbage q place
     covered-garbage v there =
         (λ i. covers (ruled i) end && list_all (λ n. covered-same end (h.seen n) (transaction_at s.transactions n) i) session_numbers)
-        ∙ ends-tell-garbage h.origin q before snapshots place v holds.works orderly u (λ n begun writes active. sees-in h.origin q n (h.seen n) (transaction_at s.transactions n) begun writes (holds.agrees.sessions n) active) lt there
+        ∙ ends-show-garbage h.origin q before snapshots place v holds.works orderly u (λ n begun writes active. sees-in h.origin q n (h.seen n) (transaction_at s.transactions n) begun writes (holds.agrees.sessions n) active) lt there
 
     bare-live : h.held place ≡ None → is_garbage q place ≡ false
     bare-live none = ap (λ (o : Option Version). replace h.history o && list_all (λ n. sees_replaced h.history o (q.sessions n)) session_numbers) none

@@ -7,7 +7,7 @@ use Rattle.std.proofs.lemmas.List.{get_or-set_same, get_or-set_other, length-set
 use Rattle.std.proofs.lemmas.List.Elements.{Contains-append_left, Contains-push, Contains-push_cases}
 use Rattle.std.proofs.lemmas.Option.{slice_get-get_or, slice_get_past, get_or_from_slice_get}
 use Rattle.txn.specs.declared.write.Write.{Write}
-use Rattle.session_steps.specs.Giving.{fits_slot, fits_writes, GivesBack}
+use Rattle.session_steps.specs.Giving.{fits_slot, fits_writes, ReleasesSlots}
 
 -- ---- which slots there are
 
@@ -41,7 +41,7 @@ given-other free slot other apart = by (cases_lt other (length free))
 -- ---- the slots of one write after the other
 
 -- a write without a slot
-pub gives-no_slot : (writes : List Write) (write : Write) (old new : List Bool) → write.slot ≡ None → GivesBack writes old new → GivesBack (writes ++ write ∷ []) old new
+pub gives-no_slot : (writes : List Write) (write : Write) (old new : List Bool) → write.slot ≡ None → ReleasesSlots writes old new → ReleasesSlots (writes ++ write ∷ []) old new
 gives-no_slot writes write old new none gives = record {
   size = gives.size;
   given = λ other slot in_set has. by other slot has (Contains-push_cases writes write other in_set);
@@ -55,7 +55,7 @@ gives-no_slot writes write old new none gives = record {
         absurd (cc both)
 
 -- a write with one
-pub gives-slot : (writes : List Write) (write : Write) (slot : ℕ) (old new : List Bool) → write.slot ≡ Some slot → slot < length old → GivesBack writes old new → GivesBack (writes ++ write ∷ []) old (set new slot true)
+pub gives-slot : (writes : List Write) (write : Write) (slot : ℕ) (old new : List Bool) → write.slot ≡ Some slot → slot < length old → ReleasesSlots writes old new → ReleasesSlots (writes ++ write ∷ []) old (set new slot true)
 gives-slot writes write slot old new own lt gives = record {
   size = length-set new slot true ∙ gives.size;
   given = λ other at in_set has. by other at has (Contains-push_cases writes write other in_set) (cases_eq at slot);
@@ -76,12 +76,12 @@ gives-slot writes write slot old new own lt gives = record {
 
 -- ---- the next of the writes
 
-module _ (items : List Write) (i : ℕ) (write : Write) (old now : List Bool) (lt : i < length items) (at : slice_get items i ≡ Some write) (gives : GivesBack (take i items) old now) where
+module _ (items : List Write) (i : ℕ) (write : Write) (old now : List Bool) (lt : i < length items) (at : slice_get items i ≡ Some write) (gives : ReleasesSlots (take i items) old now) where
   one_more : take (i + 1) items ≡ take i items ++ write ∷ []
   one_more = take_more items i write lt ∙ ap (λ (w : Write). take i items ++ w ∷ []) (get_or_from_slice_get items i write write at)
 
-  pub gives-next_none : write.slot ≡ None → GivesBack (take (i + 1) items) old now
-  gives-next_none none = subst (λ (ws : List Write). GivesBack ws old now) (sym one_more) (gives-no_slot (take i items) write old now none gives)
+  pub gives-next_none : write.slot ≡ None → ReleasesSlots (take (i + 1) items) old now
+  gives-next_none none = subst (λ (ws : List Write). ReleasesSlots ws old now) (sym one_more) (gives-no_slot (take i items) write old now none gives)
 
-  pub gives-next_slot : (slot : ℕ) → write.slot ≡ Some slot → slot < length old → GivesBack (take (i + 1) items) old (set now slot true)
-  gives-next_slot slot own below = subst (λ (ws : List Write). GivesBack ws old (set now slot true)) (sym one_more) (gives-slot (take i items) write slot old now own below gives)
+  pub gives-next_slot : (slot : ℕ) → write.slot ≡ Some slot → slot < length old → ReleasesSlots (take (i + 1) items) old (set now slot true)
+  gives-next_slot slot own below = subst (λ (ws : List Write). ReleasesSlots ws old (set now slot true)) (sym one_more) (gives-slot (take i items) write slot old now own below gives)

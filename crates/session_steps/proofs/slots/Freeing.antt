@@ -26,7 +26,7 @@ use Rattle.state_invariant.specs.Kept.{version_by}
 use Rattle.state_invariant.proofs.Lookups.{apart-keys, held-by}
 use Rattle.state_invariant.proofs.sessions.Steps.{version-parts, own-at}
 use Rattle.session_steps.specs.declared.sessions.Sessions.{Sessions}
-use Rattle.session_steps.specs.Giving.{fits_slot, fits_writes, GivesBack, own_of, given, is_full_of}
+use Rattle.session_steps.specs.Giving.{fits_slot, fits_writes, ReleasesSlots, own_of, given, is_full_of}
 use Rattle.step_simulation.specs.Moves.{IsSlotOf}
 use Rattle.session_steps.specs.Shows.{Hidden, plain_of, plain_session, HasItsSlot, HoldsSession}
 use Rattle.session_steps.specs.Steps.{Holds, Goes}
@@ -66,7 +66,7 @@ nobodys n None is = refl
 nobodys n (Some v) is = is
 
 pub aborts : (s : Sessions) (ts : List (Option Transaction)) (slots : List Bool) (n : ℕ) (snapshot : Seen) (writes : List Write) (h : Hidden) → transaction_at s.transactions n ≡ Some (Active snapshot writes)
-    → GivesBack writes s.slots slots → Sets s.transactions ts n None → Holds s h → Goes s (record s { transactions = ts; slots = slots }) (Abort n) Done h
+    → ReleasesSlots writes s.slots slots → Sets s.transactions ts n None → Holds s h → Goes s (record s { transactions = ts; slots = slots }) (Abort n) Done h
 aborts s ts slots n snapshot writes h at gives sets holds = record {
   next = record h { held = held_after_abort (plain_of s h) n };
   origin = refl;

@@ -18,7 +18,7 @@ use Rattle.console.proofs.run.run.Goals as goal
 
 pub returns-clause-lives : goal.returns-clause-lives
 returns-clause-lives g c =
-    let told = c.in_ok-show_opened.ensures.told in
+    let told = c.in_ok-show_opened.ensures.printed in
     let made = c.in_ok-keeps.ensures.obeys in
     let over = c.in_ok-left.ensures.ends in
     record {
@@ -63,7 +63,7 @@ returns-in_err-show_opened-clause-bad_line g c =
 
 pub returns-in_err-keeps-clause-bad_line : goal.returns-in_err-keeps-clause-bad_line
 returns-in_err-keeps-clause-bad_line g c =
-    let told = c.in_ok-show_opened.ensures.told in
+    let told = c.in_ok-show_opened.ensures.printed in
     passed_on c.from_residual-in_err-keeps.result _ _ _ c.from_residual-in_err-keeps.ensures.1
     (λ at met. ends-at device_of c.in_ok-room.room c.args.file.now c.in_ok-words.words.items (g.R.Read.remaining c.args.input.now) (g.W.Write.contents c.args.output.now)
     (g.W.Write.contents c.show_opened.new.output) (g.W.Write.contents c.obey_lines.new.output) told.0 at c.in_ok-words.ensures.ok
@@ -89,7 +89,7 @@ returns-in_err-show_opened-clause-refused g c =
 
 pub returns-in_err-left-clause-refused : goal.returns-in_err-left-clause-refused
 returns-in_err-left-clause-refused g c =
-    let told = c.in_ok-show_opened.ensures.told in
+    let told = c.in_ok-show_opened.ensures.printed in
     let made = c.in_ok-keeps.ensures.obeys in
     fault-on c.from_residual-in_err-left.result _
     (λ fault. (fault ≡ OutOfMemory) ⊎ ((c.in_ok-keeps.keeps ≡ None) × (g.W.Write.contents c.end.new.output ≡ g.W.Write.contents c.obey_lines.new.output)

@@ -6,7 +6,7 @@ use Rattle.engine.proofs.worker.finish_turn.Goals as goal
 pub returns-in-Some-post-clause-posted : goal.returns-in-Some-post-clause-posted
 returns-in-Some-post-clause-posted g c =
     let made : c.args.made ≡ Some (c.in-Some.reply, c.in-Some.receipt) = c.in-Some.is in
-    turn-posted g.J.Origin.image c.args.made c.in-Some.reply c.in-Some.receipt c.in-Some-receipt.receipt c.in-Covered.batch c.in-Some-post.told c.requires made c.in-Some-receipt.is c.in-Covered.is c.in-Some-post.ensures.0
+    turn-posted g.J.Origin.image c.args.made c.in-Some.reply c.in-Some.receipt c.in-Some-receipt.receipt c.in-Covered.batch c.in-Some-post.published c.requires made c.in-Some-receipt.is c.in-Covered.is c.in-Some-post.ensures.0
 
 pub returns : goal.returns
 returns g c =

@@ -30,7 +30,7 @@ returns-clause-ok g c =
     let one = lives before w (same ∙ sym (ap image_of c.set_fuse.ensures.device)) in
     record {
       replies = one.replies;
-      tells = one.tells;
+      reported = one.reported;
       after = one.after;
       leaves = one.leaves;
       lives = one.lives;

@@ -37,7 +37,7 @@ returns-in-Ok-checked-clause-ok g c =
     let so = plays q opened.2 in
     lived-played image left c.in-Ok-checked.found.rows.items life played.0 so.replies before q
     (λ (replies : List Reply). StopsBy life.choice old (ReportsDevice played.0) (LivesOn old before life played.0 replies) left)
-    c.in-Ok.ensures.may_open lists w same opened.1 (so.played (ap (λ (x : State). x.failed) opened.1.2)) so.tells
+    c.in-Ok.ensures.may_open lists w same opened.1 (so.played (ap (λ (x : State). x.failed) opened.1.2)) so.reported
     (opened-stops life played.0 so.replies before q old mid left
     (opens-on old mid image before q c.in-Ok.room.volatile same opened.1 c.in-Ok.ensures.made
     (c.in-Ok.ensures.images before.history before.drawn before.next stands) opened.2.agrees.shown)

@@ -31,12 +31,12 @@ returns-clause-ok c = λ q shows.
     subst (λ (steps : List Repeated). HasObeyed q device steps c.in-Ok.obeyed.replies.items failed mid (Shows device_of c.obey.new.room)) c.as_slice.ensures.value (c.in-Ok.ensures q shows) in
     record {
       replies = obeyed.replies;
-      tells = obeyed.tells;
+      reported = obeyed.reported;
       played = λ works.
           played-so q device mid c.args.rows.items c.args.life.now report image failed (Shows device_of c.obey.new.room) works
           (opens-so q s.gate s.persisted s.dirty s.next s.gaps c.args.rows.items says.gate says.persisted says.dirty says.next says.gaps)
           obeyed
           (λ last here may. subst (λ (b : Bool). HasEnded last b (closed_of c.in_ok-closed.closed) image) both
           (c.in_ok-closed.ensures.ok last here (subst (λ (b : Bool). MayAsk b last) (sym both) may)));
-      stopped = played-stops c.args.life.now q obeyed.last device mid image opened report obeyed.replies refl obeyed.tells obeyed.runs (c.in_ok-closed.ensures.stopped obeyed.last obeyed.after_it);
+      stopped = played-stops c.args.life.now q obeyed.last device mid image opened report obeyed.replies refl obeyed.reported obeyed.runs (c.in_ok-closed.ensures.stopped obeyed.last obeyed.after_it);
     }

@@ -7,13 +7,13 @@ use Rattle.pmem_model.specs.Sim.{device_of}
 use Rattle.room.specs.Room.{Shows, device_of as device_in}
 use Rattle.lives.specs.Parts.{HasObeyed}
 use Rattle.lives.specs.declared.life.Repeated.{Repeated}
-use Rattle.lives.proofs.Taken.{ToldSoFar, told-none, told-more, obeyed-all, obeyed-failed}
+use Rattle.lives.proofs.Taken.{ReportedSoFar, told-none, told-more, obeyed-all, obeyed-failed}
 use Rattle.lives.proofs.obeying.obey.Goals as goal
 
 pub loop-asked-init : goal.loop-asked-init
 loop-asked-init c = λ q shows.
     let device = device_in device_of c.args.room.now in
-    subst (λ (r : List (Option Reply)). ToldSoFar q device [] r device (Shows device_of c.args.room.now)) (sym c.in_ok-replies.ensures.items)
+    subst (λ (r : List (Option Reply)). ReportedSoFar q device [] r device (Shows device_of c.args.room.now)) (sym c.in_ok-replies.ensures.items)
     (told-none q device (Shows device_of c.args.room.now) shows)
 
 pub loop-asked-preserved : goal.loop-asked-preserved
@@ -28,8 +28,8 @@ loop-asked-preserved c = λ q shows.
     let before = c.loop-asked.invariant q shows in
     let done : take (i + 1) steps ≡ take i steps ++ asked ∷ [] =
     ap (λ n. take n steps) (add-one i) ∙ take-suc steps i asked c.loop-asked-test.true ∙ ap (λ (s : Repeated). take i steps ++ s ∷ []) (sym c.asked-item.is) in
-    subst (λ (s : List Repeated). ToldSoFar q device s c.push.new.self.items next (Shows device_of c.repeat-answer.new.room)) (sym done)
-    (subst (λ (r : List (Option Reply)). ToldSoFar q device (take i steps ++ asked ∷ []) r next (Shows device_of c.repeat-answer.new.room)) (sym c.in_ok-push.ensures.items)
+    subst (λ (s : List Repeated). ReportedSoFar q device s c.push.new.self.items next (Shows device_of c.repeat-answer.new.room)) (sym done)
+    (subst (λ (r : List (Option Reply)). ReportedSoFar q device (take i steps ++ asked ∷ []) r next (Shows device_of c.repeat-answer.new.room)) (sym c.in_ok-push.ensures.items)
     (told-more q device now next (take i steps) c.loop-asked.replies.items (Shows device_of c.loop-asked.room) (Shows device_of c.repeat-answer.new.room) asked answer
     (sym c.if-failed.ensures) before (c.repeat-answer.ensures before.so_far.at before.so_far.after_it)))
 

@@ -9,5 +9,5 @@ returns c = record {
   grow = λ before asked reports after w lives. record { history = (lives-lived before asked reports after w lives).0; lost = lives-lose before asked reports after lives };
   add = lives-add;
   acknowledged = lives-acknowledge;
-  told = close-told;
+  closes = close-told;
 }

@@ -16,7 +16,7 @@ returns-clause-held g c = λ image are.
     let n = c.args.geometry.slots in
     let readings = c.args.readings.now in
     let made = c.in-Ok.made in
-    let told = c.in-Ok.ensures.told in
+    let told = c.in-Ok.ensures.findings in
     let live = made.1.live in
     let placed-so : IsFromIterResult key_cmp (placed 0 live.items) made.0 =
     subst (λ (pairs : List (Key × ℕ)). IsFromIterResult key_cmp pairs made.0) (ap (numbered 0) (sym told.keys) ∙ placed-numbered 0 live.items) c.in-Ok.ensures.places in

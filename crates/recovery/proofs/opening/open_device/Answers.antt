@@ -8,7 +8,7 @@ use Rattle.base.specs.Records.{Record}
 use Rattle.base.specs.Images.{Image, opening_fault}
 use Rattle.pmem.specs.Device.{Device}
 use Rattle.pmem.specs.Words.{image_of}
-use Rattle.recovery.specs.Read.{TellsLogFault}
+use Rattle.recovery.specs.Read.{ReportsLogFault}
 use Rattle.recovery.specs.declared.examining.Examined.{Examined as Found}
 use Rattle.recovery.specs.declared.rows.LiveSlot.{LiveSlot}
 use Rattle.recovery.specs.declared.opening.OpenedImage.{OpenedImage}
@@ -38,7 +38,7 @@ refused-later : (old new : Device) (result : Result OpenedImage Fault) (layout :
 refused-later old new (Ok life) layout r gaps free live ex is more = tt
 refused-later old new (Err fault) layout r gaps free live ex is more = refusal-device old new fault layout r gaps free live ex is more
 
-told-later : (image : Image) (result : Result OpenedImage Fault) (layout : Layout) (r : Record) (gaps : Option (List Gap)) (free : List Bool) (live : List LiveSlot) → Examined image layout r gaps free live → IfErr result (TellsLogFault image)
+told-later : (image : Image) (result : Result OpenedImage Fault) (layout : Layout) (r : Record) (gaps : Option (List Gap)) (free : List Bool) (live : List LiveSlot) → Examined image layout r gaps free live → IfErr result (ReportsLogFault image)
 told-later image (Ok life) layout r gaps free live ex = tt
 told-later image (Err fault) layout r gaps free live ex = tells-examined image layout r gaps free live ex fault
 

@@ -6,5 +6,5 @@ use Rattle.engine.proofs.engine.Engine+D+J+Board+J+R.start.Goals as goal
 pub returns-clause-first : goal.returns-clause-first
 returns-clause-first g c = omega (arith, ap length c.history.ensures.entries)
 
-pub returns-clause-told : goal.returns-clause-told
-returns-clause-told g c = λ q shows. subst (λ (list : Published). IsStartedOn q list) (sym c.token-told.ensures) (c.in-Ok.ensures.board q shows)
+pub returns-clause-published : goal.returns-clause-published
+returns-clause-published g c = λ q shows. subst (λ (list : Published). IsStartedOn q list) (sym c.token-published.ensures) (c.in-Ok.ensures.board q shows)

@@ -25,21 +25,21 @@ has_failed (Some reply) = is_failure reply
 
 -- What is told of the replies to one step: the last of them, which each has from the first on that is a refusal or says that
 -- nothing is left to do. Nothing is told where there is none
-abbrev pub IsTold : List Reply → Option Reply → Type 0
-IsTold replies None = replies ≡ []
-IsTold replies (Some answer) =
+abbrev pub IsReported : List Reply → Option Reply → Type 0
+IsReported replies None = replies ≡ []
+IsReported replies (Some answer) =
     (before : List Reply) × (more : ℕ) × All (λ reply. is_final reply ≡ false) before × (replies ≡ before ++ replicate (suc more) answer)
 
 -- the same of steps that follow each other, up to the one in which the device failed: each has as many replies as it is asked for,
 -- but for that one
-abbrev pub AreTold : List Repeated → List Reply → List (Option Reply) → Type 0
-AreTold [] replies told = (replies ≡ []) × (told ≡ [])
-AreTold (asked ∷ more) replies [] = ⊥
-AreTold (asked ∷ more) replies (answer ∷ told) =
-    (own : List Reply) × (later : List Reply) × (replies ≡ own ++ later) × IsTold own answer
-    × (((has_failed answer ≡ true) × (later ≡ []) × (told ≡ [])) ⊎ ((has_failed answer ≡ false) × (length own ≡ asked.times) × AreTold more later told))
+abbrev pub AreReported : List Repeated → List Reply → List (Option Reply) → Type 0
+AreReported [] replies kept = (replies ≡ []) × (kept ≡ [])
+AreReported (asked ∷ more) replies [] = ⊥
+AreReported (asked ∷ more) replies (answer ∷ kept) =
+    (own : List Reply) × (later : List Reply) × (replies ≡ own ++ later) × IsReported own answer
+    × (((has_failed answer ≡ true) × (later ≡ []) × (kept ≡ [])) ⊎ ((has_failed answer ≡ false) × (length own ≡ asked.times) × AreReported more later kept))
 
 -- the same of a life; one that doesn't open takes no step
-abbrev pub TellsOf : Result Opened Fault → List Repeated → List Reply → List (Option Reply) → Type 0
-TellsOf (Ok opened) asked replies told = AreTold asked replies told
-TellsOf (Err fault) asked replies told = (replies ≡ []) × (told ≡ [])
+abbrev pub ReportsOf : Result Opened Fault → List Repeated → List Reply → List (Option Reply) → Type 0
+ReportsOf (Ok opened) asked replies kept = AreReported asked replies kept
+ReportsOf (Err fault) asked replies kept = (replies ≡ []) × (kept ≡ [])

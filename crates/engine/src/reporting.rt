@@ -12,19 +12,19 @@ impl<D: Pmem + Drop, J: Origin, R: Wait + Drop> Session<D, J, Board<J, R>> {
 
     /// What is published now, which may not cover the session's last commit yet. Each call has a token of its own.
     pub fn token<W: Wait>(&self, rt: &W) -> Token<J>
-        ensures { Begins self.now.told result }
+        ensures { Begins self.now.published result }
     {
         let board = self.shared.board.lock(rt);
-        newest(&board, &self.told)
+        newest(&board, &self.published)
     }
 }
 
 ghost use Rattle.board.specs.Lists.{Begins};
 
 // What the board has published, and all that was told before.
-fn newest<J: Naming, R: Wait + Drop>(board: &Board<J, R>, told: &Token<J>) -> Token<J>
+fn newest<J: Naming, R: Wait + Drop>(board: &Board<J, R>, known: &Token<J>) -> Token<J>
     ensures board { Begins board.now.list result }
-    ensures told { Begins told.now result }
+    ensures known { Begins known.now result }
 {
-    told.again().later(board.token())
+    known.again().later(board.token())
 }
