@@ -10,7 +10,7 @@ pub type Past = (Life, bool);
 /// Session 2 draws, stamps its one row, and is covered by a cycle of one line.
 pub const ONE_LINE_COVERED: &[Ask] = &[Draw(2), Stamp(2), Commit(42)];
 
-/// By one of two lines, and is told.
+/// By one of two lines, and polls it.
 pub const TWO_LINES_COVERED: &[Ask] = &[Draw(2), Stamp(2), Commit(43), Poll(2)];
 
 /// It stamps two rows, and is covered by a cycle of three lines.

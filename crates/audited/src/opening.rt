@@ -21,7 +21,7 @@ impl<D: Pmem + Drop + Send + Sync> Audited<D> {
     ghost use Rattle.room.specs.Room.{Shows, ShowsStatus, device_of};
     ghost use Rattle.audited.specs.Audit.{IsAudited};
 
-    /// Opens a device at rest, as a room is opened, with an empty history; gives it back where it is refused.
+    /// Opens a device at rest, as a room is opened, with an empty history; returns it with the fault where it is refused.
     pub fn open<R: Threads + Sync>(
         rt: &R,
         alloc: Global,

@@ -34,7 +34,7 @@ is_eq-nat a b = grind (arith, nat_tests)
 is_lt-nat : (a b : ℕ) → is_lt (nat_cmp a b) ≡ nat_lt a b
 is_lt-nat a b = grind (arith, nat_tests)
 
--- the order tells two keys apart exactly where they differ
+-- the order distinguishes two keys exactly where they differ
 pub is_at-key : (key other : Key) → is_at (key_cmp key) other ≡ key_eq key other
 is_at-key key other =
     is_eq-then (nat_cmp key.table other.table) (nat_cmp key.key other.key)

@@ -3,7 +3,7 @@ use Rattle.std.proofs.Common.{◌≡◌, ℕ, ◌-◌, ◌≤◌, List, ◌++◌
 use Rattle.std.proofs.lemmas.List.{take-append-drop, length-take-le}
 use Rattle.base.specs.declared.longs.Longs.TheInside.{Inside}
 
--- the list gives the fields back, since what is past the length is 0
+-- the list determines the fields, since what is past the length is 0
 pub inverse_ok_lem : (n : ℕ) (timestamps : List ℕ) → n ≤ 12 → length timestamps ≡ 12 → drop n timestamps ≡ replicate (12 - n) 0
     → ◌≡◌ {A = Inside} (record { len = length (take n timestamps); timestamps = take n timestamps ++ replicate (12 - length (take n timestamps)) 0 }) (record { len = n; timestamps = timestamps })
 inverse_ok_lem n timestamps h whole rest =

@@ -1,4 +1,4 @@
--- What a reply tells: a failing device, rows, or what a history keeps of it.
+-- What a reply reports: a failing device, rows, or what a history keeps of it.
 use Rattle.std.specs.Prelude.{ℕ, ◌≡◌, Bool, true, false, List}
 use Rattle.base.specs.declared.key.Key.{Key}
 use Rattle.base.specs.declared.fault.Fault.TheVariants.{Device}

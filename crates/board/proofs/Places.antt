@@ -27,7 +27,7 @@ use Rattle.board.proofs.Puts.{unwritten_first}
 abbrev pub place_cmp : Place → Place → Ordering
 place_cmp a b = ordering_then (key_cmp a.key b.key) (nat_cmp a.stamp b.stamp)
 
--- the order tells two places apart exactly where they differ
+-- the order distinguishes two places exactly where they differ
 pub is_at-place : (p q : Place) → is_at (place_cmp p) q ≡ (key_eq p.key q.key && nat_eq p.stamp q.stamp)
 is_at-place p q = is_eq-then (key_cmp p.key q.key) (nat_cmp p.stamp q.stamp) ∙ (λ i. is_at-key p.key q.key i && is_eq-nat p.stamp q.stamp i)
 

@@ -1,4 +1,4 @@
--- The rule of the book, and what its steps tell.
+-- The rule of the book, and what its steps report.
 use Rattle.std.specs.Prelude.{ℕ, ◌≡◌, ◌==◌, true, List, [], ◌∷◌, ◌++◌, length, drop, ◌-◌}
 use Rattle.std.specs.Bool.{OnTrue}
 use Rattle.logbook.specs.Pages.{Cell, Step, View, Book, Named}

@@ -241,7 +241,7 @@ impl<J: Naming, R: Wait + Drop> BoardWriter<J, Shelf<J>, Step<J>, R> {
         }
     }
 
-    /// Tells what is published.
+    /// Returns what is published.
     pub fn token(&self) -> Token<J>
         ensures { result ≡ self.now.list }
     {
@@ -252,8 +252,8 @@ impl<J: Naming, R: Wait + Drop> BoardWriter<J, Shelf<J>, Step<J>, R> {
         }
     }
 
-    /// Tells what is published once what waits is. Readers don't see all of it before, so it is kept to be compared with what is
-    /// told later.
+    /// Returns what is published once what waits is. Readers don't see all of it before, so it is kept to be compared with what is
+    /// returned later.
     pub fn announced(&self) -> Token<J>
         ensures { result ≡ whole self.now }
     {

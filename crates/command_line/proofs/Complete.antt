@@ -28,7 +28,7 @@ same_tail x y xs ys h = ap (drop 1) h
 
 -- ---- the names of options
 
--- the fifth letter tells them apart
+-- the fifth letter distinguishes them
 abbrev letter : Choice → ℕ
 letter Slots = 111
 letter Places = 97

@@ -17,7 +17,7 @@ use Rattle.command_line.proofs.Complete.{no_cons, same_head, same_tail}
 
 -- ---- the subcommands
 
--- the first letter tells them apart
+-- the first letter distinguishes them
 abbrev initial : Order → ℕ
 initial (Format name wide slots places window) = 102
 initial (Run name) = 114

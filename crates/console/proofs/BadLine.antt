@@ -1,4 +1,4 @@
--- How a line that is no command is met, passed on and told.
+-- How a line that is no command is met, passed on and reported.
 use Rattle.std.proofs.Common.{◌≡◌, ℕ, ◌+◌, ◌-◌, ◌^◌, false, List, [], ◌∷◌, ◌++◌, length, sym, ◌∙◌, ap, subst, append-nil}
 use Rattle.std.specs.Prelude.{Option, Some, None, is_some, option_map, option_and_then, Result, Ok, Err, IsErrAnd, IfErr, IfSome, All, min, ⊤}
 use Rattle.std.specs.Io.KnownBytes.{Appends}

@@ -125,7 +125,7 @@ refused-last stop mid new (Some after) known told =
 
 -- ---- the faults
 
--- the fault that is told of a device without a fuse
+-- the fault that is reported of a device without a fuse
 pub opening-fault : (image : Image) (old new : Device) (fault told : Fault) → (fault ≡ DeviceFault → told ≡ OutOfMemory) → (told ≡ OutOfMemory) ⊎ (told ≡ fault)
     → IsRefusal (opening_fault image) old new fault → (told ≡ OutOfMemory) ⊎ IsOpeningFault image told
 opening-fault image old new fault told memory (inl is) refusal = inl is
@@ -133,7 +133,7 @@ opening-fault image old new fault told memory (inr is) (inl (inl why, same)) = i
 opening-fault image old new fault told memory (inr is) (inl (inr wants, same)) = inl (is ∙ wants)
 opening-fault image old new fault told memory (inr is) (inr (none, device, more)) = inl (memory device)
 
--- what is told is not that the device failed
+-- what is reported is not that the device failed
 pub never-device : (fault told : Fault) → (fault ≡ DeviceFault → told ≡ OutOfMemory) → told ≡ fault → told ≡ DeviceFault → ⊥
 never-device fault told memory is device = let clash : OutOfMemory ≡ DeviceFault = sym (memory (sym is ∙ device)) ∙ device in cc clash
 

@@ -96,7 +96,7 @@ told-other image sessions fault told memory is free other = record {
       (made.0, made.1, (made.2, record { slots = λ e. other (sym is ∙ e); device = λ e. never-device fault told memory is e }));
 }
 
--- what is told of a load on a device without a fuse
+-- what is reported of a load on a device without a fuse
 pub load-told : (image : Image) (sessions commits : ℕ) (fault told : Fault) → (fault ≡ DeviceFault → told ≡ OutOfMemory) → (told ≡ OutOfMemory) ⊎ (told ≡ fault)
     → IsLoadFault image sessions commits fault → (told ≡ OutOfMemory) ⊎ IsThreadsFault sessions commits image told
 load-told image sessions commits fault told memory (inl is) load = inl is

@@ -60,13 +60,13 @@ asked_of life = record { steps = life.steps.items; closes = life.close; fuse = l
 
 -- ---- what is printed
 
--- the line of what is told of a command: the reply to its step, or to the last of its ticks or visits, which is the first that was
+-- the line of what is reported of a command: the reply to its step, or to the last of its ticks or visits, which is the first that was
 -- refused. What has none is a row that is too long
 abbrev pub answer_text : Option Reply → Text
 answer_text None = refused_text TooLong
 answer_text (Some reply) = reply_text reply
 
--- of a life a line for each command that is told of
+-- of a life a line for each command that is reported
 abbrev pub replies_text : List (Option Reply) → Text
 replies_text reported = flat_map (λ reply. answer_text reply ++ 10 ∷ []) reported
 

@@ -214,7 +214,7 @@ fn print_closed<W: Write>(
     }
 }
 
-// Prints what is told of each command.
+// Prints what is reported of each command.
 fn print_replies<W: Write>(
     alloc: Global,
     replies: &[Option<Reply>],

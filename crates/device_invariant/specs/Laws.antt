@@ -133,7 +133,7 @@ ZeroingKeeps =
 
 -- ---- holders
 
--- A slot's holder stays; or a session gives the slot back; or one takes it, whose begin is 0; or the slot of a version that
+-- A slot's holder stays; or a session releases the slot; or one takes it, whose begin is 0; or the slot of a version that
 -- a covered commit replaced is freed
 pub data ChangesHolder (q : State) (held : ℕ → Option Version) (device : Device) (slot : ℕ) : Type 0 where
   stays : held slot ≡ q.held slot → ChangesHolder q held device slot
@@ -141,7 +141,7 @@ pub data ChangesHolder (q : State) (held : ℕ → Option Version) (device : Dev
   taken : (n : ℕ) (key : Key) → q.held slot ≡ None → held slot ≡ Some (version_by key (BySession n)) → IsSettledAt device (word_of q.layout slot 0) 0 → ChangesHolder q held device slot
   freed : (t : ℕ) (key : Key) → q.held slot ≡ Some (version_by key (ByCommit t)) → drawn_at q t ≡ None → t ≢ last_writer q.history key → held slot ≡ None → ChangesHolder q held device slot
 
--- sessions come and go, slots are given back, taken and freed: what may survive is then as the state says that they lead to
+-- sessions come and go, slots are released, taken and freed: what may survive is then as the state says that they lead to
 abbrev pub HoldersKeep : Type 0
 HoldersKeep =
     (o : Origin) (q : State) (sessions : ℕ → Option Session) (held : ℕ → Option Version) (device : Device) → ((slot : ℕ) → slot < q.layout.slots → ChangesHolder q held device slot)

@@ -102,7 +102,7 @@ asks_some phase n one two three is asks polls ends short = record {
   one_end = short;
 }
 
--- where a transaction is open, a call is declined as its steps tell
+-- where a transaction is open, a call is declined as its steps report
 pub declines : (E : Fault → Type 0) (phase : Phase) (added : List Receipt) (fault : Fault) → phase ≢ Idle → ReportsEnd E added fault → AreUnended added → DeclinesCall E phase added fault
 declines E Idle added fault is_open tells unended = absurd (is_open refl)
 declines E (Active n) added fault is_open tells unended = (tells, unended)

@@ -84,7 +84,7 @@ prune-at list new r few many = by (nat_le (last_stamp list) (list.floor + 15)) r
 pub prune-done : (list : Published) (mid new : Shown) (r : Result (Unit {0}) Fault) → mid ≡ at_rest list → Few mid new r → Many mid new r → IsPruned list new r
 prune-done list mid new r is = subst (λ (m : Shown). Few m new r → Many m new r → IsPruned list new r) (sym is) (prune-at list new r)
 
--- ---- what is told, and what is left
+-- ---- what is reported, and what is left
 
 ends-with : (list : Published) (batch : Batch) → EndsIn (changed list (Add batch)) batch
 ends-with list batch = record { has = Contains-push list.batches batch; stamp = last_from-push list.stamp list.batches batch }

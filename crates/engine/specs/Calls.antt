@@ -28,11 +28,11 @@ ReportsLast added note = (before : List Receipt) × (r : Receipt) × (added ≡ 
 abbrev pub ReportsFault : List Receipt → Fault → Type 0
 ReportsFault added fault = (fault ≡ OutOfMemory) ⊎ ReportsLast added (Refused fault)
 
--- whichever of them polled was told that the commit isn't covered
+-- to whichever of them polled it was reported that the commit isn't covered
 abbrev pub AreUncovered : List Receipt → Type 0
 AreUncovered added = All (λ r. (n : ℕ) → r.step ≡ Poll n → r.note ≡ Waiting) added
 
--- so it is, or the fault is what ended the committer, and no poll told that the commit is covered
+-- so it is, or the fault is what ended the committer, and no poll reported that the commit is covered
 abbrev pub ReportsEnd : (Fault → Type 0) → List Receipt → Fault → Type 0
 ReportsEnd Ended added fault = ReportsFault added fault ⊎ (Ended fault × AreUncovered added)
 
@@ -53,7 +53,7 @@ AskPrepare (Active n) added = (added ≡ []) ⊎ ((r : Receipt) × (rest : List 
 AskPrepare (Drawn n t) added = All (λ s. s.step ≡ Stamp n) added
 AskPrepare _ added = added ≡ []
 
--- why it is refused: the last note tells it; or, where nothing is drawn yet, the fault is what ended the committer, and no step was
+-- why it is refused: the last note says it; or, where nothing is drawn yet, the fault is what ended the committer, and no step was
 -- made. So it is NoSession where no transaction is open; and where all is stamped, or nothing was written, it isn't refused
 abbrev pub DeclinesPrepare : (Fault → Type 0) → Phase → List Receipt → Fault → Type 0
 DeclinesPrepare Ended Idle added fault = (fault ≡ NoSession) × (added ≡ [])
@@ -111,7 +111,7 @@ pub record AskCommit (phase : Phase) (added : List Receipt) : Type 0 where
   pub ends : All (λ r. r.step ≡ End (number_of phase)) end
   pub one_end : length end ≤ 1
 
--- a transaction was open, its last poll's note tells the answer, and an end that was done follows it
+-- a transaction was open, its last poll's note is that of the answer, and an end that was done follows it
 pub record ReportsCommit (phase : Phase) (added : List Receipt) (answer : Option ℕ) : Type 0 where
   pub open_then : phase ≢ Idle
   pub before : List Receipt

@@ -1,4 +1,4 @@
--- What is due for the workers after a step, and who is to be told.
+-- What is due for the workers after a step, and who is to be notified.
 use Rattle.std.specs.Prelude.{◌≡◌, ◌≢◌, ℕ, ◌+◌, ◌*◌, ◌-◌, ◌^◌, ◌<◌, min, Bool, true, false, IsTrue, IsFalse, List, [], length}
 use Rattle.base.specs.Records.{Record}
 use Rattle.base.specs.declared.gap.Gap.{Gap}
@@ -34,13 +34,13 @@ wakes_waiting (Refused DeviceFault) = true
 wakes_waiting (Refused Failed) = true
 wakes_waiting _ = false
 
--- who was to be told is still to be
+-- who was to be notified is still to be
 pub record KeepsNews (old new : News) : Type 0 where
   pub committer : IsTrue old.committer → IsTrue new.committer
   pub collector : IsTrue old.collector → IsTrue new.collector
   pub waiting : IsTrue old.waiting → IsTrue new.waiting
 
--- nobody is to be told
+-- nobody is to be notified
 abbrev pub IsDelivered : News → Type 0
 IsDelivered news = (news.committer ≡ false) × (news.collector ≡ false) × (news.waiting ≡ false)
 
@@ -52,7 +52,7 @@ pub record MakesDue (old new : Due) (reply : Reply) : Type 0 where
   pub visit : IsTrue (wants_visit reply) → IsTrue new.visit
   pub within : IsTrue old.visit → IsFalse new.visit → reply ≡ SweepEnd
 
--- who sleeps is to be told of what is due then, whoever waits for a commit of what was covered, or that nothing may be, and nobody is forgotten
+-- who sleeps is to be notified of what is due then, whoever waits for a commit of what was covered, or that nothing may be, and nobody is forgotten
 pub record NotifiesDue (old new : Due) (reply : Reply) : Type 0 where
   pub committer : IsFalse old.tick → IsTrue new.tick → IsTrue new.news.committer
   pub collector : IsFalse old.visit → IsTrue new.visit → IsTrue new.news.collector

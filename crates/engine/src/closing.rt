@@ -1,4 +1,4 @@
-//! The sessions are counted before the workers are told to end, so that a close that is refused for a missing session changes
+//! The sessions are counted before the workers are asked to end, so that a close that is refused for a missing session changes
 //! nothing, and that session can go on.
 
 ghost use Rattle.std.specs.Prelude.{◌≡◌, ◌↔◌, ◌≤◌, IsTrue, IsFalse, true, None, IfSome, IfNone};
@@ -12,7 +12,7 @@ use audited::Audited;
 use pmem::Pmem;
 use room::Status;
 
-/// Tells the workers to end, exactly where no fewer sessions came back than were handed out. Else all stays as it was.
+/// Asks the workers to end, exactly where no fewer sessions came back than were handed out. Else all stays as it was.
 pub fn may_close<D: Pmem + Drop, J: Origin>(desk: &mut Desk<D, J>, count: u64) -> bool
     ensures may { IsTrue result ↔ (desk.old.handed ≤ count) }
     ensures closing { IsTrue result → desk.new.closing ≡ true }

@@ -14,7 +14,7 @@ use pmem::Pmem;
 use room::Status;
 use std::marker::PhantomData;
 
-/// How often in a row a worker may be refused memory before it sleeps, and whoever waits for the committer is told so.
+/// How often in a row a worker may be refused memory before it sleeps, and the wait for the committer fails.
 pub const REFUSALS: u64 = 100;
 
 /// What a worker does.
@@ -195,7 +195,7 @@ impl<D: Pmem + Drop, J: Origin> Desk<D, J> {
         }
     }
 
-    /// Whom to tell of what was noted since the last call.
+    /// Whom to notify of what was noted since the last call.
     pub fn take_news(&mut self) -> News
         ensures news { result ≡ self.old.due.news }
         ensures delivered { IsDelivered self.new.due.news }

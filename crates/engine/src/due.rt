@@ -8,7 +8,7 @@ ghost use Rattle.engine.specs.Due.{covered_after, tick_after, wants_visit, wakes
 use base::fault::Fault;
 use base::step::Reply;
 
-/// What is due, and who wasn't told yet.
+/// What is due, and who wasn't notified yet.
 #[derive(Clone, Copy, Drop)]
 pub struct Due {
     /// A tick of the committer.
@@ -71,7 +71,7 @@ impl Due {
         self.visit
     }
 
-    /// Whom to tell of what was noted since the last call.
+    /// Whom to notify of what was noted since the last call.
     pub fn take_news(&mut self) -> News
         ensures news { result ≡ self.old.news }
         ensures delivered { IsDelivered self.new.news }

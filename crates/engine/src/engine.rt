@@ -1,5 +1,5 @@
 //! The room's lock is held while the workers are started: they find the room there, or that the engine is being closed, so that
-//! a start that fails can give the room back as it was.
+//! a start that fails can return the room as it was.
 
 use crate::closing::{may_close, take_room};
 use crate::desk::Duty;
@@ -152,9 +152,9 @@ impl<D: Pmem + Drop, J: Origin, B: Drop> Engine<D, J, B> {
         }
     }
 
-    /// Joins the workers and gives the room back. Fails with `WrongState`, and hands everything back, where a session that was
+    /// Joins the workers and returns the room. Fails with `WrongState`, and returns everything, where a session that was
     /// handed out is missing, or the room isn't the one that was lent: it was opened with other numbers, or the receipts of
-    /// the sessions aren't its steps. An engine that is handed back after the joining has no workers.
+    /// the sessions aren't its steps. An engine that is returned after the joining has no workers.
     pub fn close<R: Threads + Wait>(
         mut self,
         rt: &R,

@@ -69,7 +69,7 @@ pub fn post<R: Wait + Drop, D: Pmem + Drop, J: Origin>(
     unreachable!()
 }
 
-// Publishes what is left, and tells what is published then. For want of memory something is left again, and `None` is where it
+// Publishes what is left, and returns what is published then. For want of memory something is left again, and `None` is where it
 // can't be published.
 fn post_left<R: Wait + Drop, J: Naming>(
     board: &mut Board<J, R>,

@@ -21,7 +21,7 @@ impl<D: Pmem + Drop, J: Origin, R: Wait + Drop> Session<D, J, Board<J, R>> {
 
 ghost use Rattle.board.specs.Lists.{Begins};
 
-// What the board has published, and all that was told before.
+// What the board has published, and all that was known before.
 fn newest<J: Naming, R: Wait + Drop>(board: &Board<J, R>, known: &Token<J>) -> Token<J>
     ensures board { Begins board.now.list result }
     ensures known { Begins known.now result }

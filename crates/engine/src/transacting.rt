@@ -1,5 +1,5 @@
 //! A commit waits before it polls: a poll is a step, which the history keeps. A call that failed after its draw can be made
-//! again, and goes on where that left the transaction, since a timestamp that is drawn can't be given back.
+//! again, and goes on where that left the transaction, since a draw can't be undone.
 
 use crate::origin::Origin;
 use crate::phase::Phase;

@@ -96,7 +96,7 @@ module _ (image : Image) (sound : IsSound image) where
       by true is so_far = free-slot n (omega (arith, h)) so_far is
       by false is so_far = live-slot n (omega (arith, h)) so_far is
 
--- what a report tells, from what was read
+-- what a report says, from what was read
 pub reports : (image : Image) (layout : Layout) (r : Record) (read rows : List (Key × List ℕ)) → IsRead image layout r read
     → is_rising (map (λ row. row.0) rows) ≡ true → ((key : Key) → lookup_key rows key ≡ last_at read key) → Reports image r.gate r.persisted r.dirty r.gaps r.longs rows
 reports image layout r read rows is rising same = record {

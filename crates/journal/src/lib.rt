@@ -1,4 +1,4 @@
-//! The entries of a journal in a file, and how a torn one is told from a whole one.
+//! The entries of a journal in a file, and how a torn one is distinguished from a whole one.
 #![tactic(auto)]
 
 mod appending;

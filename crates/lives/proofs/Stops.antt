@@ -110,7 +110,7 @@ steps-go q device (step ∷ steps) (reply ∷ replies) last end (q', next, volat
 steps-go q device [] (reply ∷ replies) last end none = absurd none
 steps-go q device (step ∷ steps) [] last end none = absurd none
 
--- ---- what is told of replies
+-- ---- what is reported of replies
 
 abbrev failed_reply : Reply
 failed_reply = Refused DeviceFault
@@ -126,7 +126,7 @@ repeated-is : {X : Type 0} (n : ℕ) (x y : X) → Contains (replicate n x) y �
 repeated-is zero x y has = absurd (none-yet y has)
 repeated-is (suc n) x y has = first-or x y (Contains (replicate n x) y) (repeated-is n x y) (has-first x (replicate n x) y has)
 
--- a failure is the one that is told
+-- a failure is the one that is reported
 own-told : (own : List Reply) (answer : Option Reply) → IsReported own answer → Contains own failed_reply → answer ≡ Some failed_reply
 own-told own None none has = absurd (none-yet failed_reply (subst (λ (l : List Reply). Contains l failed_reply) none has))
 own-told own (Some answer) (before, more, busy, is) has = by (Contains-append_cases before (replicate (suc more) answer) failed_reply (subst (λ (l : List Reply). Contains l failed_reply) is has))
@@ -143,7 +143,7 @@ told-own own (Some answer) (before, more, busy, made) is =
     (Contains-append_right before (answer ∷ replicate more answer) failed_reply
     (subst (λ (r : Reply). Contains (answer ∷ replicate more answer) r) same (Contains-append_left (answer ∷ []) (replicate more answer) answer (Contains-push [] answer))))
 
--- what is told of a step, and of those after it
+-- what is reported of a step, and of those after it
 abbrev Rest : List Repeated → Repeated → List Reply → List Reply → Option Reply → List (Option Reply) → Type 0
 Rest asked one own later answer told =
     ((has_failed answer ≡ true) × (later ≡ []) × (told ≡ [])) ⊎ ((has_failed answer ≡ false) × (length own ≡ one.times) × AreReported asked later told)

@@ -203,7 +203,7 @@ repeated-so state room q device asked count rest reply orderly times done so_far
 
 -- ---- all steps
 
--- of these so much is told
+-- of these so much is reported
 pub record ReportedSoFar (q : State) (device : Device) (asked : List Repeated) (told : List (Option Reply)) (now : Device) (P : State → Type 0) : Type 0 where
   pub replies : List Reply
   pub so_far : SoFar q device (steps_of asked) replies now P

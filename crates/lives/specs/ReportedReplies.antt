@@ -1,4 +1,4 @@
--- What is told of the replies to steps that are taken again and again.
+-- What is reported of the replies to steps that are taken again and again.
 use Rattle.std.specs.Prelude.{◌≡◌, ◌⊎◌, ℕ, suc, Bool, true, false, List, [], ◌∷◌, ◌++◌, length, flat_map, replicate, All, Option, Some, None, Result, Ok, Err}
 use Rattle.base.specs.declared.fault.Fault.{Fault}
 use Rattle.base.specs.declared.step.Step.{Step}
@@ -18,13 +18,13 @@ is_final Idle = true
 is_final (Refused fault) = true
 is_final _ = false
 
--- the device failed in what this is told of
+-- the device failed in what this is reported of
 abbrev pub has_failed : Option Reply → Bool
 has_failed None = false
 has_failed (Some reply) = is_failure reply
 
--- What is told of the replies to one step: the last of them, which each has from the first on that is a refusal or says that
--- nothing is left to do. Nothing is told where there is none
+-- What is reported of the replies to one step: the last of them, which each has from the first on that is a refusal or says that
+-- nothing is left to do. Nothing is reported where there is none
 abbrev pub IsReported : List Reply → Option Reply → Type 0
 IsReported replies None = replies ≡ []
 IsReported replies (Some answer) =

@@ -14,7 +14,7 @@ use pmem_model::SimPmem;
 use room::Room;
 use std::alloc::{AllocError, Global};
 
-/// What is told of the steps up to the first in which the device failed.
+/// What is reported of the steps up to the first in which the device failed.
 #[derive(Drop)]
 pub struct Obeyed {
     pub replies: Vec<Option<Reply>>,

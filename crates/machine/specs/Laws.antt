@@ -172,7 +172,7 @@ OthersKeepHand = (q : State) (step : Step) (reply : Reply) (q' : State) → Step
 
 -- Lives
 
--- whatever lives come, what a stop leaves stands for the history that it tells of
+-- whatever lives come, what a stop leaves stands for the history that it comes with
 abbrev pub WorldsStand : Type 0
 WorldsStand = (before : World) (asked : List Asked) (reports : List Report) (after : World) → IsWorld before → Lives before asked reports after → IsWorld after
 
@@ -262,6 +262,6 @@ abbrev pub DrawnOnceOverLives : Type 0
 DrawnOnceOverLives = (before : World) (asked : List Asked) (reports : List Report) (after : World) → IsWorld before → Lives before asked reports after
     → RiseBetween before.next (drawn_over reports) after.next
 
--- a close that was asked is told of, unless the device had failed
+-- a close that was asked is reported, unless the device had failed
 abbrev pub CloseReported : Type 0
 CloseReported = (q : State) (lost : List ℕ) (after : World) → q.failed ≡ false → EndsAs q true None lost after → ⊥

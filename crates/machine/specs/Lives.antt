@@ -21,7 +21,7 @@ pub record World : Type 0 where
   pub next : ℕ
   pub lost : List ℕ  -- timestamps that some stop left out
 
--- the image stands for what is told of it
+-- the image stands for what is said of it
 abbrev pub IsWorld : World → Type 0
 IsWorld w = Stands w.image w.history w.drawn w.next
 
@@ -29,7 +29,7 @@ IsWorld w = Stands w.image w.history w.drawn w.next
 abbrev pub left_out : List Commit → List Commit → List ℕ
 left_out history drawn = map (λ c. c.timestamp) (filter (λ c. not (has_timestamp history c.timestamp)) drawn)
 
--- What is told of a life
+-- What is reported of a life
 
 -- a record's numbers
 pub record Numbers : Type 0 where
@@ -42,7 +42,7 @@ pub data Opening : Type 0 where
   Opens : Numbers → ℕ → List Gap → List (Key × List ℕ) → Opening
   Fails : Fault → Opening
 
--- what is told of a life: its opening, the replies to its steps, and its close
+-- what is reported of a life: its opening, the replies to its steps, and its close
 pub record Report : Type 0 where
   pub opening : Opening
   pub replies : List Reply

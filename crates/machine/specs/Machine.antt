@@ -137,11 +137,11 @@ held_with q version None = held_at (free_slot q) version q.held
 abbrev pub held_after_put : State → ℕ → Key → ℕ → Option Version
 held_after_put q n key = held_with q (record { key = key; writer = BySession n }) (own_slot q n key)
 
--- what holds each slot once the session has given back the one for the key, if it has one
+-- what holds each slot once the session has released the one for the key, if it has one
 abbrev pub held_after_delete : State → ℕ → Key → ℕ → Option Version
 held_after_delete q n key slot = if is_own_at n key (q.held slot) then None else q.held slot
 
--- what holds each slot once the session has given back all that it has
+-- what holds each slot once the session has released all that it has
 abbrev pub held_after_abort : State → ℕ → ℕ → Option Version
 held_after_abort q n slot = if is_held_by n (q.held slot) then None else q.held slot
 
@@ -297,7 +297,7 @@ is_misplaced_in q step (Some session) = not (allows step (standing_of q session)
 abbrev pub is_misplaced : State → Step → Bool
 is_misplaced q step = option_map_or (λ n. is_misplaced_in q step (q.sessions n)) (session_of step) false
 
--- what speaks against a step, want of memory and a failing device aside, in this order
+-- the reasons to refuse a step, want of memory and a failing device aside, in this order
 abbrev pub refusals : State → Step → List (Option Fault)
 refusals q step =
     some_if q.failed Failed

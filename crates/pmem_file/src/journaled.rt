@@ -69,7 +69,7 @@ impl<I: Images> JournaledPmem<I> {
     ghost use Rattle.pmem_file.specs.Devices.{MayFind, images_of, kept_at, places_of, state_of};
 
     /// A device at rest with these words, as the image that is kept there has them, and with this number of places for records.
-    /// Where memory is refused, the images are handed back.
+    /// Where memory is refused, the images are returned.
     pub fn new(
         alloc: Global,
         words: Vec<u64>,
@@ -108,7 +108,7 @@ impl<I: Images> JournaledPmem<I> {
         })
     }
 
-    /// How many places for records it has, as it was told.
+    /// How many places for records it was made with.
     pub fn places(&self) -> usize
         ensures { result ≡ places_of self.now }
     {

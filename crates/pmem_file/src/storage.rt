@@ -32,7 +32,7 @@ pub struct FileStorage {
 enum Apart {
     /// None is.
     None,
-    /// It is handed out, by the descriptor of this number. The system tells of a failed write once: so no other sync may answer
+    /// It is handed out, by the descriptor of this number. The system reports a failed write once: so no other sync may answer
     /// meanwhile.
     Out(i32),
     /// It was taken back, and this came of it.

@@ -165,7 +165,7 @@ swap_or true true s = refl
 swap_or true false s = refl
 swap_or false b s = refl
 
--- who is told of above is passed down
+-- who is noted above is passed down
 pub shows-marked : (log : List Stored) (from clock word n value actor : ℕ) (actors actors' : ℕ → Bool) (history : List Entry)
     → ((other : ℕ) → other < 64 → actors' other ≡ ((other == actor) || actors other))
     → Shows log from clock word n value actors history → Shows log from clock word n value actors' (marked actor history)
@@ -209,7 +209,7 @@ shows-flushed log log' from clock word n value actor history in_span same words 
 
 -- ---- a fence
 
--- by an actor who is told of above
+-- by an actor who is noted above
 pub shows-taken : (log : List Stored) (from clock word n value actor : ℕ) (actors : ℕ → Bool) (history : List Entry) → actor < 64 → actors actor ≡ true
     → Shows log from clock word n value actors history → IsSettled clock value (persisted actor clock history)
 shows-taken log from clock word zero value actor actors history small by shown = settled_persisted clock value actor history shown

@@ -1,5 +1,5 @@
 //! All that may refuse an opening is tested before its first operation, and all its memory is taken here, so an opening that is
-//! refused leaves the image as it was. What is wrong with the log comes first, since the log tells how the slots are to be
+//! refused leaves the image as it was. What is wrong with the log comes first, since the log says how the slots are to be
 //! read.
 
 ghost use Rattle.std.specs.Prelude.{◌≡◌, ◌+◌, ◌*◌, ◌^◌, ◌<◌, ◌≤◌, ◌||◌, nat_le, None, map, IfOk, IfErr};
@@ -119,7 +119,7 @@ pub fn examine<R: Threads + Sync, D: Pmem + Sync>(
     }
 }
 
-// What the readings tell an opening, whose slots hold this.
+// What the readings give an opening, whose slots hold this.
 fn gather(alloc: Global, readings: &Readings, held: Held) -> Result<Examined, AllocError>
     requires { MayRule readings.now.ruling }
     ensures layout { IfOk result (λ examined. examined.geometry ≡ readings.now.geometry) }

@@ -29,7 +29,7 @@ pub struct Held {
     pub places: BTreeMap<Key, usize, Global>,
 }
 
-// What was read of the slots tells. The lowest bad slot is reported. A slot is bad by itself, or where a lower one has its key:
+// It is decided by what was read of the slots. The lowest bad slot is reported. A slot is bad by itself, or where a lower one has its key:
 // then there are fewer keys than live slots.
 pub fn held_slots<R: Threads + Sync>(
     rt: &R,
@@ -61,7 +61,7 @@ pub fn held_slots<R: Threads + Sync>(
 // Fewer slots are not worth a thread.
 const FEW: usize = 1024;
 
-// What the readings tell without regard to keys.
+// What the readings show without regard to keys.
 #[derive(Drop)]
 struct Findings {
     // Whether each slot is free.
@@ -80,7 +80,7 @@ impl Findings {
     }
 }
 
-// The places of the keys, and what the readings tell without regard to keys: where there are many, in two threads. The greater
+// The places of the keys, and what the readings show without regard to keys: where there are many, in two threads. The greater
 // part stays in this one, whose heap has what was freed before.
 fn side_by_side<R: Threads + Sync>(
     rt: &R,

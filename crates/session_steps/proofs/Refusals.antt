@@ -14,7 +14,7 @@ names-one : (step : Step) (n : ℕ) → session_of step ≡ Some n → begins st
 names-one Begin n is = absurd (cc is)
 names-one _ n is = refl
 
--- what may still speak against a step that its session allows
+-- why a step that its session allows may still be refused
 abbrev pub later : State → Step → Option Fault
 later q step = first_there (
     some_if (is_too_long q step) TooLong

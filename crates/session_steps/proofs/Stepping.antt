@@ -29,7 +29,7 @@ use Rattle.session_steps.specs.Shows.{Hidden, plain_of, Agrees, Shows}
 use Rattle.session_steps.specs.Steps.{Holds, HoldsOn, Goes, GoesOn, Takes, TakesOn, StepsTo, Steps, HoldsSome, HoldsSomeOn, ShowsSome}
 use Rattle.session_steps.proofs.Effects.{nothing-done}
 
--- ---- who tells of the device
+-- ---- which replies report the device
 
 -- no step is refused for the device before it is asked
 undevice : (q : State) (step : Step) → refusal q step ≡ Some DeviceFault → ⊥
@@ -54,7 +54,7 @@ quiet-idle q (Poll n) quiet = refl
 quiet-idle q (Abort n) quiet = refl
 quiet-idle q (End n) quiet = refl
 
--- a step that makes no operation doesn't tell of the device
+-- a step that makes no operation doesn't report the device
 never-told : (q q' : State) (s : SessionStep) (r : SessionReply) → is_quiet (as_step s) ≡ true → SessionStepped q s r q' → r ≡ Refused DeviceFault → ⊥
 never-told q q' s r quiet (refused fault is replied same) told = grind (arith, undevice) steps 800000
 never-told q q' s r quiet (answered nothing answers same) told = grind (arith, answered-apart) steps 800000

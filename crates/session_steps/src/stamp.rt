@@ -77,7 +77,7 @@ impl Sessions {
                 self.drawn.stamp(timestamp);
                 if is_last { Ok(true) } else { Ok(false) }
             }
-            // The only fault that there is, told anew, so that none is handed on from each store.
+            // The only fault that there is, made anew, so that none is passed on from each store.
             Err(_) => Err(Fault::Device),
         }
     }

@@ -1,4 +1,4 @@
-//! What every plain state of a life keeps, and what the words of its slots are, told from the plain state alone.
+//! What every plain state of a life keeps, and what the words of its slots are, as the plain state alone determines them.
 #![tactic(auto)]
 
 mod law;

@@ -31,7 +31,7 @@ use Rattle.step_simulation.proofs.draws.Leads.{holds-drawn}
 pub refusals-lead : RefusalsLead
 refusals-lead o q device orderly u = record { upholds = u; images = leaves_refl device _ orderly (upheld-within o q q device u) }
 
--- ---- slots that a session gives back
+-- ---- slots that a session releases
 
 deletes : (q : State) (n : ℕ) (key : Key) (device : Device) (slot : ℕ) → ChangesHolder q (held_after_delete q n key) device slot
 deletes q n key device slot = by (is_own_at n key (q.held slot)) refl

@@ -63,7 +63,7 @@ fn any_step(chance: &mut Chance, model: &Model) -> Result<(Step, u64), Fault> {
     Ok((step, 1))
 }
 
-// The notes agree. The model doesn't tell the ticks of a cycle apart.
+// The notes agree. The model doesn't distinguish the ticks of a cycle.
 fn are_alike(found: &Note, want: &Note) -> bool {
     found == want || matches!((found, want), (Note::Ticked(_), Note::Ticked(_)))
 }

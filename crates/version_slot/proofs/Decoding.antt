@@ -15,7 +15,7 @@ use Rattle.version_slot.specs.Words.{link_number, row_word, slot_byte, version_w
 pub same_word : (xs ys : List ℕ) → ((i : ℕ) → i < 8 → get_or xs i 0 ≡ get_or ys i 0) → from_le_bytes w64 xs ≡ from_le_bytes w64 ys
 same_word xs ys same = grind (arith) steps 800000
 
--- what eight bytes make gives them back
+-- what eight bytes make determines them
 bytes_back : (n : ℕ) (f : ℕ → ℕ) → ((i : ℕ) → f i < 256) → n ≡ from_le_bytes w64 (map f (range_with_len 0 8)) → (i : ℕ) → i < 8 → get_or (to_le_bytes w64 n) i 0 ≡ f i
 bytes_back n f small is i lt =
     ap (λ (l : List ℕ). get_or l i 0) (le_bytes_8 (map f (range_with_len 0 8)) n (length-map-range_with_len f 0 8) below is) ∙ get_or-map-range_with_len f 0 8 i i 0 lt (omega arith)

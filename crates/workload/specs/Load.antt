@@ -59,7 +59,7 @@ abbrev pub has_drawn : Step → Note → Bool
 has_drawn (Draw session) (DrewAs timestamp) = true
 has_drawn _ _ = false
 
--- the session whose poll was told a timestamp
+-- the session to whose poll a timestamp was reported
 abbrev pub reported_to : Step → Note → Option ℕ
 reported_to (Poll session) (Committed timestamp) = Some session
 reported_to _ _ = None
@@ -74,7 +74,7 @@ abbrev pub is_same : Option ℕ → Option ℕ → Bool
 is_same (Some one) (Some other) = nat_eq one other
 is_same _ _ = false
 
--- a poll was told a timestamp, and the first step after it ended its transaction
+-- to a poll a timestamp was reported, and the first step after it ended its transaction
 abbrev pub is_acknowledged : Receipt → List Receipt → Bool
 is_acknowledged poll [] = false
 is_acknowledged poll (end ∷ rest) = is_same (reported_to poll.step poll.note) (ended_of end.step end.note)
@@ -112,7 +112,7 @@ pub record MakesOne (phase : Phase) (old new : List Receipt) : Type 0 where
 abbrev pub IsRefusedWith : (Fault → Type 0) → List Receipt → Fault → Type 0
 IsRefusedWith Halted receipts fault = ReportsLast receipts (Refused fault) ⊎ Halted fault
 
--- So it is, and a thread that meets the fault gives up; or a commit told that nothing was written, which no step of a run does after a put
+-- So it is, and a thread that meets the fault gives up; or a commit reported that nothing was written, which no step of a run does after a put
 pub record GivesUp (Halted : Fault → Type 0) (receipts : List Receipt) (fault : Fault) : Type 0 where
   pub is_final : may_pass fault ≡ false
   pub why : (fault ≡ WrongState) ⊎ IsRefusedWith Halted receipts fault
@@ -150,7 +150,7 @@ pub record HasRefusal (image : Image) (fault : Fault) : Type 0 where
 
 -- Why a load that was begun ended before its commits were made. Memory is wanting; a thread of the engine can't be started; the
 -- engine finds in its close that its room isn't the one that it was lent, or that its steps aren't those of the sessions, or a commit
--- was told that nothing was written; or a step, of a session or of the committer, was refused with a fault that doesn't pass
+-- reported that nothing was written; or a step, of a session or of the committer, was refused with a fault that doesn't pass
 abbrev pub IsEngineFault : Image → Fault → Type 0
 IsEngineFault image fault =
     (fault ≡ OutOfMemory) ⊎ ((fault ≡ NoThread) ⊎ ((fault ≡ WrongState) ⊎ ((may_pass fault ≡ false) × ∥ HasRefusal image fault ∥₁)))

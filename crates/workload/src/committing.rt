@@ -124,7 +124,7 @@ fn attempt<T: Wait, D: Pmem + Drop, J: Origin, B: Drop>(
     }
 }
 
-// Puts the row, unless an earlier try did, and asks for the commit. Fails with `WrongState` if that told that nothing was written.
+// Puts the row, unless an earlier try did, and asks for the commit. Fails with `WrongState` if that reported that nothing was written.
 fn try_commit<T: Wait, D: Pmem + Drop, J: Origin, B: Drop>(
     rt: &T,
     session: &mut Session<D, J, B>,

@@ -36,7 +36,7 @@ abbrev stage_after : ℕ → WritingStage
 stage_after n =
     cond (nat_lt n 31) (StoreBody (n + 1)) (cond (nat_lt n 35) (FlushBody (n - 31)) (cond (nat_lt n 36) FenceBody (cond (nat_lt n 37) StoreGate (cond (nat_lt n 38) FlushGate (cond (nat_lt n 39) FenceGate Done)))))
 
--- the operations made tell the stage
+-- the operations made determine the stage
 stage-after : (stage : WritingStage) → IsStage stage → stage_after (operations_before stage) ≡ stage
 stage-after (StoreBody w) is = grind (arith, lt-ltb)
 stage-after (FlushBody line) is = grind (arith, le-ltb, lt-ltb)

@@ -10,7 +10,7 @@ use Rattle.base.specs.Search.{first_below, some_if}
 use Rattle.base.specs.Images.{Image, damage, layout_of, is_formatted, has_good_geometry, is_wrong_gate, is_ruled, ruling_place, ruling, is_bad_slot, is_near_limit, opening_fault, IsRuledBy, log_damage}
 use Rattle.recovery.proofs.openings.Images.{sound-faultless, known-good}
 
--- ---- in which order faults are told
+-- ---- in which order faults are reported
 
 chain : (a b c d e f : Option Fault) (x : Fault) → option_or a (option_or b (option_or c (option_or d (option_or e None)))) ≡ Some x
     → option_or a (option_or b (option_or c (option_or d (option_or e (option_or f None))))) ≡ Some x

@@ -334,7 +334,7 @@ pub well-held : (image : Image) (slot : ℕ) → is_bad image slot ≡ false →
 unfolding is_bad
 well-held image slot good shown = grind (arith, or_parts, none) steps 800000
 
--- what was found of a slot that isn't bad tells whether it is free
+-- what was found of a slot that isn't bad says whether it is free
 pub free-found : (image : Image) (slot : ℕ) (found : SlotContent) → found ≡ found_in image slot → is_bad image slot ≡ false → not (is_held found) ≡ is_free image slot
 free-found image slot Free is good = sym (found-free image slot is).0
 free-found image slot (Live key) is good = sym (found-live image slot key is).0

@@ -1,4 +1,4 @@
--- What a reading of an image tells.
+-- What a reading of an image shows.
 use Rattle.std.proofs.Common.{◌≡◌, inl, inr, ℕ, ◌+◌, Bool, List, refl, sym, ◌∙◌, ap, not, arith}
 use Rattle.std.specs.Prelude.{Option, Some, None}
 use Rattle.std.specs.Option.{option_or, option_map}

@@ -1,4 +1,4 @@
--- What readings of the slots tell of an image.
+-- What readings of the slots show of an image.
 use Rattle.std.proofs.Common.{◌≡◌, ℕ, ◌<◌, true, false, List, get_or, length, refl, sym, ◌∙◌, ap, subst, arith, lit<, true≢false}
 use Rattle.std.specs.Prelude.{None}
 use Rattle.std.proofs.lemmas.List.FromFn.{length-map-range_with_len, get_or-map-range_with_len}

@@ -29,7 +29,7 @@ use Rattle.recovery.specs.Slots.{IsUnder, HasKeys, IsVisitFault, IsSlotsFault, f
 
 -- ---- one slot
 
--- what a slot that isn't live tells
+-- what a slot that isn't live shows
 pub found-free : (image : Image) (slot : ℕ) → Free ≡ found_in image slot → (is_free image slot ≡ true) × (is_bad image slot ≡ false)
 unfolding found_in is_free is_bad
 found-free image slot found = by (is_ahead (ruling image) image slot) (is_shown (ruling image) image slot) (is_misfit image slot) found
@@ -131,14 +131,14 @@ pub slots-memory : (layout : Layout) (image : Image) → IsSlotsFault layout ima
 unfolding IsSlotsFault
 slots-memory layout image = inl refl
 
--- the lowest bad slot is told
+-- the lowest bad slot is reported
 pub slots-visit : (layout : Layout) (image : Image) (slot : ℕ) (fault : Fault) → slot < layout.slots → bad_below image slot ≡ None → IsVisitFault image layout.places slot fault → IsSlotsFault layout image fault
 unfolding IsSlotsFault bad_below is_bad
 slots-visit layout image slot fault h none (inl memory) = inl memory
 slots-visit layout image slot fault h none (inr bad) =
     inr (ap (option_map (λ s. Damaged (layout.places + s))) (first_below-found layout.slots slot (is_bad_slot (ruling image) image) h none bad.0) ∙ ap Some (sym bad.1))
 
--- ---- what a device's words tell
+-- ---- what a device's words show
 
 module _ (device : Device) (layout : Layout) (r : Record) (slot : ℕ) (size : device.words ≡ total_words layout) (under : IsUnder layout r (image_of device)) (h : slot < layout.slots) where
   laid-out : layout_of (image_of device) ≡ layout

@@ -1,4 +1,4 @@
--- What the holders of slots say stays, where one session takes slots and gives them back.
+-- What the holders of slots say stays, where one session takes slots and releases them.
 use Rattle.std.proofs.Common.{◌≡◌, ◌⊎◌, ℕ, Bool, true, false, cond, List, [], ◌∷◌, map, refl, sym, ◌∙◌, ap, nat_eq, get_or, arith}
 use Rattle.std.specs.Prelude.{Option, Some, None, All}
 use Rattle.std.specs.List.{list_any, range_with_len, flat_map}

@@ -1,4 +1,4 @@
--- What agrees where one transaction is set, and its session takes slots and gives them back.
+-- What agrees where one transaction is set, and its session takes slots and releases them.
 use Rattle.std.proofs.Common.{◌≡◌, ℕ, ◌<◌, Bool, true, false, cond, List, length, refl, sym, ◌∙◌, subst, nat_eq, arith}
 use Rattle.std.specs.Prelude.{Option, Some, None, is_none, slice_get, All}
 use Rattle.std.proofs.lemmas.Bool.Decides.{nat_tests}

@@ -3,6 +3,6 @@ use Rattle.base.specs.declared.step.Note.TheVariants.{Waiting}
 use Rattle.engine.specs.Calls.{Called, ArePolls}
 use Rattle.engine.proofs.session.Session.wait.Given as goal
 
--- polls were made so far, and each told that the commit isn't covered
+-- polls were made so far, and each reported that the commit isn't covered
 abbrev pub invariant-loop : goal.invariant-loop
 invariant-loop g l = Called l.fn.self.receipts.items l.self.receipts.items (λ added. ArePolls l.number added × All (λ r. r.note ≡ Waiting) added)

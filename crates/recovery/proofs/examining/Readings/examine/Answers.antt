@@ -33,7 +33,7 @@ pub returns-then-is_near_limit-clause-fault : goal.returns-then-is_near_limit-cl
 returns-then-is_near_limit-clause-fault g c = λ image are.
     refuses-limit c.args.self.now.geometry c.args.self.now.ruling image are.rules ((c.in-Ok.ensures.held image (c.as_slice.ensures.value ∙ are.slots_are)).good) (sym c.is_near_limit.ensures ∙ c.if-is_near_limit.true)
 
--- ---- what is told
+-- ---- what is reported
 
 pub gather-requires : goal.gather-requires
 gather-requires g c = may-rule c.args.self.now.geometry c.args.self.now.ruling c.requires.read.0 c.requires.read.1.rules
