@@ -61,7 +61,7 @@ stamps-as state old new n result other stamps is = subst (λ r. StampsAll state 
 
 -- ---- a poll
 
--- whether a timestamp is told, and which
+-- whether a timestamp is reported, and which
 abbrev is_told : Result (Option ℕ) Fault → Bool
 is_told (Ok (Some t)) = true
 is_told (Ok None) = false
@@ -91,7 +91,7 @@ polled_covered q (Some (Drew t')) t is = by_test (has_timestamp q.history t') re
     by_test true e is' = ap (λ (n : ℕ). has_timestamp q.history n) (ap told_time is') ∙ e
     by_test false e is' = no_time (ap is_told is')
 
--- a poll that tells a timestamp finds it covered
+-- a poll that reports a timestamp finds it covered
 covered_by_poll : (q q' : State) (n t : ℕ) (reply : Reply) → Stepped q (Poll n) reply q' → told t ≡ committed_of reply → has_timestamp q'.history t ≡ true
 covered_by_poll q q' n t reply (refused fault why is same) tells = no_time (ap is_told (tells ∙ ap committed_of is))
 covered_by_poll q q' n t reply (answered none is same) tells = subst (λ (s : State). has_timestamp s.history t ≡ true) (sym same) (polled_covered q (q.sessions n) t (tells ∙ ap committed_of is))
@@ -124,7 +124,7 @@ drawn_by_end q q' n reply (answered none is same) = ap (λ (s : State). s.drawn)
 drawn_by_end q q' n reply (memory_refused none takes is same) = ap (λ (s : State). s.drawn) same
 drawn_by_end q q' n reply (device_failed none operates is same) = ap (λ (s : State). s.drawn) same
 
--- a poll that told a timestamp, and an end
+-- a poll that reported a timestamp, and an end
 pub covers-finish : {D A : Type 0} → {G : Ghosts D} → (state : D → Device) (old mid new : Room D G) (n t : ℕ) (polls : Result (Option ℕ) Fault) (read : Reply → Result A Fault) (result : Result A Fault)
     → Obeys state old mid (Poll n) committed_of polls → polls ≡ Ok (Some t) → Obeys state mid new (End n) read result → Covers state old new t
 covers-finish state old mid new n t polls read result obeys is ends q shows =

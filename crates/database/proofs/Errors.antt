@@ -1,4 +1,4 @@
--- What the error of a commit tells.
+-- What the error of a commit says.
 use Rattle.std.proofs.Common.{◌≡◌, ◌≢◌, ◌⊎◌, inl, inr, ℕ, Bool, true, false, List, [], ◌∷◌, length, refl, sym, subst, arith}
 use mathlib.Core.HLevel.{⊥_prop}
 use Rattle.std.specs.Prelude.{⊤, Option, Some, None, IfSome, is_some, IsTrue, Result, Ok, Err}
@@ -87,7 +87,7 @@ run-ended state old new fault run leads other = ∥∥₁_map run (λ r. record 
   );
 })
 
--- what a room that has ended so tells of it
+-- what a room that has ended so says of it
 pub ended-in : {D : Type 0} {G : Ghosts D} (state : D → Device) (room : Room D G) (ended : Option Fault) → ∥ HasRun state room ended ∥₁ → (fault : Fault) → ended ≡ Some fault → HasEnded fault
 ended-in state room ended run fault is = ∥∥₁_elim run ∥∥₁_prop (λ r. (subst (λ (e : Option Fault). EndedAlong e r.run.steps r.run.replies) is r.along).1)
 
@@ -106,7 +106,7 @@ has-lacked state old new run leads =
 
 -- ---- a commit that is waited for
 
--- its poll told that it isn't covered
+-- its poll reported that it isn't covered
 pub finish-waits : {D : Type 0} {G : Ghosts D} {ended : Option Fault} (state : D → Device) (old new : Room D G) (session : ℕ) → ∥ HasRun state old ended ∥₁
     → Finishes state old new session (Ok None) → AnswersStep (Poll session) committed_of (Ok None)
 finish-waits state old new session run polls = answers-step state old new (Poll session) committed_of (Ok None) run polls.0
@@ -163,7 +163,7 @@ not-given-up : (session : ℕ) (fault : Fault) (key : Key) → fault ≡ Conflic
 not-given-up session fault key e (inl stops) = absurd (cc (sym e, stops.0))
 not-given-up session fault key e (inr never) = absurd never
 
--- a conflict is told where the draw was refused so
+-- a conflict is reported where the draw was refused so
 pub tells-refusal : (session : ℕ) (error : CommitError) → TellsError session error → TellsRefusal session error
 tells-refusal session (Open fault) tells key e = absurd (cc e)
 tells-refusal session (Refused fault) (inl (inl (prepared, other), back, late)) key e = (prepared, late key e)

@@ -65,7 +65,7 @@ leads-join state old mid new steps replies more others one two q shows =
       },
     )
 
--- of a run as the room tells it
+-- of a run as the room's contract states it
 pub leads-run : {D : Type 0} {G : Ghosts D} (state : D → Device) (old new : Room D G) (steps : List Step) (replies : List Reply)
     → ((q : State) → Shows state old q → (states : List State) × RunsTo state old new steps replies q states) → LeadsAlong state old new steps replies
 leads-run state old new steps replies runs q shows =

@@ -65,7 +65,7 @@ LeadsByWrites state old new session writes result =
 
 -- ---- a commit
 
--- the session drew this timestamp and stamped, and the last stamp told that all keys are stamped, or was refused
+-- the session drew this timestamp and stamped, and the last stamp reported that all keys are stamped, or was refused
 pub record DrawsAndStamps (session t : ℕ) (result : Result ⊤ Fault) (steps : List Step) (replies : List Reply) : Type 0 where
   pub count : ℕ
   pub drawn : Reply
@@ -85,7 +85,7 @@ pub record DrawsAndEnds (session : ℕ) (result : Result ⊤ Fault) (steps : Lis
   pub drew : Ok None ≡ drawn_of drawn
   pub tells : result ≡ done_of last
 
--- its poll told this timestamp, and it ended
+-- its poll reported this timestamp, and it ended
 pub record PollsAndEnds (session t : ℕ) (result : Result ⊤ Fault) (steps : List Step) (replies : List Reply) : Type 0 where
   pub polled : Reply
   pub last : Reply
@@ -104,7 +104,7 @@ IsPreparation session (Err (Refused fault)) steps replies = IsStep (Draw session
 abbrev pub IsPrepared : ℕ → Result (Option ℕ) CommitError → Type 0
 IsPrepared session result = EndsSomeRun (IsPreparation session result)
 
--- the session's own poll told its timestamp, so that is covered, and the transaction is ended
+-- the session's own poll reported its timestamp, so that is covered, and the transaction is ended
 abbrev pub IsAcknowledged : ℕ → ℕ → Type 0
 IsAcknowledged session t = EndsSomeRun (PollsAndEnds session t (Ok tt))
 
@@ -126,13 +126,13 @@ StopsBefore session (Refused fault) =
     ((fault ≡ TimestampsOut) × HasEnded fault) ⊎ ((fault ≡ OutOfMemory) × HasLackedMemory × IsPrepared session (Err (Refused WindowFull)))
 StopsBefore session (Open fault) = ⊥
 
--- The session's own poll, with which a run from an opening ends, told that its commit isn't covered; and earlier in that very run a tick of the
+-- The session's own poll, with which a run from an opening ends, reported that its commit isn't covered; and earlier in that very run a tick of the
 -- committer was refused with this fault, and it ended
 abbrev pub WaitsInVain : ℕ → Fault → Type 0
 WaitsInVain session fault = EndsOnceEnded fault (IsStep (Poll session) committed_of (Ok None))
 
 -- Why a commit that isn't covered won't be in this life: the committer has ended by the time of its poll, or was refused memory. Without a record number
--- more it won't be in a later one, so it is told as refused there, and nowhere else
+-- more it won't be in a later one, so it is reported as refused there, and nowhere else
 abbrev pub StopsAfter : ℕ → CommitError → Type 0
 StopsAfter session (Refused fault) = (fault ≡ TimestampsOut) × WaitsInVain session fault
 StopsAfter session (Open fault) = ((fault ≢ TimestampsOut) × WaitsInVain session fault) ⊎ ((fault ≡ OutOfMemory) × HasLackedMemory × AnswersStep (Poll session) committed_of (Ok None))
@@ -146,16 +146,16 @@ IsGivenUp ended (Open fault) = ((fault ≢ TimestampsOut) × (ended ≡ Some fau
 abbrev pub most_refusals : ℕ
 most_refusals = 100
 
--- A commit is waited for still: its own poll told that it isn't covered, the committer hasn't ended, and wasn't refused memory too often
+-- A commit is waited for still: its own poll reported that it isn't covered, the committer hasn't ended, and wasn't refused memory too often
 abbrev pub IsLeftWaiting : ℕ → Option Fault → ℕ → Type 0
 IsLeftWaiting session ended refusals = AnswersStep (Poll session) committed_of (Ok None) × (ended ≡ None) × (refusals ≤ most_refusals)
 
--- the session's poll was refused so, or it told the timestamp and the end was refused so
+-- the session's poll was refused so, or it reported the timestamp and the end was refused so
 abbrev pub StopsAtEnd : ℕ → CommitError → Type 0
 StopsAtEnd session (Refused fault) = ⊥
 StopsAtEnd session (Open fault) = EndsSomeRun (λ steps replies. IsStep (Poll session) committed_of (Err fault) steps replies ⊎ ((t : ℕ) × PollsAndEnds session t (Err fault) steps replies))
 
--- why a commit that is drawn and stamped isn't acknowledged: its own poll told that it isn't covered, and it won't be; or that poll, or its end, was refused
+-- why a commit that is drawn and stamped isn't acknowledged: its own poll reported that it isn't covered, and it won't be; or that poll, or its end, was refused
 abbrev pub GivesUp : ℕ → CommitError → Type 0
 GivesUp session error = ∥ (StopsAfter session error ⊎ StopsAtEnd session error) ∥₁
 
@@ -175,7 +175,7 @@ IsWithoutAnswer session t ended refusals = IsLeftWaiting session ended refusals 
 abbrev pub AnswersTo : ℕ → Result ℕ CommitError → Result ⊤ CommitError → Type 0
 AnswersTo t answer result = MatchResult result (λ done. answer ≡ Ok t) (λ error. answer ≡ Err error)
 
--- it tells another timestamp
+-- it returns another timestamp
 abbrev pub AnswersAnother : ℕ → Result ℕ CommitError → Type 0
 AnswersAnother t answer = (told : ℕ) × (answer ≡ Ok told) × (told ≢ t)
 
@@ -201,16 +201,16 @@ IsSettledUpTo t = ComesTo (λ q. t ≤ q.ruling.persisted) ⊎ (((fault : Fault)
 abbrev pub MeetsConflictOn : ℕ → Key → Type 0
 MeetsConflictOn session key = (last : ℕ) × ConflictsAt session key last × IsSettledUpTo last
 
--- a conflict is told only after that
+-- a conflict is reported only after that
 abbrev pub TellsLate : ℕ → CommitError → Type 0
 TellsLate session error = (key : Key) → error ≡ Refused (Conflict key) → MeetsConflictOn session key
 
--- What an error tells: that the commit wasn't drawn and stamped, for the reason that its steps gave, or before them; or that it was, and why it isn't acknowledged
+-- What an error says: that the commit wasn't drawn and stamped, for the reason that its steps gave, or before them; or that it was, and why it isn't acknowledged
 abbrev pub TellsError : ℕ → CommitError → Type 0
 TellsError session error =
     (TellsUnprepared session error × IsGivenBack session × TellsLate session error) ⊎ ((t : ℕ) × IsPrepared session (Ok (Some t)) × GivesUp session error)
 
--- A conflict is told only where the session's draw was refused so, and late
+-- A conflict is reported only where the session's draw was refused so, and late
 abbrev pub TellsRefusal : ℕ → CommitError → Type 0
 TellsRefusal session error = (key : Key) → error ≡ Refused (Conflict key) → IsPrepared session (Err error) × MeetsConflictOn session key
 

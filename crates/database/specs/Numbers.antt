@@ -1,4 +1,4 @@
--- Of which state a database tells numbers.
+-- Of which state a database returns numbers.
 use Rattle.std.specs.Prelude.{◌≡◌, ℕ, List, None}
 use Rattle.base.specs.declared.step.Step.{Step}
 use Rattle.base.specs.declared.step.Reply.{Reply}

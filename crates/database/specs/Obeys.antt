@@ -64,7 +64,7 @@ abbrev pub all_stamped : Result ⊤ Fault → Result Bool Fault
 all_stamped (Ok done) = Ok true
 all_stamped (Err fault) = Err fault
 
--- The session stamps, and the last stamp tells that all keys are stamped, or why it was refused
+-- The session stamps, and the last stamp reports that all keys are stamped, or why it was refused
 abbrev pub StampsAll : {D : Type 0} → {G : Ghosts D} → (D → Device) → Room D G → Room D G → ℕ → Result ⊤ Fault → Type 0
 StampsAll {D} {G} state old new session result =
     (mid : Room D G) × Repeats state old mid (Stamp session) × Obeys state mid new (Stamp session) stamped_of (all_stamped result)
@@ -91,7 +91,7 @@ abbrev pub IsRefusedWhole : {D : Type 0} → {G : Ghosts D} → (D → Device) �
 IsRefusedWhole state old new (Refused fault) = DrawsNothing state old new
 IsRefusedWhole state old new (Open fault) = Unit {0}
 
--- The session's own poll told the timestamp, and the transaction is ended; or it told that the commit isn't covered, and
+-- The session's own poll reported the timestamp, and the transaction is ended; or it reported that the commit isn't covered, and
 -- what the room showed it shows still; or one of both steps was refused
 abbrev pub Finishes : {D : Type 0} → {G : Ghosts D} → (D → Device) → Room D G → Room D G → ℕ → Result (Option ℕ) Fault → Type 0
 Finishes {D} {G} state old new session (Ok (Some t)) =

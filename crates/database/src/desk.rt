@@ -379,7 +379,7 @@ impl<D: Pmem + Drop> Shared<D> {
         self.wake_workers();
     }
 
-    /// Tells the workers to end, and waits until they have.
+    /// Lets the workers end, and waits until they have.
     pub fn end_work<R: Wait>(&self, rt: &R) {
         let mut desk = self.desk.lock(rt);
         desk.closing = true;

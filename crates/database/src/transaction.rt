@@ -131,7 +131,7 @@ impl<'a, D: SyncAhead + Drop, R: Wait> Transaction<'a, D, R> {
         write_all(room, self.session, writes)
     }
 
-    /// Gives the transaction up, as a drop does, and tells of a device that has failed.
+    /// Gives the transaction up, as a drop does, and fails where the device has failed.
     pub fn abort(self) -> Result<(), Fault>
         ensures { AnswersStep (Abort self.entry.session) done_of result }
     {
@@ -144,7 +144,7 @@ impl<'a, D: SyncAhead + Drop, R: Wait> Transaction<'a, D, R> {
     }
 
     /// Commits, and returns once that is durable: its timestamp, or `None` if nothing was written. At an error the transaction
-    /// is over; `CommitError` tells whether something of it may be committed. `Conflict` is answered once the commit in the
+    /// is over; `CommitError` says whether something of it may be committed. `Conflict` is answered once the commit in the
     /// way is covered or given up, so that whoever begins again then sees it. `OutOfMemory` is answered where the committer
     /// was refused memory a hundred times in a row.
     pub fn commit(self) -> Result<Option<Ts>, CommitError>

@@ -102,7 +102,7 @@ impl<D: SyncAhead + Drop> Shared<D> {
         unreachable!()
     }
 
-    // Ends a transaction whose commit was refused. A conflict is told once whatever was drawn by then is covered or given up: a
+    // Ends a transaction whose commit was refused. A conflict is reported once whatever was drawn by then is covered or given up: a
     // transaction that is begun then sees the commit that was in the way.
     fn give_way<R: Wait>(&self, rt: &R, session: u8, error: CommitError, drawn: Ts)
         ensures given { IsGivenBack session }

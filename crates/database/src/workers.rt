@@ -85,7 +85,7 @@ fn commit<'a, R: Wait, D: SyncAhead + Drop>(
 ) {
     let (mut desk, turn) = shared.take_over(rt, desk);
     shared.tell(rt, &mut desk, turn);
-    // The end may have been told while the lock was free.
+    // The engine may have been closed while the lock was free.
     if desk.closing {
         return shared.exit(desk);
     }

@@ -27,7 +27,7 @@ NameFile words name = (order : Order) × Gives words order × (file_of order ≡
 abbrev pub NameWritten : List Text → Text → Type 0
 NameWritten words name = (order : Order) × Gives words order × (file_of order ≡ name) × (writes_file order ≡ true)
 
--- the exit status where this is told: 2 of bad words, 1 where a file, the input or the output failed
+-- the exit status where this is reported: 2 of bad words, 1 where a file, the input or the output failed
 abbrev pub HasStatus : Told → ℕ → Type 0
 HasStatus Nothing status = status ≤ 2
 HasStatus (BadWords text) status = status ≡ 2

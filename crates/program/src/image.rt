@@ -27,7 +27,7 @@ pub fn image_bytes(alloc: Global, file: Vec<u8>) -> io::Result<Vec<u8>> {
     Ok(file_of_words(alloc, image.as_slice())?)
 }
 
-// Whether the last line of these bytes names an image and a journal that are as long together. Most images are told so from a
+// Whether the last line of these bytes names an image and a journal that are as long together. Most images are distinguished so from a
 // file with a journal, and take no more memory.
 fn may_end_with_journal(file: &[u8]) -> bool {
     let Some(last) = file.last_chunk::<64>() else {

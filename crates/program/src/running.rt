@@ -42,7 +42,7 @@ pub struct Exit<'a> {
     pub unwritten: Option<&'a str>,
 }
 
-/// What standard error is told at the end.
+/// What is printed on standard error at the end.
 #[derive(Drop)]
 pub enum Told<'a> {
     Nothing,
@@ -64,7 +64,7 @@ pub fn run_words<
     ensures status { HasStatus result.told result.status }
     ensures written { result.status ≡ 0 → result.unwritten ≡ None }
 
-    // The file that is told to have failed is the one that the words name, and so is the one that stays as it was.
+    // The file that is reported as failing is the one that the words name, and so is the one that stays as it was.
     ensures file { IfFileFault (NameFile (texts words.now)) result.told }
     ensures unwritten { IfSome result.unwritten (λ name. NameWritten (texts words.now) name.now) }
 
@@ -211,7 +211,7 @@ fn say<'a, W: Write + Drop>(held: LastLine<W>) -> Exit<'a>
     }
 }
 
-// A refusal and a line that is no command are told by the output.
+// A refusal and a line that is no command are printed on the output.
 fn told_of<'a>(stopped: Option<Stop>, failure: Option<io::Error>) -> Told<'a>
     ensures status { HasStatus result (status_of stopped) }
     ensures file { IfFileFault (λ _. ⊥) result }
@@ -242,7 +242,7 @@ fn refuse<'a, W: Write>(alloc: Global, fault: Fault, output: &mut W) -> Exit<'a>
     }
 }
 
-// Says that a file failed. Where the output fails too, the file is what is told.
+// Says that a file failed. Where the output fails too, the file is what is reported.
 fn fail<'a, W: Write>(alloc: Global, file: &'a str, reason: io::Error, output: &mut W) -> Exit<'a>
     ensures status { HasStatus result.told result.status }
     ensures failed { result.status ≡ 1 }
@@ -258,7 +258,7 @@ fn fail<'a, W: Write>(alloc: Global, file: &'a str, reason: io::Error, output: &
     }
 }
 
-// Prints the help that was asked for, or tells what is wrong with the words.
+// Prints the help that was asked for, or reports what is wrong with the words.
 fn tell<'a, W: Write>(fault: WordFault, output: &mut W) -> Exit<'a>
     ensures status { HasStatus result.told result.status }
     ensures unwritten { result.unwritten ≡ None }

@@ -1,4 +1,4 @@
--- A conflict is told where a draw was refused for it.
+-- A conflict is reported where a draw was refused for it.
 use Rattle.std.proofs.Common.{◌≡◌, ℕ, Err, ap, subst}
 use Rattle.base.specs.declared.fault.Fault.{Fault}
 use Rattle.base.specs.declared.fault.Fault.TheVariants.{Conflict}

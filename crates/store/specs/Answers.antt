@@ -23,7 +23,7 @@ Answers step read (Err error) = (fault : Fault) × (error ≡ error_of fault) ×
 
 -- ---- a range
 
--- The session scanned the table from the first key on, up to before the other one, and was told these rows; or there is no key
+-- The session scanned the table from the first key on, up to before the other one, and got these rows; or there is no key
 -- between, and there is no row
 abbrev pub Scans : ℕ → ℕ → ℕ → ℕ → List (Key × List ℕ) → Type 0
 Scans session table start end rows =
@@ -71,7 +71,7 @@ TellsNumber session key (Err error) =
 
 -- ---- a commit
 
--- a conflict is told only where the session's draw was refused so, and once what was drawn by then is covered, or given up
+-- a conflict is reported only where the session's draw was refused so, and once what was drawn by then is covered, or given up
 abbrev pub TellsConflict : ℕ → StoreError → Type 0
 TellsConflict session error = (key : Key) → error ≡ StoreError.Conflict key → IsPrepared session (Err (Refused (Conflict key))) × MeetsConflictOn session key
 

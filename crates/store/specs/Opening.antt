@@ -1,4 +1,4 @@
--- What is told of an opening and of a close.
+-- What is reported of an opening and of a close.
 use Rattle.std.specs.Prelude.{◌≡◌, ◌≢◌, ◌⊎◌, ℕ, List, Some}
 use Rattle.std.specs.String.{string_bytes}
 use Rattle.base.specs.declared.fault.Fault.{Fault}

@@ -1,4 +1,4 @@
--- What a status tells of a state.
+-- What a status says of a state.
 use Rattle.std.specs.Prelude.{◌≡◌, ◌-◌, ◌^◌, length}
 use Rattle.base.specs.Layout.{row_limit}
 use Rattle.machine.specs.Machine.{State}

@@ -65,7 +65,7 @@ EndsTries {F} step session_of tries changes Last = (n : ℕ) × (n ≤ tries - 1
 abbrev pub CommitsWithin : {F X T : Type 0} → (F → X → Result T StoreError → X → F → Type 0) → (X → ℕ) → ℕ → F → T → Option ℕ → Type 0
 CommitsWithin {F} step session_of tries changes value timestamp = EndsTries step session_of tries changes (λ mid. (new : F) × Commits step session_of mid value timestamp new)
 
--- it failed so; or all were in vain, the last one on the key that is told
+-- it failed so; or all were in vain, the last one on the key that is reported
 abbrev pub FailsWithin : {F X T : Type 0} → (F → X → Result T StoreError → X → F → Type 0) → (X → ℕ) → ℕ → F → StoreError → Type 0
 FailsWithin {F} step session_of tries changes error =
     EndsTries step session_of tries changes (λ mid. Fails step session_of mid error)

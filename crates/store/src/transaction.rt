@@ -96,7 +96,7 @@ impl<R: Wait + Drop> Transaction<'_, R> {
         }
     }
 
-    /// Gives it up, as a drop does, and tells of a file that has failed.
+    /// Gives it up, as a drop does, and fails where the file has failed.
     pub fn abort(self) -> Result<(), StoreError>
         ensures { Answers (Abort self.entry.snapshot.reads.session) done_of result }
     {

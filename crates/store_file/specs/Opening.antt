@@ -21,7 +21,7 @@ pub record IsFoundWith (layout : Layout) (device : Device) : Type 0 where
 abbrev pub OpensLayout : Layout → Type 0
 OpensLayout layout = (device : Device) × IsFoundWith layout device × (opening_fault (image_of device) ≡ None)
 
--- another layout is told only where there is one
+-- another layout is reported only where there is one
 abbrev pub TellsLayout : Layout → Refusal → Type 0
 TellsLayout layout (Refusal.OtherLayout found) = opened_layout found ≢ opened_layout layout
 TellsLayout layout _ = Unit {0}
@@ -34,7 +34,7 @@ IsUnopened layout fault =
     ⊎ (((device : Device) × IsAtRest device × (layout_damage (image_of device) ≡ Some fault))
     ⊎ ((device now : Device) × IsFoundWith layout device × IsOpeningRefusal device now fault))
 
--- a fault is told only where it is the reason
+-- a fault is reported only where it is the reason
 abbrev pub TellsFault : Layout → Refusal → Type 0
 TellsFault layout (Refusal.Fault fault) = IsUnopened layout fault
 TellsFault layout _ = Unit {0}

@@ -17,7 +17,7 @@ pub struct Counts {
     pub openings: u64,
     /// Images that lack what was acknowledged.
     pub lost: u64,
-    /// Images that hold what they mustn't, or don't open, or are told otherwise by a check; and stops with other numbers.
+    /// Images that hold what they mustn't, or don't open, or of which a check reports another thing; and stops with other numbers.
     pub wrong: u64,
 }
 

@@ -207,7 +207,7 @@ fn make_twice<H: Print>(
     Ok(reply)
 }
 
-// Says what is answered. Of the ticks of a cycle the first and the last alone are told.
+// Says what is answered. Of the ticks of a cycle the first and the last alone are printed.
 fn say<H: Print>(rt: &H, ask: Ask, reply: &Reply) -> Result<(), Error> {
     match reply {
         Reply::Row(Some(row)) => println!(rt; "{ask:?}: row {:?}", row.as_bytes())?,

@@ -1,4 +1,4 @@
-//! What a covering tick tells of its batch.
+//! What a covering tick reports of its batch.
 use crate::fixture::{fresh, leave, opened};
 use asks::Ask::{Begin, Commit, Delete, Draw, Put, PutIn, Stamp};
 use asks::{Life, steps};

@@ -126,7 +126,7 @@ fn execute_words<
     }
 }
 
-// Does the work of a subcommand, and tells how it ended where it didn't end well.
+// Does the work of a subcommand, and prints how it ended where it didn't end well.
 fn execute_order<
     H: Print + Threads + Wait + Copy + Drop + Send + Sync + 'static,
     R: Read,

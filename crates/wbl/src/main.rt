@@ -47,7 +47,7 @@ fn words_given(rt: &HostRuntime, alloc: Global) -> io::Result<Vec<String>> {
     Ok(env::args(rt)?.skip(1).collect::<Vec<String>>(alloc)?)
 }
 
-// Tells why there are no words, which takes no memory, and how the process ends then.
+// Prints why there are no words, which takes no memory, and how the process ends then.
 fn fail(rt: &impl Eprint, reason: io::Error) -> ExitCode {
     if reason.kind() == ErrorKind::InvalidData {
         let _ = eprint!(rt; "error: an argument is no text in UTF-8\n");
@@ -57,7 +57,7 @@ fn fail(rt: &impl Eprint, reason: io::Error) -> ExitCode {
     ExitCode::from(FAILED)
 }
 
-// What standard error is told takes no memory.
+// What is printed on standard error takes no memory.
 fn tell(rt: &impl Eprint, exit: &Exit) -> io::Result<()> {
     match &exit.told {
         Told::Nothing => {}
