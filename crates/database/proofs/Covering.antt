@@ -62,15 +62,15 @@ stamps-as state old new n result other stamps is = subst (λ r. StampsAll state 
 -- ---- a poll
 
 -- whether a timestamp is reported, and which
-abbrev is_told : Result (Option ℕ) Fault → Bool
-is_told (Ok (Some t)) = true
-is_told (Ok None) = false
-is_told (Err fault) = false
+abbrev is_reported : Result (Option ℕ) Fault → Bool
+is_reported (Ok (Some t)) = true
+is_reported (Ok None) = false
+is_reported (Err fault) = false
 
-abbrev told_time : Result (Option ℕ) Fault → ℕ
-told_time (Ok (Some t)) = t
-told_time (Ok None) = 0
-told_time (Err fault) = 0
+abbrev reported_time : Result (Option ℕ) Fault → ℕ
+reported_time (Ok (Some t)) = t
+reported_time (Ok None) = 0
+reported_time (Err fault) = 0
 
 no_time : {A : Type 0} → true ≡ false → A
 no_time e = absurd (apart e)
@@ -82,18 +82,18 @@ abbrev told : ℕ → Result (Option ℕ) Fault
 told t = Ok (Some t)
 
 polled_covered : (q : State) (session : Option Session) (t : ℕ) → told t ≡ committed_of (polled q session) → has_timestamp q.history t ≡ true
-polled_covered q None t is = no_time (ap is_told is)
-polled_covered q (Some (Active begun writes)) t is = no_time (ap is_told is)
-polled_covered q (Some WroteNothing) t is = no_time (ap is_told is)
+polled_covered q None t is = no_time (ap is_reported is)
+polled_covered q (Some (Active begun writes)) t is = no_time (ap is_reported is)
+polled_covered q (Some WroteNothing) t is = no_time (ap is_reported is)
 polled_covered q (Some (Drew t')) t is = by_test (has_timestamp q.history t') refl is
   where
     by_test : (b : Bool) → has_timestamp q.history t' ≡ b → told t ≡ committed_of (cond b (Committed t') Waiting) → has_timestamp q.history t ≡ true
-    by_test true e is' = ap (λ (n : ℕ). has_timestamp q.history n) (ap told_time is') ∙ e
-    by_test false e is' = no_time (ap is_told is')
+    by_test true e is' = ap (λ (n : ℕ). has_timestamp q.history n) (ap reported_time is') ∙ e
+    by_test false e is' = no_time (ap is_reported is')
 
 -- a poll that reports a timestamp finds it covered
 covered_by_poll : (q q' : State) (n t : ℕ) (reply : Reply) → Stepped q (Poll n) reply q' → told t ≡ committed_of reply → has_timestamp q'.history t ≡ true
-covered_by_poll q q' n t reply (refused fault why is same) tells = no_time (ap is_told (tells ∙ ap committed_of is))
+covered_by_poll q q' n t reply (refused fault why is same) tells = no_time (ap is_reported (tells ∙ ap committed_of is))
 covered_by_poll q q' n t reply (answered none is same) tells = subst (λ (s : State). has_timestamp s.history t ≡ true) (sym same) (polled_covered q (q.sessions n) t (tells ∙ ap committed_of is))
 covered_by_poll q q' n t reply (memory_refused none takes is same) tells = no_time (sym takes)
 covered_by_poll q q' n t reply (device_failed none operates is same) tells = no_time (sym operates)

@@ -27,9 +27,9 @@ use Rattle.database.specs.Replies.{committed_of}
 use Rattle.room.specs.Room.{Leads}
 use Rattle.database.specs.Runs.{EndedAlong, HasRun, IsRunFrom, IsLast, HasEnded}
 use Rattle.database.specs.Obeys.{Finishes, AnswersStep, IsStep}
-use Rattle.database.specs.Committing.{IsAcknowledged, HasLackedMemory, IsSettledUpTo, WaitsInVain, IsGivenUp, StopsAfter, StopsAtEnd, GivesUp, IsAnswered, IsAnsweredAt, AnswersTo, TellsError, TellsRefusal}
+use Rattle.database.specs.Committing.{IsAcknowledged, HasLackedMemory, IsSettledUpTo, WaitsInVain, IsGivenUp, StopsAfter, StopsAtEnd, GivesUp, IsAnswered, IsAnsweredAt, AnswersTo, ReportsError, ReportsRefusal}
 use Rattle.database.proofs.Runs.{led_from, leads-one, run-led, ends-run, ends-once-ended, answers-step}
-use Rattle.database.proofs.Telling.{polled_so}
+use Rattle.database.proofs.Reporting.{polled_so}
 
 -- ---- a tick that is refused
 
@@ -82,7 +82,7 @@ run-ended state old new fault run leads other = ∥∥₁_map run (λ r. record 
   opened = r.opened;
   run = led_from state old new (CommitTick ∷ []) (RefusedWith fault ∷ []) r.opened r.run (leads-one state old new CommitTick (RefusedWith fault) leads);
   along = (
-    record { first = r.run.steps; more = []; told = r.run.replies; later = []; steps_are = refl; replies_are = refl; beside = beside_from state old r.opened r.run },
+    record { first = r.run.steps; more = []; earlier = r.run.replies; later = []; steps_are = refl; replies_are = refl; beside = beside_from state old r.opened r.run },
     has-ended state old new fault run leads other,
   );
 })
@@ -164,7 +164,7 @@ not-given-up session fault key e (inl stops) = absurd (cc (sym e, stops.0))
 not-given-up session fault key e (inr never) = absurd never
 
 -- a conflict is reported where the draw was refused so
-pub tells-refusal : (session : ℕ) (error : CommitError) → TellsError session error → TellsRefusal session error
+pub tells-refusal : (session : ℕ) (error : CommitError) → ReportsError session error → ReportsRefusal session error
 tells-refusal session (Open fault) tells key e = absurd (cc e)
 tells-refusal session (Refused fault) (inl (inl (prepared, other), back, late)) key e = (prepared, late key e)
 tells-refusal session (Refused fault) (inl (inr (inl (out, ended)), back, late)) key e = absurd (cc (sym out, e))

@@ -1,6 +1,6 @@
 pub mod Runs
 pub mod Covering
-pub mod Telling
+pub mod Reporting
 pub mod Numbers
 pub mod Readings
 pub mod Errors

@@ -105,10 +105,10 @@ ended-more (Some fault) steps more replies later (tick, ended) = (
   record {
     first = tick.first;
     more = tick.more ++ more;
-    told = tick.told;
+    earlier = tick.earlier;
     later = tick.later ++ later;
     steps_are = ap (λ (ss : List Step). ss ++ more) tick.steps_are ∙ append_assoc tick.first (CommitTick ∷ tick.more) more;
-    replies_are = ap (λ (rs : List Reply). rs ++ later) tick.replies_are ∙ append_assoc tick.told (RefusedWith fault ∷ tick.later) later;
+    replies_are = ap (λ (rs : List Reply). rs ++ later) tick.replies_are ∙ append_assoc tick.earlier (RefusedWith fault ∷ tick.later) later;
     beside = tick.beside;
   },
   ended,

@@ -28,7 +28,7 @@ pub record PutsAgain (session : ℕ) (key : Key) (row : List ℕ) (result : Resu
   pub steps_are : steps ≡ Put session key row ∷ (replicate count Collect ++ Put session key row ∷ [])
   pub replies_are : replies ≡ first ∷ (visits ++ last ∷ [])
   pub found_none : Err SlotsOut ≡ done_of first
-  pub tells : result ≡ done_of last
+  pub result_is : result ≡ done_of last
 
 -- that, or a put alone
 abbrev pub IsPut : ℕ → Key → List ℕ → Result ⊤ Fault → List Step → List Reply → Type 0
@@ -51,8 +51,8 @@ abbrev pub AreWrites : ℕ → List (Key × Option (List ℕ)) → Result ⊤ Fa
 AreWrites session [] result steps replies = (result ≡ Ok tt) × (steps ≡ []) × (replies ≡ [])
 AreWrites session (write ∷ others) result steps replies =
     ((fault : Fault) × (result ≡ Err fault) × IsWrite session write.0 write.1 (Err fault) steps replies)
-    ⊎ ((first more : List Step) × (told later : List Reply) × (steps ≡ first ++ more) × (replies ≡ told ++ later)
-    × IsWrite session write.0 write.1 (Ok tt) first told × AreWrites session others result more later)
+    ⊎ ((first more : List Step) × (earlier later : List Reply) × (steps ≡ first ++ more) × (replies ≡ earlier ++ later)
+    × IsWrite session write.0 write.1 (Ok tt) first earlier × AreWrites session others result more later)
 
 -- such writes end a run from an opening
 abbrev pub AnswersWrites : ℕ → List (Key × Option (List ℕ)) → Result ⊤ Fault → Type 0
@@ -74,7 +74,7 @@ pub record DrawsAndStamps (session t : ℕ) (result : Result ⊤ Fault) (steps :
   pub steps_are : steps ≡ Draw session ∷ (replicate count (Stamp session) ++ Stamp session ∷ [])
   pub replies_are : replies ≡ drawn ∷ (stamps ++ last ∷ [])
   pub drew : Ok (Some t) ≡ drawn_of drawn
-  pub tells : all_stamped result ≡ stamped_of last
+  pub result_is : all_stamped result ≡ stamped_of last
 
 -- it drew for nothing, and ended
 pub record DrawsAndEnds (session : ℕ) (result : Result ⊤ Fault) (steps : List Step) (replies : List Reply) : Type 0 where
@@ -83,7 +83,7 @@ pub record DrawsAndEnds (session : ℕ) (result : Result ⊤ Fault) (steps : Lis
   pub steps_are : steps ≡ Draw session ∷ End session ∷ []
   pub replies_are : replies ≡ drawn ∷ last ∷ []
   pub drew : Ok None ≡ drawn_of drawn
-  pub tells : result ≡ done_of last
+  pub result_is : result ≡ done_of last
 
 -- its poll reported this timestamp, and it ended
 pub record PollsAndEnds (session t : ℕ) (result : Result ⊤ Fault) (steps : List Step) (replies : List Reply) : Type 0 where
@@ -91,8 +91,8 @@ pub record PollsAndEnds (session t : ℕ) (result : Result ⊤ Fault) (steps : L
   pub last : Reply
   pub steps_are : steps ≡ Poll session ∷ End session ∷ []
   pub replies_are : replies ≡ polled ∷ last ∷ []
-  pub told : Ok (Some t) ≡ committed_of polled
-  pub tells : result ≡ done_of last
+  pub committed : Ok (Some t) ≡ committed_of polled
+  pub result_is : result ≡ done_of last
 
 -- how a session is prepared for its commit
 abbrev pub IsPreparation : ℕ → Result (Option ℕ) CommitError → List Step → List Reply → Type 0
@@ -109,9 +109,9 @@ abbrev pub IsAcknowledged : ℕ → ℕ → Type 0
 IsAcknowledged session t = EndsSomeRun (PollsAndEnds session t (Ok tt))
 
 -- What a commit returns: None where nothing was written, and else the timestamp that it drew, once that is covered
-abbrev pub TellsCommit : ℕ → Option ℕ → Type 0
-TellsCommit session None = IsPrepared session (Ok None)
-TellsCommit session (Some t) = IsPrepared session (Ok (Some t)) × IsAcknowledged session t
+abbrev pub ReportsCommit : ℕ → Option ℕ → Type 0
+ReportsCommit session None = IsPrepared session (Ok None)
+ReportsCommit session (Some t) = IsPrepared session (Ok (Some t)) × IsAcknowledged session t
 
 -- ---- a commit that isn't acknowledged
 
@@ -169,7 +169,7 @@ IsAnsweredAt session t result = MatchResult result (λ done. IsAcknowledged sess
 
 -- there is no answer for the commit that drew the timestamp: it is waited for still, or its session acknowledged another one
 abbrev pub IsWithoutAnswer : ℕ → ℕ → Option Fault → ℕ → Type 0
-IsWithoutAnswer session t ended refusals = IsLeftWaiting session ended refusals ⊎ ((told : ℕ) × IsAcknowledged session told × (told ≢ t))
+IsWithoutAnswer session t ended refusals = IsLeftWaiting session ended refusals ⊎ ((reported : ℕ) × IsAcknowledged session reported × (reported ≢ t))
 
 -- an answer says this of the commit that drew the timestamp
 abbrev pub AnswersTo : ℕ → Result ℕ CommitError → Result ⊤ CommitError → Type 0
@@ -177,15 +177,15 @@ AnswersTo t answer result = MatchResult result (λ done. answer ≡ Ok t) (λ er
 
 -- it returns another timestamp
 abbrev pub AnswersAnother : ℕ → Result ℕ CommitError → Type 0
-AnswersAnother t answer = (told : ℕ) × (answer ≡ Ok told) × (told ≢ t)
+AnswersAnother t answer = (reported : ℕ) × (answer ≡ Ok reported) × (reported ≢ t)
 
 -- why one isn't drawn and stamped: its steps gave this reason, though no full window, which is waited for; or it stopped before them
-abbrev pub TellsUnprepared : ℕ → CommitError → Type 0
-TellsUnprepared session error = (IsPrepared session (Err error) × (error ≢ Refused WindowFull)) ⊎ StopsBefore session error
+abbrev pub ReportsUnprepared : ℕ → CommitError → Type 0
+ReportsUnprepared session error = (IsPrepared session (Err error) × (error ≢ Refused WindowFull)) ⊎ StopsBefore session error
 
 -- the session's abort was asked for: where its draw was refused it is over, and its slots are free
-abbrev pub IsGivenBack : ℕ → Type 0
-IsGivenBack session = (result : Result ⊤ Fault) × AnswersStep (Abort session) done_of result
+abbrev pub HasAborted : ℕ → Type 0
+HasAborted session = (result : Result ⊤ Fault) × AnswersStep (Abort session) done_of result
 
 -- the session's draw was refused for a conflict on the key, and this was the last timestamp that was drawn then
 abbrev pub ConflictsAt : ℕ → Key → ℕ → Type 0
@@ -202,17 +202,17 @@ abbrev pub MeetsConflictOn : ℕ → Key → Type 0
 MeetsConflictOn session key = (last : ℕ) × ConflictsAt session key last × IsSettledUpTo last
 
 -- a conflict is reported only after that
-abbrev pub TellsLate : ℕ → CommitError → Type 0
-TellsLate session error = (key : Key) → error ≡ Refused (Conflict key) → MeetsConflictOn session key
+abbrev pub ReportsLate : ℕ → CommitError → Type 0
+ReportsLate session error = (key : Key) → error ≡ Refused (Conflict key) → MeetsConflictOn session key
 
 -- What an error says: that the commit wasn't drawn and stamped, for the reason that its steps gave, or before them; or that it was, and why it isn't acknowledged
-abbrev pub TellsError : ℕ → CommitError → Type 0
-TellsError session error =
-    (TellsUnprepared session error × IsGivenBack session × TellsLate session error) ⊎ ((t : ℕ) × IsPrepared session (Ok (Some t)) × GivesUp session error)
+abbrev pub ReportsError : ℕ → CommitError → Type 0
+ReportsError session error =
+    (ReportsUnprepared session error × HasAborted session × ReportsLate session error) ⊎ ((t : ℕ) × IsPrepared session (Ok (Some t)) × GivesUp session error)
 
 -- A conflict is reported only where the session's draw was refused so, and late
-abbrev pub TellsRefusal : ℕ → CommitError → Type 0
-TellsRefusal session error = (key : Key) → error ≡ Refused (Conflict key) → IsPrepared session (Err error) × MeetsConflictOn session key
+abbrev pub ReportsRefusal : ℕ → CommitError → Type 0
+ReportsRefusal session error = (key : Key) → error ≡ Refused (Conflict key) → IsPrepared session (Err error) × MeetsConflictOn session key
 
 -- ---- writes in a transaction of their own
 
@@ -237,11 +237,11 @@ BeginsWith state old new writes result =
     (steps : List Step) × (replies : List Reply) × LeadsAlong state old new steps replies × IsBegunWith writes result steps replies
 
 -- A session was begun with these writes, and its commit returns so
-abbrev pub TellsWritten : List (Key × Option (List ℕ)) → Option ℕ → Type 0
-TellsWritten writes timestamp = (session : ℕ) × AnswersBegunWith writes (Ok session) × TellsCommit session timestamp
+abbrev pub ReportsWritten : List (Key × Option (List ℕ)) → Option ℕ → Type 0
+ReportsWritten writes timestamp = (session : ℕ) × AnswersBegunWith writes (Ok session) × ReportsCommit session timestamp
 
 -- none was begun with them, for this reason; or one was, and its commit returns so
-abbrev pub TellsUnwritten : List (Key × Option (List ℕ)) → CommitError → Type 0
-TellsUnwritten writes error =
+abbrev pub ReportsUnwritten : List (Key × Option (List ℕ)) → CommitError → Type 0
+ReportsUnwritten writes error =
     ((fault : Fault) × (error ≡ Refused fault) × AnswersBegunWith writes (Err fault))
-    ⊎ ((session : ℕ) × AnswersBegunWith writes (Ok session) × TellsError session error)
+    ⊎ ((session : ℕ) × AnswersBegunWith writes (Ok session) × ReportsError session error)

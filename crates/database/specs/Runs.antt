@@ -78,11 +78,11 @@ HasEnded fault = EndsSomeRun (λ steps replies. (steps ≡ CommitTick ∷ []) ×
 pub record RefusesTick (fault : Fault) (steps : List Step) (replies : List Reply) : Type 0 where
   pub first : List Step
   pub more : List Step
-  pub told : List Reply
+  pub earlier : List Reply
   pub later : List Reply
   pub steps_are : steps ≡ first ++ CommitTick ∷ more
-  pub replies_are : replies ≡ told ++ RefusedWith fault ∷ later
-  pub beside : length first ≡ length told
+  pub replies_are : replies ≡ earlier ++ RefusedWith fault ∷ later
+  pub beside : length first ≡ length earlier
 
 -- where the committer has ended, it was among these steps
 abbrev pub EndedAlong : Option Fault → List Step → List Reply → Type 0

@@ -10,7 +10,7 @@ use base::Ts;
 pub struct Answer {
     session: u8,
     result: Result<Ts, CommitError>,
-    ghost told: { ForOk result (IsAcknowledged session) },
+    ghost acknowledged: { ForOk result (IsAcknowledged session) },
     ghost why: { ForErr result (GivesUp session) },
 }
 
@@ -84,7 +84,7 @@ pub fn answer_to(timestamp: Ts, answer: Result<Ts, CommitError>) -> Option<Resul
     ensures none { IfNone result (AnswersAnother timestamp answer) }
 {
     match answer {
-        Ok(told) => if told == timestamp {
+        Ok(reported) => if reported == timestamp {
             Some(Ok(()))
         } else {
             None

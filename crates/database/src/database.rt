@@ -85,7 +85,7 @@ impl<D: SyncAhead + Drop, R: Wait + Drop> Database<D, R> {
     ghost use Rattle.base.specs.declared.step.Step.TheVariants.{Begin};
     ghost use Rattle.database.specs.Replies.{began_of};
     ghost use Rattle.database.specs.Obeys.{AnswersStep};
-    ghost use Rattle.database.specs.Committing.{TellsWritten, TellsUnwritten};
+    ghost use Rattle.database.specs.Committing.{ReportsWritten, ReportsUnwritten};
     ghost use Rattle.room.specs.Room.{ShowsStatus};
     ghost use Rattle.room.specs.Usage.{ShowsUsage};
     ghost use Rattle.database.specs.Closing.{HasLived, IsClosed, IsClosingRefused};
@@ -106,8 +106,8 @@ impl<D: SyncAhead + Drop, R: Wait + Drop> Database<D, R> {
     /// takes the lock once before it waits. `Refused` says that nothing of them is kept, also where the transaction wasn't begun or one
     /// of the writes was refused.
     pub fn write(&self, writes: &[(Key, Option<Row>)]) -> Result<Option<Ts>, CommitError>
-        ensures ok { IfOk result (TellsWritten writes.now) }
-        ensures err { IfErr result (TellsUnwritten writes.now) }
+        ensures ok { IfOk result (ReportsWritten writes.now) }
+        ensures err { IfErr result (ReportsUnwritten writes.now) }
     {
         self.shared.write(&self.rt, writes)
     }

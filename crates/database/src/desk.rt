@@ -48,7 +48,7 @@ pub struct Desk<D: Pmem> {
     /// A sync was made so, and a round of the collector begins beside the next one.
     pub syncs_apart: bool,
     /// Somebody was answered and has to be woken.
-    pub is_told: bool,
+    pub is_answered: bool,
     /// The committer's worker is to be woken once nobody takes its turns.
     pub is_wanted: bool,
     /// How many rows were written or deleted by what was covered since the collector's last round.
@@ -215,7 +215,7 @@ impl<D: Pmem + Drop> Desk<D> {
         if let Some(answer) = self.answer(session) {
             self.group.leave(session);
             self.leave();
-            self.is_told = true;
+            self.is_answered = true;
             answers.put(place, session, answer);
         }
     }
@@ -314,7 +314,7 @@ impl<D: Pmem + Drop> Shared<D> {
                 is_watched: false,
                 is_syncing: false,
                 syncs_apart: false,
-                is_told: false,
+                is_answered: false,
                 is_wanted: false,
                 covered: u64::MAX,
                 refusals: 0,
@@ -336,10 +336,10 @@ impl<D: Pmem + Drop> Shared<D> {
     /// Gives the lock up, and then wakes those who are answered, so that they don't wait for it.
     pub fn exit(&self, desk: MutexGuard<'_, Desk<D>>) {
         let mut desk = desk;
-        let is_told = desk.is_told;
-        desk.is_told = false;
+        let is_answered = desk.is_answered;
+        desk.is_answered = false;
         drop(desk);
-        if is_told {
+        if is_answered {
             self.answered.notify_all();
         }
     }

@@ -145,7 +145,7 @@ impl<D: SyncAhead + Drop> Shared<D> {
         desk: MutexGuard<'a, Desk<D>>,
     ) -> MutexGuard<'a, Desk<D>> {
         let (mut desk, turn) = self.cover_group(rt, desk);
-        self.tell(rt, &mut desk, turn);
+        self.notify(rt, &mut desk, turn);
         match turn {
             Turn::Idle => {
                 self.recall(&mut desk);

@@ -1,7 +1,7 @@
 ghost use Rattle.base.specs.declared.step.Step.TheVariants.{Abort};
 ghost use Rattle.database.specs.Replies.{done_of};
 ghost use Rattle.database.specs.Obeys.{AnswersStep};
-ghost use Rattle.database.specs.Committing.{IsGivenBack};
+ghost use Rattle.database.specs.Committing.{HasAborted};
 
 use crate::committing::{put_collecting, write_all};
 use crate::desk::Shared;
@@ -25,7 +25,7 @@ pub struct Transaction<'a, D: Pmem + Drop, R: Wait> {
 
 impl<D: Pmem + Drop, R: Wait> Drop for Transaction<'_, D, R> {
     fn drop(self)
-        ensures aborted { IsGivenBack self.entry.session }
+        ensures aborted { HasAborted self.entry.session }
     {
         let Transaction {
             rt,
@@ -52,7 +52,7 @@ impl<'a, D: SyncAhead + Drop, R: Wait> Transaction<'a, D, R> {
     ghost use Rattle.base.specs.declared.step.Step.TheVariants.{Get, Scan, Delete, Abort};
     ghost use Rattle.database.specs.Replies.{row_of, rows_of, done_of};
     ghost use Rattle.database.specs.Obeys.{AnswersStep};
-    ghost use Rattle.database.specs.Committing.{AnswersPut, AnswersWrites, TellsCommit, TellsError};
+    ghost use Rattle.database.specs.Committing.{AnswersPut, AnswersWrites, ReportsCommit, ReportsError};
 
     pub(crate) fn new(
         rt: &'a R,
@@ -148,8 +148,8 @@ impl<'a, D: SyncAhead + Drop, R: Wait> Transaction<'a, D, R> {
     /// way is covered or given up, so that whoever begins again then sees it. `OutOfMemory` is answered where the committer
     /// was refused memory a hundred times in a row.
     pub fn commit(self) -> Result<Option<Ts>, CommitError>
-        ensures ok { IfOk result (TellsCommit self.entry.session) }
-        ensures err { IfErr result (TellsError self.entry.session) }
+        ensures ok { IfOk result (ReportsCommit self.entry.session) }
+        ensures err { IfErr result (ReportsError self.entry.session) }
     {
         let Transaction {
             rt,

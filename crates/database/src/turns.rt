@@ -143,7 +143,7 @@ impl<D: Pmem> Desk<D> {
 impl<D: Pmem + Drop> Shared<D> {
     /// Answers those who wait for their commit, and wakes those whom the turn concerns besides: whoever waits for another's, and the
     /// collector where a round is due, unless it is woken beside a sync. Whoever waits for its own sleeps on.
-    pub fn tell<R: Wait>(&self, rt: &R, desk: &mut Desk<D>, turn: Turn) {
+    pub fn notify<R: Wait>(&self, rt: &R, desk: &mut Desk<D>, turn: Turn) {
         if matches!(
             turn,
             Turn::Unfinished | Turn::Flushed | Turn::Idle | Turn::Busy

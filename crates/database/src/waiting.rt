@@ -18,7 +18,7 @@ impl<D: SyncAhead + Drop> Shared<D> {
     ghost use Rattle.std.specs.Prelude.{Ok, IfOk, IfErr};
     ghost use Rattle.base.specs.declared.key.Key.{Key};
     ghost use Rattle.base.specs.declared.fault.Fault.TheVariants.{Conflict};
-    ghost use Rattle.database.specs.Committing.{IsPrepared, IsGivenBack, ConflictsAt, IsSettledUpTo, TellsCommit, TellsUnprepared, TellsError, TellsWritten, TellsUnwritten};
+    ghost use Rattle.database.specs.Committing.{IsPrepared, HasAborted, ConflictsAt, IsSettledUpTo, ReportsCommit, ReportsUnprepared, ReportsError, ReportsWritten, ReportsUnwritten};
 
     /// Makes these writes in a transaction of their own and commits it. Up to its last stamp that is one turn of the lock.
     pub fn write<R: Wait>(
@@ -26,8 +26,8 @@ impl<D: SyncAhead + Drop> Shared<D> {
         rt: &R,
         writes: &[(Key, Option<Row>)],
     ) -> Result<Option<Ts>, CommitError>
-        ensures ok { IfOk result (TellsWritten writes.now) }
-        ensures err { IfErr result (TellsUnwritten writes.now) }
+        ensures ok { IfOk result (ReportsWritten writes.now) }
+        ensures err { IfErr result (ReportsUnwritten writes.now) }
     {
         let mut desk = self.desk(rt);
         match desk.begin_with(writes) {
@@ -43,8 +43,8 @@ impl<D: SyncAhead + Drop> Shared<D> {
         desk: MutexGuard<'a, Desk<D>>,
         session: u8,
     ) -> Result<Option<Ts>, CommitError>
-        ensures ok { IfOk result (TellsCommit session) }
-        ensures err { IfErr result (TellsError session) }
+        ensures ok { IfOk result (ReportsCommit session) }
+        ensures err { IfErr result (ReportsError session) }
     {
         let (desk, prepared, drawn) = self.prepare(rt, desk, session);
         match prepared {
@@ -77,7 +77,7 @@ impl<D: SyncAhead + Drop> Shared<D> {
         session: u8,
     ) -> (MutexGuard<'a, Desk<D>>, Result<Option<Ts>, CommitError>, Ts)
         ensures ok { IfOk result.1 (λ drawn. IsPrepared session (Ok drawn)) }
-        ensures err { IfErr result.1 (TellsUnprepared session) }
+        ensures err { IfErr result.1 (ReportsUnprepared session) }
         ensures conflict { (key : Key) → result.1 ≡ Err (Refused (Conflict key)) → ConflictsAt session key result.2 }
     {
         let mut desk = desk;
@@ -105,7 +105,7 @@ impl<D: SyncAhead + Drop> Shared<D> {
     // Ends a transaction whose commit was refused. A conflict is reported once whatever was drawn by then is covered or given up: a
     // transaction that is begun then sees the commit that was in the way.
     fn give_way<R: Wait>(&self, rt: &R, session: u8, error: CommitError, drawn: Ts)
-        ensures given { IsGivenBack session }
+        ensures given { HasAborted session }
         ensures late { (key : Key) → error ≡ Refused (Conflict key) → IsSettledUpTo drawn }
     {
         let mut desk = self.desk(rt);
@@ -158,7 +158,7 @@ impl<D: SyncAhead + Drop> Shared<D> {
             return self.moved.wait(rt, desk);
         }
         let (mut desk, turn) = self.take_ticks(rt, desk);
-        self.tell(rt, &mut desk, turn);
+        self.notify(rt, &mut desk, turn);
         match turn {
             Turn::Busy => self.moved.wait(rt, desk),
             Turn::LacksMemory => {

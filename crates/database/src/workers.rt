@@ -84,7 +84,7 @@ fn commit<'a, R: Wait, D: SyncAhead + Drop>(
     desk: MutexGuard<'a, Desk<D>>,
 ) {
     let (mut desk, turn) = shared.take_over(rt, desk);
-    shared.tell(rt, &mut desk, turn);
+    shared.notify(rt, &mut desk, turn);
     // The engine may have been closed while the lock was free.
     if desk.closing {
         return shared.exit(desk);

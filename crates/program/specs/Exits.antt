@@ -8,8 +8,8 @@ use Rattle.command_line.specs.declared.orders.WordFault.{WordFault}
 use Rattle.command_line.specs.declared.orders.WordFault.TheVariants.{Help, OutOfMemory}
 use Rattle.command_line.specs.declared.orders.WordFault.TheVariants as wrong
 use Rattle.console.specs.Kept.{writes_file}
-use Rattle.program.specs.declared.running.Told.{Told}
-use Rattle.program.specs.declared.running.Told.TheVariants.{Nothing, BadWords, Broken, FileFault}
+use Rattle.program.specs.declared.running.Diagnostic.{Diagnostic}
+use Rattle.program.specs.declared.running.Diagnostic.TheVariants.{Nothing, BadWords, Broken, FileFault}
 
 -- the file that an order names
 abbrev pub file_of : Order → Text
@@ -28,21 +28,21 @@ abbrev pub NameWritten : List Text → Text → Type 0
 NameWritten words name = (order : Order) × Gives words order × (file_of order ≡ name) × (writes_file order ≡ true)
 
 -- the exit status where this is reported: 2 of bad words, 1 where a file, the input or the output failed
-abbrev pub HasStatus : Told → ℕ → Type 0
+abbrev pub HasStatus : Diagnostic → ℕ → Type 0
 HasStatus Nothing status = status ≤ 2
 HasStatus (BadWords text) status = status ≡ 2
 HasStatus (Broken reason) status = status ≡ 1
 HasStatus (FileFault name reason) status = status ≡ 1
 
 -- where a file failed, this of its name
-abbrev pub IfFileFault : (Text → Type 0) → Told → Type 0
+abbrev pub IfFileFault : (Text → Type 0) → Diagnostic → Type 0
 IfFileFault P Nothing = ⊤
 IfFileFault P (BadWords text) = ⊤
 IfFileFault P (Broken reason) = ⊤
 IfFileFault P (FileFault name reason) = P name.now
 
 -- where the words are bad, this
-abbrev pub IfBadWords : Type 0 → Told → Type 0
+abbrev pub IfBadWords : Type 0 → Diagnostic → Type 0
 IfBadWords P Nothing = ⊤
 IfBadWords P (BadWords text) = P
 IfBadWords P (Broken reason) = ⊤

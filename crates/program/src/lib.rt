@@ -6,4 +6,4 @@ mod heard;
 mod image;
 mod running;
 
-pub use running::{Exit, Told, run_words};
+pub use running::{Diagnostic, Exit, run_words};

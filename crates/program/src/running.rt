@@ -37,14 +37,14 @@ const BAD_WORDS: u8 = 2;
 #[derive(Drop)]
 pub struct Exit<'a> {
     pub status: u8,
-    pub told: Told<'a>,
+    pub diagnostic: Diagnostic<'a>,
     /// The file that was to be written, and is as it was.
     pub unwritten: Option<&'a str>,
 }
 
 /// What is printed on standard error at the end.
 #[derive(Drop)]
-pub enum Told<'a> {
+pub enum Diagnostic<'a> {
     Nothing,
     /// What is wrong with the words.
     BadWords(String),
@@ -61,15 +61,15 @@ pub fn run_words<
     R: Read,
     W: Write,
 >(rt: &H, alloc: Global, words: &'a [&'a str], input: &mut R, output: &mut W) -> Exit<'a>
-    ensures status { HasStatus result.told result.status }
+    ensures status { HasStatus result.diagnostic result.status }
     ensures written { result.status ≡ 0 → result.unwritten ≡ None }
 
     // The file that is reported as failing is the one that the words name, and so is the one that stays as it was.
-    ensures file { IfFileFault (NameFile (texts words.now)) result.told }
+    ensures file { IfFileFault (NameFile (texts words.now)) result.diagnostic }
     ensures unwritten { IfSome result.unwritten (λ name. NameWritten (texts words.now) name.now) }
 
     // Words that give an order, and no words, are never bad. Bad ones touch neither input nor output, and don't ask for help alone.
-    ensures bad_words { IfBadWords ((texts words.now ≢ []) × GivesNothing (texts words.now) × (GetsHelp (texts words.now) → ⊥) × (input.new ≡ input.old) × (output.new ≡ output.old)) result.told }
+    ensures bad_words { IfBadWords ((texts words.now ≢ []) × GivesNothing (texts words.now) × (GetsHelp (texts words.now) → ⊥) × (input.new ≡ input.old) × (output.new ≡ output.old)) result.diagnostic }
 
     // Words that give no order end with 0 only where help was asked for.
     ensures help { texts words.now ≢ [] → GivesNothing (texts words.now) → result.status ≡ 0 → MayGetHelp (texts words.now) }
@@ -79,7 +79,7 @@ pub fn run_words<
     }
     match order(alloc, words) {
         Ok(order) => obey(rt, alloc, &order, input, output),
-        Err(fault) => tell(fault, output),
+        Err(fault) => report_words(fault, output),
     }
 }
 
@@ -89,10 +89,10 @@ fn run_fresh<'a, H: Threads + Wait + Copy + Drop + Send + Sync + 'static, R: Rea
     input: &mut R,
     output: &mut W,
 ) -> Exit<'a>
-    ensures status { HasStatus result.told result.status }
+    ensures status { HasStatus result.diagnostic result.status }
     ensures unwritten { result.unwritten ≡ None }
-    ensures file { IfFileFault (λ _. ⊥) result.told }
-    ensures bad_words { IfBadWords ⊥ result.told }
+    ensures file { IfFileFault (λ _. ⊥) result.diagnostic }
+    ensures bad_words { IfBadWords ⊥ result.diagnostic }
 {
     let file = match Geometry::new(4, 2, 8).and_then(|geometry| fresh_file(alloc, geometry)) {
         Ok(file) => file,
@@ -104,7 +104,7 @@ fn run_fresh<'a, H: Threads + Wait + Copy + Drop + Send + Sync + 'static, R: Rea
     let ended = execute(rt, alloc, &order, file.as_slice(), &mut input, &mut output);
     Exit {
         status: ended.status,
-        told: told_of(ended.stopped, input.failure.or(output.failure)),
+        diagnostic: diagnostic_of(ended.stopped, input.failure.or(output.failure)),
         unwritten: None,
     }
 }
@@ -117,11 +117,11 @@ fn obey<
     R: Read,
     W: Write,
 >(rt: &H, alloc: Global, order: &Order<'a>, input: &mut R, output: &mut W) -> Exit<'a>
-    ensures status { HasStatus result.told result.status }
+    ensures status { HasStatus result.diagnostic result.status }
     ensures written { result.status ≡ 0 → result.unwritten ≡ None }
-    ensures file { IfFileFault (λ name. file_of order.now ≡ name) result.told }
+    ensures file { IfFileFault (λ name. file_of order.now ≡ name) result.diagnostic }
     ensures unwritten { IfSome result.unwritten (λ name. (file_of order.now ≡ name.now) × (writes_file order.now ≡ true)) }
-    ensures bad_words { IfBadWords ⊥ result.told }
+    ensures bad_words { IfBadWords ⊥ result.diagnostic }
 {
     let name = name_of(order);
     let found = match find(rt, alloc, order) {
@@ -154,7 +154,7 @@ fn obey<
     }
     Exit {
         status,
-        told: told_of(stopped, failure),
+        diagnostic: diagnostic_of(stopped, failure),
         unwritten: found.target.is_some().then_some(name),
     }
 }
@@ -168,11 +168,11 @@ fn put<'a, H: Files<File = File>, W: Write + Drop>(
     bytes: &[u8],
     held: LastLine<W>,
 ) -> Exit<'a>
-    ensures status { HasStatus result.told result.status }
+    ensures status { HasStatus result.diagnostic result.status }
     ensures written { result.status ≡ 0 → result.unwritten ≡ None }
-    ensures file { IfFileFault (λ at. at ≡ name.now) result.told }
+    ensures file { IfFileFault (λ at. at ≡ name.now) result.diagnostic }
     ensures unwritten { IfSome result.unwritten (λ at. at.now ≡ name.now) }
-    ensures bad_words { IfBadWords ⊥ result.told }
+    ensures bad_words { IfBadWords ⊥ result.diagnostic }
 {
     let folder = match target.replace(rt, alloc, bytes) {
         Ok(folder) => folder,
@@ -180,7 +180,7 @@ fn put<'a, H: Files<File = File>, W: Write + Drop>(
             let failed = fail(alloc, name, reason, &mut held.give_up());
             return Exit {
                 status: failed.status,
-                told: failed.told,
+                diagnostic: failed.diagnostic,
                 unwritten: Some(name),
             };
         }
@@ -192,111 +192,113 @@ fn put<'a, H: Files<File = File>, W: Write + Drop>(
 }
 
 fn say<'a, W: Write + Drop>(held: LastLine<W>) -> Exit<'a>
-    ensures status { HasStatus result.told result.status }
+    ensures status { HasStatus result.diagnostic result.status }
     ensures unwritten { result.unwritten ≡ None }
-    ensures file { IfFileFault (λ _. ⊥) result.told }
-    ensures bad_words { IfBadWords ⊥ result.told }
+    ensures file { IfFileFault (λ _. ⊥) result.diagnostic }
+    ensures bad_words { IfBadWords ⊥ result.diagnostic }
 {
     match held.finish() {
         Ok(_) => Exit {
             status: 0,
-            told: Told::Nothing,
+            diagnostic: Diagnostic::Nothing,
             unwritten: None,
         },
         Err(error) => Exit {
             status: FAILED,
-            told: Told::Broken(error),
+            diagnostic: Diagnostic::Broken(error),
             unwritten: None,
         },
     }
 }
 
 // A refusal and a line that is no command are printed on the output.
-fn told_of<'a>(stopped: Option<Stop>, failure: Option<io::Error>) -> Told<'a>
+fn diagnostic_of<'a>(stopped: Option<Stop>, failure: Option<io::Error>) -> Diagnostic<'a>
     ensures status { HasStatus result (status_of stopped) }
     ensures file { IfFileFault (λ _. ⊥) result }
     ensures bad_words { IfBadWords ⊥ result }
 {
     match (stopped, failure) {
-        (Some(Stop::Broken(kind)), Some(error)) if error.kind() == kind => Told::Broken(error),
-        (Some(Stop::Broken(kind)), _) => Told::Broken(io::Error::from(kind)),
-        _ => Told::Nothing,
+        (Some(Stop::Broken(kind)), Some(error)) if error.kind() == kind => Diagnostic::Broken(
+            error,
+        ),
+        (Some(Stop::Broken(kind)), _) => Diagnostic::Broken(io::Error::from(kind)),
+        _ => Diagnostic::Nothing,
     }
 }
 
 fn refuse<'a, W: Write>(alloc: Global, fault: Fault, output: &mut W) -> Exit<'a>
-    ensures status { HasStatus result.told result.status }
+    ensures status { HasStatus result.diagnostic result.status }
     ensures failed { result.status ≡ 1 }
     ensures unwritten { result.unwritten ≡ None }
-    ensures file { IfFileFault (λ _. ⊥) result.told }
-    ensures bad_words { IfBadWords ⊥ result.told }
+    ensures file { IfFileFault (λ _. ⊥) result.diagnostic }
+    ensures bad_words { IfBadWords ⊥ result.diagnostic }
 {
-    let told = match print(alloc, output, &Printed::Refused(fault)) {
-        Ok(()) => Told::Nothing,
-        Err(error) => Told::Broken(error),
+    let diagnostic = match print(alloc, output, &Printed::Refused(fault)) {
+        Ok(()) => Diagnostic::Nothing,
+        Err(error) => Diagnostic::Broken(error),
     };
     Exit {
         status: FAILED,
-        told,
+        diagnostic,
         unwritten: None,
     }
 }
 
 // Says that a file failed. Where the output fails too, the file is what is reported.
 fn fail<'a, W: Write>(alloc: Global, file: &'a str, reason: io::Error, output: &mut W) -> Exit<'a>
-    ensures status { HasStatus result.told result.status }
+    ensures status { HasStatus result.diagnostic result.status }
     ensures failed { result.status ≡ 1 }
     ensures unwritten { result.unwritten ≡ None }
-    ensures file { IfFileFault (λ at. at ≡ file.now) result.told }
-    ensures bad_words { IfBadWords ⊥ result.told }
+    ensures file { IfFileFault (λ at. at ≡ file.now) result.diagnostic }
+    ensures bad_words { IfBadWords ⊥ result.diagnostic }
 {
     let _ = print(alloc, output, &Printed::FileFault);
     Exit {
         status: FAILED,
-        told: Told::FileFault { file, reason },
+        diagnostic: Diagnostic::FileFault { file, reason },
         unwritten: None,
     }
 }
 
 // Prints the help that was asked for, or reports what is wrong with the words.
-fn tell<'a, W: Write>(fault: WordFault, output: &mut W) -> Exit<'a>
-    ensures status { HasStatus result.told result.status }
+fn report_words<'a, W: Write>(fault: WordFault, output: &mut W) -> Exit<'a>
+    ensures status { HasStatus result.diagnostic result.status }
     ensures unwritten { result.unwritten ≡ None }
-    ensures file { IfFileFault (λ _. ⊥) result.told }
-    ensures bad_words { IfBadWords (IsBadWords fault × (output.new ≡ output.old)) result.told }
+    ensures file { IfFileFault (λ _. ⊥) result.diagnostic }
+    ensures bad_words { IfBadWords (IsBadWords fault × (output.new ≡ output.old)) result.diagnostic }
     ensures help { result.status ≡ 0 → IsHelp fault }
 {
     match fault {
         WordFault::Help(text) => show_help(text.as_str(), output),
         WordFault::BadWords(text) => Exit {
             status: BAD_WORDS,
-            told: Told::BadWords(text),
+            diagnostic: Diagnostic::BadWords(text),
             unwritten: None,
         },
         WordFault::OutOfMemory(_) => Exit {
             status: FAILED,
-            told: Told::Broken(io::Error::from(ErrorKind::OutOfMemory)),
+            diagnostic: Diagnostic::Broken(io::Error::from(ErrorKind::OutOfMemory)),
             unwritten: None,
         },
     }
 }
 
 fn show_help<'a, W: Write>(text: &str, output: &mut W) -> Exit<'a>
-    ensures status { HasStatus result.told result.status }
+    ensures status { HasStatus result.diagnostic result.status }
     ensures unwritten { result.unwritten ≡ None }
-    ensures file { IfFileFault (λ _. ⊥) result.told }
-    ensures bad_words { IfBadWords ⊥ result.told }
+    ensures file { IfFileFault (λ _. ⊥) result.diagnostic }
+    ensures bad_words { IfBadWords ⊥ result.diagnostic }
     ensures shown { result.status ≡ 0 → Appends (W.contents output.old) (W.contents output.new) text.now }
 {
     match output.write_all(text.as_bytes()) {
         Ok(()) => Exit {
             status: 0,
-            told: Told::Nothing,
+            diagnostic: Diagnostic::Nothing,
             unwritten: None,
         },
         Err(error) => Exit {
             status: FAILED,
-            told: Told::Broken(error),
+            diagnostic: Diagnostic::Broken(error),
             unwritten: None,
         },
     }

@@ -12,7 +12,7 @@ use Rattle.database.specs.Replies.{row_of, rows_of}
 use Rattle.database.specs.Obeys.{AnswersStep}
 use Rattle.database.specs.declared.error.CommitError.{CommitError}
 use Rattle.database.specs.declared.error.CommitError.TheVariants.{Refused}
-use Rattle.database.specs.Committing.{AnswersPut, AnswersWrites, IsPrepared, MeetsConflictOn, TellsError}
+use Rattle.database.specs.Committing.{AnswersPut, AnswersWrites, IsPrepared, MeetsConflictOn, ReportsError}
 use Rattle.store.specs.declared.error.StoreError.{StoreError}
 use Rattle.store.specs.Errors.{error_of, commit_error}
 
@@ -62,20 +62,20 @@ MakesWrites session writes limit (Err error) = (fault : Fault) × (error ≡ put
 -- ---- a number
 
 -- there is no row; or there is one, and it is this number; or it is none; or the read was refused
-abbrev pub TellsNumber : ℕ → Key → Result (Option ℕ) StoreError → Type 0
-TellsNumber session key (Ok None) = AnswersStep (Get session key) row_of (Ok None)
-TellsNumber session key (Ok (Some number)) = (row : List ℕ) × AnswersStep (Get session key) row_of (Ok (Some row)) × (length row ≡ 8) × (number ≡ from_le_bytes w64 row)
-TellsNumber session key (Err error) =
+abbrev pub AnswersNumber : ℕ → Key → Result (Option ℕ) StoreError → Type 0
+AnswersNumber session key (Ok None) = AnswersStep (Get session key) row_of (Ok None)
+AnswersNumber session key (Ok (Some number)) = (row : List ℕ) × AnswersStep (Get session key) row_of (Ok (Some row)) × (length row ≡ 8) × (number ≡ from_le_bytes w64 row)
+AnswersNumber session key (Err error) =
     ((row : List ℕ) × AnswersStep (Get session key) row_of (Ok (Some row)) × (length row ≢ 8) × (error ≡ StoreError.NotANumber key))
     ⊎ Answers (Get session key) row_of (Err error)
 
 -- ---- a commit
 
 -- a conflict is reported only where the session's draw was refused so, and once what was drawn by then is covered, or given up
-abbrev pub TellsConflict : ℕ → StoreError → Type 0
-TellsConflict session error = (key : Key) → error ≡ StoreError.Conflict key → IsPrepared session (Err (Refused (Conflict key))) × MeetsConflictOn session key
+abbrev pub ReportsConflict : ℕ → StoreError → Type 0
+ReportsConflict session error = (key : Key) → error ≡ StoreError.Conflict key → IsPrepared session (Err (Refused (Conflict key))) × MeetsConflictOn session key
 
 -- what a commit that isn't acknowledged returns
 pub record IsCommitRefusal (session : ℕ) (error : StoreError) : Type 0 where
-  pub of_commit : (refused : CommitError) × (error ≡ commit_error refused) × TellsError session refused
-  pub conflict : TellsConflict session error
+  pub of_commit : (refused : CommitError) × (error ≡ commit_error refused) × ReportsError session refused
+  pub conflict : ReportsConflict session error

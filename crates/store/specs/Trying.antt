@@ -6,7 +6,7 @@ use Rattle.base.specs.declared.step.Step.TheVariants.{Begin, Abort}
 use Rattle.database.specs.declared.error.CommitError.TheVariants.{Refused}
 use Rattle.database.specs.Replies.{began_of, done_of}
 use Rattle.database.specs.Obeys.{AnswersStep}
-use Rattle.database.specs.Committing.{IsPrepared, MeetsConflictOn, TellsCommit}
+use Rattle.database.specs.Committing.{IsPrepared, MeetsConflictOn, ReportsCommit}
 use Rattle.store.specs.declared.error.StoreError.{StoreError}
 use Rattle.store.specs.declared.store.Attempt.{Attempt}
 use Rattle.store.specs.Answers.{Answers, IsCommitRefusal}
@@ -37,7 +37,7 @@ TriesInVain {F} step session_of (suc n) old new = (mid : F) × (key : Key) × Tr
 pub record Commits {F X T : Type 0} (step : F → X → Result T StoreError → X → F → Type 0) (session_of : X → ℕ) (old : F) (value : T) (timestamp : Option ℕ) (new : F) : Type 0 where
   pub session : ℕ
   pub calls : CallsOn step session_of old (Ok value) session new
-  pub tells : TellsCommit session timestamp
+  pub reported : ReportsCommit session timestamp
 
 -- what a try ends in where nothing else is refused
 abbrev pub EndsTry : {F X T : Type 0} → (F → X → Result T StoreError → X → F → Type 0) → (X → ℕ) → F → Attempt T → F → Type 0

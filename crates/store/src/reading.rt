@@ -23,7 +23,7 @@ impl<R: Wait + Drop> Snapshot<'_, R> {
     ghost use Rattle.std.specs.Range.Bound.{start_index, end_index};
     ghost use Rattle.base.specs.declared.step.Step.TheVariants.{Get, Scan};
     ghost use Rattle.database.specs.Replies.{row_of, rows_of};
-    ghost use Rattle.store.specs.Answers.{Answers, Scans, ScanRefused, OfScanned, TellsNumber, last_key_of};
+    ghost use Rattle.store.specs.Answers.{Answers, Scans, ScanRefused, OfScanned, AnswersNumber, last_key_of};
 
     /// The row under the key, or `None` where there is none.
     pub fn get(&self, key: Key) -> Result<Option<Row>, StoreError>
@@ -34,7 +34,7 @@ impl<R: Wait + Drop> Snapshot<'_, R> {
 
     /// The number under the key, or `None` where there is no row. `NotANumber` where there is one of other than 8 bytes.
     pub fn number(&self, key: Key) -> Result<Option<u64>, StoreError>
-        ensures { TellsNumber self.now.reads.session key result }
+        ensures { AnswersNumber self.now.reads.session key result }
     {
         match self.get(key) {
             Ok(Some(row)) => match row.as_u64() {

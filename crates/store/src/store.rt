@@ -3,7 +3,7 @@ ghost use Rattle.std.specs.String.{string_bytes};
 ghost use Rattle.base.specs.declared.fault.Fault.TheVariants.{Damaged};
 ghost use Rattle.pmem_file.specs.Devices.{failure_of, state_of};
 ghost use Rattle.database.specs.Closing.{HasLived, IsClosingRefused};
-ghost use Rattle.store_file.specs.Opening.{IsUnopened, TellsFault, TellsLayout};
+ghost use Rattle.store_file.specs.Opening.{IsUnopened, ReportsFault, ReportsLayout};
 ghost use Rattle.store.specs.declared.error.StoreError.{StoreError};
 ghost use Rattle.store.specs.Errors.{part_of};
 ghost use Rattle.store.specs.Opening.{IsOpeningError, IsClosingError};
@@ -76,8 +76,8 @@ impl<R: Files<File = File> + Threads + Wait + Copy + Drop + Send + Sync + 'stati
 
 // The error that names the file, and the layout that was asked for.
 fn not_opened(name: String, geometry: Geometry, refusal: Refusal) -> StoreError
-    requires layout { TellsLayout geometry refusal }
-    requires fault { TellsFault geometry refusal }
+    requires layout { ReportsLayout geometry refusal }
+    requires fault { ReportsFault geometry refusal }
     ensures { IsOpeningError (string_bytes name) geometry result }
 {
     match refusal {

@@ -38,7 +38,7 @@ impl<R: Wait + Drop> Transaction<'_, R> {
     ghost use Rattle.std.specs.Int.{w64, to_le_bytes};
     ghost use Rattle.base.specs.declared.step.Step.TheVariants.{Delete, Abort};
     ghost use Rattle.database.specs.Replies.{done_of};
-    ghost use Rattle.database.specs.Committing.{TellsCommit};
+    ghost use Rattle.database.specs.Committing.{ReportsCommit};
     ghost use Rattle.store.specs.Answers.{Answers, Puts, MakesWrites, IsCommitRefusal};
 
     /// Writes the row under the key. `RowTooLong`, `TooManyKeys` and `Full` refuse it. It waits as a read does, and where no slot
@@ -85,7 +85,7 @@ impl<R: Wait + Drop> Transaction<'_, R> {
     /// file, which commits of other threads share. At an error nothing of it is kept, but at `Unknown`. `Conflict` is answered once
     /// the commit that was in the way is covered.
     pub fn commit(self) -> Result<Option<Ts>, StoreError>
-        ensures ok { IfOk result (TellsCommit self.entry.snapshot.reads.session) }
+        ensures ok { IfOk result (ReportsCommit self.entry.snapshot.reads.session) }
         ensures err { IfErr result (IsCommitRefusal self.entry.snapshot.reads.session) }
     {
         let Transaction { snapshot, .. } = self;

@@ -22,9 +22,9 @@ abbrev pub OpensLayout : Layout → Type 0
 OpensLayout layout = (device : Device) × IsFoundWith layout device × (opening_fault (image_of device) ≡ None)
 
 -- another layout is reported only where there is one
-abbrev pub TellsLayout : Layout → Refusal → Type 0
-TellsLayout layout (Refusal.OtherLayout found) = opened_layout found ≢ opened_layout layout
-TellsLayout layout _ = Unit {0}
+abbrev pub ReportsLayout : Layout → Refusal → Type 0
+ReportsLayout layout (Refusal.OtherLayout found) = opened_layout found ≢ opened_layout layout
+ReportsLayout layout _ = Unit {0}
 
 -- Why a device at rest isn't opened: it isn't formatted with this layout, for this fault; or its superblock is wrong, so; or it has the layout that
 -- was asked for, and its opening as a database is refused so
@@ -35,6 +35,6 @@ IsUnopened layout fault =
     ⊎ ((device now : Device) × IsFoundWith layout device × IsOpeningRefusal device now fault))
 
 -- a fault is reported only where it is the reason
-abbrev pub TellsFault : Layout → Refusal → Type 0
-TellsFault layout (Refusal.Fault fault) = IsUnopened layout fault
-TellsFault layout _ = Unit {0}
+abbrev pub ReportsFault : Layout → Refusal → Type 0
+ReportsFault layout (Refusal.Fault fault) = IsUnopened layout fault
+ReportsFault layout _ = Unit {0}

@@ -5,7 +5,7 @@ ghost use Rattle.log_area.specs.Rulings.{IsLaidOut};
 ghost use Rattle.pmem.specs.Words.{IsAtRest, image_of};
 ghost use Rattle.pmem_file.specs.Devices.{failure_of, places_of, state_of};
 ghost use Rattle.store_file.specs.declared.opening.Refusal.{Refusal};
-ghost use Rattle.store_file.specs.Opening.{IsFoundWith, IsUnopened, OpensLayout, TellsFault, TellsLayout};
+ghost use Rattle.store_file.specs.Opening.{IsFoundWith, IsUnopened, OpensLayout, ReportsFault, ReportsLayout};
 
 use base::fault::Fault;
 use base::geometry::Geometry;
@@ -41,8 +41,8 @@ pub fn open_file<R: Files<File = File>>(
 ) -> Result<Device, Refusal>
     ensures rest { IfOk result (λ device. IsAtRest (state_of device)) }
     ensures layout { IfOk result (λ device. (found : Layout) × IsLaidOut found (image_of (state_of device)) × (opened_layout found ≡ opened_layout geometry) × (places_of device ≡ found.places)) }
-    ensures other { IfErr result (TellsLayout geometry) }
-    ensures fault { IfErr result (TellsFault geometry) }
+    ensures other { IfErr result (ReportsLayout geometry) }
+    ensures fault { IfErr result (ReportsFault geometry) }
 {
     let device = match open_formatted(rt, alloc, name, geometry) {
         Ok(device) => device,
@@ -71,8 +71,8 @@ fn open_formatted<R: Files<File = File>>(
     geometry: Geometry,
 ) -> Result<Device, Refusal>
     ensures ok { IfOk result (λ device. IsAtRest (state_of device)) }
-    ensures err { (layout : Layout) → IfErr result (TellsLayout layout) }
-    ensures fault { IfErr result (TellsFault geometry) }
+    ensures err { (layout : Layout) → IfErr result (ReportsLayout layout) }
+    ensures fault { IfErr result (ReportsFault geometry) }
 {
     let mut device = match FileDevice::open(rt, alloc, name, geometry) {
         Ok(device) => device,
@@ -102,8 +102,8 @@ fn open_found<R: Files<File = File>>(
     geometry: Geometry,
 ) -> Result<Device, Refusal>
     ensures ok { IfOk result (λ device. IsFoundWith geometry (state_of device)) }
-    ensures err { IfErr result (TellsLayout geometry) }
-    ensures fault { IfErr result (TellsFault geometry) }
+    ensures err { IfErr result (ReportsLayout geometry) }
+    ensures fault { IfErr result (ReportsFault geometry) }
 {
     match open_file(rt, alloc, name, geometry) {
         Ok(device) => Ok(device),
@@ -119,8 +119,8 @@ pub fn open_database<R: Files<File = File> + Threads + Wait + Copy + Drop + Send
     geometry: Geometry,
 ) -> Result<Database<Device, R>, Refusal>
     ensures ok { OnOk result (OpensLayout geometry) }
-    ensures err { IfErr result (TellsLayout geometry) }
-    ensures fault { IfErr result (TellsFault geometry) }
+    ensures err { IfErr result (ReportsLayout geometry) }
+    ensures fault { IfErr result (ReportsFault geometry) }
 {
     match open_found(rt, alloc, name, geometry) {
         Ok(device) => match open_over(rt, alloc, device) {
@@ -139,8 +139,8 @@ fn open_over<R: Threads + Wait + Copy + Drop + Send + Sync + 'static>(
 ) -> Result<Database<Device, R>, Refusal>
     requires at_rest { IsAtRest (state_of device) }
     ensures ok { OnOk result (opening_fault (image_of (state_of device)) ≡ None) }
-    ensures err { (layout : Layout) → IfErr result (TellsLayout layout) }
-    ensures fault { (layout : Layout) → IsFoundWith layout (state_of device) → IfErr result (TellsFault layout) }
+    ensures err { (layout : Layout) → IfErr result (ReportsLayout layout) }
+    ensures fault { (layout : Layout) → IsFoundWith layout (state_of device) → IfErr result (ReportsFault layout) }
 {
     match Database::open(*rt, alloc, device) {
         Ok(database) => Ok(database),
@@ -150,10 +150,10 @@ fn open_over<R: Threads + Wait + Copy + Drop + Send + Sync + 'static>(
 
 // Why the file failed, where a write or a sync of it did; else why it is refused, and then it is closed.
 fn refusal_of(device: Device, fault: Fault) -> Refusal
-    ensures layout { (layout : Layout) → TellsLayout layout result }
+    ensures layout { (layout : Layout) → ReportsLayout layout result }
     ensures lost { IfSome (failure_of device) (λ cause. result ≡ Refusal.Lost cause) }
     ensures fault { IfNone (failure_of device) (result ≡ Refusal.Fault fault) }
-    ensures why { (layout : Layout) → IsUnopened layout fault → TellsFault layout result }
+    ensures why { (layout : Layout) → IsUnopened layout fault → ReportsFault layout result }
 {
     match device.failure() {
         Some(cause) => Refusal::Lost(cause),

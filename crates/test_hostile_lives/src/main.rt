@@ -108,10 +108,10 @@ fn print_images<H: Print>(rt: &H, name: &str, counts: &Counts) -> Result<(), Err
 
 // Lets the life of each story stop everywhere.
 fn stop_stories<H: Print + Threads + Sync>(rt: &H, alloc: Global) -> Result<(), Error> {
-    for told in STORIES {
+    for entry in STORIES {
         let mut counts = Counts::none();
-        stop_each(rt, alloc, told, &mut counts)?;
-        print_story(rt, &told.0, &counts)?;
+        stop_each(rt, alloc, entry, &mut counts)?;
+        print_story(rt, &entry.0, &counts)?;
     }
     Ok(())
 }

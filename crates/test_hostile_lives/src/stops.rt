@@ -1,6 +1,6 @@
 use crate::judge::{Allowed, Counts, judge};
 use crate::life::{Failing, crashed_words, live, operations, words_before};
-use crate::stories::Told;
+use crate::stories::StoryTables;
 use asks::{Table, steps};
 use base::fault::Fault;
 use base::step::Step;
@@ -20,14 +20,14 @@ const REOPENED: u64 = 10;
 pub fn stop_each<R: Threads + Sync>(
     rt: &R,
     alloc: Global,
-    told: &Told,
+    entry: &StoryTables,
     counts: &mut Counts,
 ) -> Result<(), Fault> {
-    let story = &told.0;
+    let story = &entry.0;
     let words = words_before(rt, alloc, story)?;
     let steps = steps(alloc, story.life)?;
     for made in 0..story.operations.saturating_add(1) {
-        stop_at(rt, alloc, told, (&words, &steps), made, counts)?;
+        stop_at(rt, alloc, entry, (&words, &steps), made, counts)?;
     }
     Ok(())
 }
@@ -36,25 +36,25 @@ pub fn stop_each<R: Threads + Sync>(
 fn stop_at<R: Threads + Sync>(
     rt: &R,
     alloc: Global,
-    told: &Told,
+    entry: &StoryTables,
     life: (&[u64], &[Step]),
     made: u64,
     counts: &mut Counts,
 ) -> Result<(), Fault> {
-    stop_once(rt, alloc, told, life, (Failing::After(made), made), counts)?;
-    stop_once(rt, alloc, told, life, (Failing::Once(made), made), counts)
+    stop_once(rt, alloc, entry, life, (Failing::After(made), made), counts)?;
+    stop_once(rt, alloc, entry, life, (Failing::Once(made), made), counts)
 }
 
 // Lets the life stop, which makes so many operations, and judges what it may leave.
 fn stop_once<R: Threads + Sync>(
     rt: &R,
     alloc: Global,
-    told: &Told,
+    entry: &StoryTables,
     life: (&[u64], &[Step]),
     stop: (Failing, u64),
     counts: &mut Counts,
 ) -> Result<(), Fault> {
-    let (story, _, tables) = told;
+    let (story, _, tables) = entry;
     let (words, steps) = life;
     let (failing, made) = stop;
     let left = live(rt, alloc, words, (steps, story.closes), Some(failing))?;
@@ -62,14 +62,14 @@ fn stop_once<R: Threads + Sync>(
     counts.expect(operations(&left.device) == made);
     counts.expect(left.failed == (made < story.operations));
     let allowed = allowed_after(tables, story.ruling(made), left.acknowledged);
-    judge_stop(rt, alloc, (told, made), &left.device, &allowed, counts)
+    judge_stop(rt, alloc, (entry, made), &left.device, &allowed, counts)
 }
 
 // Judges what a stop after so many operations may leave, and the openings of it that are stopped too.
 fn judge_stop<R: Threads + Sync>(
     rt: &R,
     alloc: Global,
-    stop: (&Told, u64),
+    stop: (&StoryTables, u64),
     device: &SimPmem,
     allowed: &Allowed,
     counts: &mut Counts,

@@ -6,7 +6,7 @@ use asks::{
 
 /// A story, whether the opening of each image that is judged after a stop is stopped everywhere, or of some, and the table
 /// before its first record, and after each that it writes once it is open.
-pub type Told = (Story, bool, &'static [Table]);
+pub type StoryTables = (Story, bool, &'static [Table]);
 
 const NINE_ROWS_UPDATED: Table = &[
     (1, 1),
@@ -23,7 +23,7 @@ const NINE_ROWS_UPDATED: Table = &[
 // Keys 7 and 8, and then three commits.
 const THREE_COMMITTED: &[Table] = &[&[(7, 1), (8, 1)], &[(7, 2), (9, 3)]];
 
-pub const STORIES: &[Told] = &[
+pub const STORIES: &[StoryTables] = &[
     (UPDATE_LOST, true, &[&[], &[(7, 1)]]),
     (UPDATE_LOST_AGAIN, true, &[&[(7, 1)]]),
     (UPDATE_COVERED, true, &[&[(7, 1)], &[(7, 4)]]),

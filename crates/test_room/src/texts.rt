@@ -19,7 +19,7 @@ fn assert_text(
 }
 
 #[test]
-fn faults_are_told_by_name_and_by_sentence(rt: HostRuntime) -> Result<(), Fail> {
+fn faults_are_reported_by_name_and_by_sentence(rt: HostRuntime) -> Result<(), Fail> {
     let fault = Fault::Damaged(3);
     assert_text(&rt, rt.alloc(), &fault.text(), "Damaged 3")?;
     assert_text(

@@ -122,7 +122,7 @@ fn execute_words<
 ) -> Result<(), Error> {
     match order(alloc, words) {
         Ok(order) => execute_order(rt, alloc, &order, input, output, file),
-        Err(fault) => tell(rt, fault),
+        Err(fault) => report_words(rt, fault),
     }
 }
 
@@ -156,12 +156,12 @@ fn execute_order<
     }
 }
 
-fn tell<H: Print>(rt: &H, fault: WordFault) -> Result<(), Error> {
-    let told = match fault {
+fn report_words<H: Print>(rt: &H, fault: WordFault) -> Result<(), Error> {
+    let text = match fault {
         WordFault::Help(_) => "help",
         WordFault::BadWords(_) => "bad words",
         WordFault::OutOfMemory(_) => "out of memory",
     };
-    println!(rt; "{told}")?;
+    println!(rt; "{text}")?;
     Ok(())
 }

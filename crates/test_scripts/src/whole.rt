@@ -1,5 +1,5 @@
 use anyhow::{Error, bail};
-use program::{Exit, Told, run_words};
+use program::{Diagnostic, Exit, run_words};
 use std::alloc::Global;
 use std::fs::File;
 use std::rt::Files;
@@ -48,12 +48,14 @@ pub fn ask_program<
 }
 
 fn print_exit<H: Print>(rt: &H, exit: &Exit) -> Result<(), Error> {
-    match &exit.told {
-        Told::Nothing => {}
-        Told::BadWords(text) if text.is_empty() => println!(rt; "bad words without a text")?,
-        Told::BadWords(_) => println!(rt; "bad words on standard error")?,
-        Told::Broken(reason) => println!(rt; "{reason} on standard error")?,
-        Told::FileFault { file, reason } => println!(rt; "{file}: {reason} on standard error")?,
+    match &exit.diagnostic {
+        Diagnostic::Nothing => {}
+        Diagnostic::BadWords(text) if text.is_empty() => println!(rt; "bad words without a text")?,
+        Diagnostic::BadWords(_) => println!(rt; "bad words on standard error")?,
+        Diagnostic::Broken(reason) => println!(rt; "{reason} on standard error")?,
+        Diagnostic::FileFault { file, reason } => println!(rt;
+            "{file}: {reason} on standard error"
+        )?,
     }
     if let Some(file) = exit.unwritten {
         println!(rt; "{file} was not written on standard error")?;

@@ -1,7 +1,7 @@
 //! The program wbl: the process round what the words ask for.
 #![tactic(auto)]
 
-use program::{Exit, Told, run_words};
+use program::{Diagnostic, Exit, run_words};
 use standard_streams::reserve;
 use std::alloc::Global;
 use std::io::ErrorKind;
@@ -38,7 +38,7 @@ fn main(rt: HostRuntime) -> ExitCode {
         &mut rt.reader(),
         &mut io::writer(&rt),
     );
-    let _ = tell(&rt, &exit);
+    let _ = print_diagnostic(&rt, &exit);
     ExitCode::from(exit.status)
 }
 
@@ -58,12 +58,12 @@ fn fail(rt: &impl Eprint, reason: io::Error) -> ExitCode {
 }
 
 // What is printed on standard error takes no memory.
-fn tell(rt: &impl Eprint, exit: &Exit) -> io::Result<()> {
-    match &exit.told {
-        Told::Nothing => {}
-        Told::BadWords(text) => eprint!(rt; "{text}")?,
-        Told::Broken(reason) => eprint!(rt; "error: {reason}\n")?,
-        Told::FileFault { file, reason } => eprint!(rt; "error: {file}: {reason}\n")?,
+fn print_diagnostic(rt: &impl Eprint, exit: &Exit) -> io::Result<()> {
+    match &exit.diagnostic {
+        Diagnostic::Nothing => {}
+        Diagnostic::BadWords(text) => eprint!(rt; "{text}")?,
+        Diagnostic::Broken(reason) => eprint!(rt; "error: {reason}\n")?,
+        Diagnostic::FileFault { file, reason } => eprint!(rt; "error: {file}: {reason}\n")?,
     }
     match exit.unwritten {
         Some(file) => eprint!(rt; "{file} was not written\n"),

@@ -3,7 +3,7 @@ use Rattle.std.specs.Prelude.{⊤, Result}
 use Rattle.base.specs.declared.fault.Fault.{Fault}
 use Rattle.database.specs.Committing.{LeadsByWrites}
 use Rattle.database.proofs.Covering.{obeys-as}
-use Rattle.database.proofs.Telling.{begun-with, begun-refused, begun-given-up}
+use Rattle.database.proofs.Reporting.{begun-with, begun-refused, begun-given-up}
 use Rattle.database.proofs.committing.begin_with.Goals as goal
 
 pub returns-in-Ok-write_all : goal.returns-in-Ok-write_all

@@ -7,7 +7,7 @@ use Rattle.base.specs.declared.key.Key.{Key}
 use Rattle.database.specs.Obeys.{MakesWrite}
 use Rattle.database.specs.Committing.{LeadsByWrites}
 use Rattle.database.proofs.Runs.{leads-none}
-use Rattle.database.proofs.Telling.{writes-more, writes-refused}
+use Rattle.database.proofs.Reporting.{writes-more, writes-refused}
 use Rattle.database.proofs.committing.write_all.Goals as goal
 
 pub loop-one-init : goal.loop-one-init

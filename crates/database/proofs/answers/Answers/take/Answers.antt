@@ -7,5 +7,5 @@ pub returns : goal.returns
 returns c =
     answered-if c.args.session c.args.timestamp c.in-Answered.answer.result c.answer_to.result
     (subst (λ (n : ℕ). IsAnswered n c.in-Answered.answer.result) c.if-answer-session.false
-    (answered-so c.in-Answered.answer.session c.in-Answered.answer.result c.in-Answered.answer.told c.in-Answered.answer.why))
+    (answered-so c.in-Answered.answer.session c.in-Answered.answer.result c.in-Answered.answer.acknowledged c.in-Answered.answer.why))
     c.answer_to.ensures.some

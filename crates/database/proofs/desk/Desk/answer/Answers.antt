@@ -1,7 +1,7 @@
 use Rattle.std.proofs.Common.{inr, subst, Ok, rules}
 use Rattle.database.specs.Obeys.{Finishes}
 use Rattle.database.specs.Committing.{IsGivenUp}
-use Rattle.database.proofs.Telling.{is-acknowledged}
+use Rattle.database.proofs.Reporting.{is-acknowledged}
 use Rattle.database.proofs.Errors.{finish-waits, finish-refused, stops-after}
 use Rattle.database.proofs.desk.Desk.answer.Goals as goal
 

@@ -3,7 +3,7 @@ use Rattle.std.specs.Prelude.{Err}
 use Rattle.base.specs.declared.fault.Fault.TheVariants.{WindowFull}
 use Rattle.database.specs.declared.error.CommitError.TheVariants.{Refused}
 use Rattle.database.specs.Obeys.{Prepares}
-use Rattle.database.proofs.Telling.{is-prepared, prepared-ok, prepared-err, conflicts-at}
+use Rattle.database.proofs.Reporting.{is-prepared, prepared-ok, prepared-err, conflicts-at}
 use Rattle.database.proofs.desk.Shared.prepare.Goals as goal
 
 pub returns-then-not-is_full-clause-ok : goal.returns-then-not-is_full-clause-ok

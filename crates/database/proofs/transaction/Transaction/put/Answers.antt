@@ -1,4 +1,4 @@
-use Rattle.database.proofs.Telling.{answers-put}
+use Rattle.database.proofs.Reporting.{answers-put}
 use Rattle.database.proofs.transaction.Transaction.put.Goals as goal
 
 pub returns-clause-made : goal.returns-clause-made

@@ -5,7 +5,7 @@ pub returns-in-Ok-commit-clause-ok : goal.returns-in-Ok-commit-clause-ok
 returns-in-Ok-commit-clause-ok g c = record {
   session = c.changes.new.arg2.snapshot.reads.session;
   calls = record { lent = _; left = _; begun = c.in_ok-transaction.ensures.ok; called = c.in-Ok.ensures; leaves = refl };
-  tells = c.in-Ok-commit.ensures.ok;
+  reported = c.in-Ok-commit.ensures.ok;
 }
 
 pub returns-in-Conflict-clause-ok : goal.returns-in-Conflict-clause-ok

@@ -18,7 +18,7 @@ use Rattle.database.specs.declared.error.CommitError.TheVariants.{Refused, Open}
 use Rattle.database.specs.Replies.{began_of, done_of, drawn_of, stamped_of, committed_of}
 use Rattle.database.specs.Runs.{HasRun, LeadsAlong, EndsSomeRun}
 use Rattle.database.specs.Obeys.{Obeys, Repeats, PutsCollecting, MakesWrite, StampsAll, Prepares, Finishes}
-use Rattle.database.specs.Committing.{IsPut, AnswersPut, IsWrite, AreWrites, LeadsByWrites, BeginsWith, DrawsAndStamps, DrawsAndEnds, PollsAndEnds, IsPreparation, IsPrepared, IsAcknowledged, TellsUnprepared, ConflictsAt}
+use Rattle.database.specs.Committing.{IsPut, AnswersPut, IsWrite, AreWrites, LeadsByWrites, BeginsWith, DrawsAndStamps, DrawsAndEnds, PollsAndEnds, IsPreparation, IsPrepared, IsAcknowledged, ReportsUnprepared, ConflictsAt}
 use Rattle.database.proofs.Runs.{leads-one, leads-run, leads-join, ends-run}
 use Rattle.database.proofs.Numbers.{ends-run-at}
 
@@ -48,7 +48,7 @@ put-along state old new session key row result (inr (refused, collected, first, 
   Put session key row ∷ (replicate visits.0 Collect ++ Put session key row ∷ []),
   first.0 ∷ (visits.1 ++ last.0 ∷ []),
   leads_through state old refused collected new (Put session key row) done_of _ Collect (Put session key row) done_of result first visits last,
-  inr (record { count = visits.0; first = first.0; visits = visits.1; last = last.0; steps_are = refl; replies_are = refl; found_none = first.2; tells = last.2 }),
+  inr (record { count = visits.0; first = first.0; visits = visits.1; last = last.0; steps_are = refl; replies_are = refl; found_none = first.2; result_is = last.2 }),
 )
 
 pub answers-put : {D : Type 0} {G : Ghosts D} {ended : Option Fault} (state : D → Device) (old new : Room D G) (session : ℕ) (key : Key) (row : List ℕ) (result : Result ⊤ Fault)
@@ -140,21 +140,21 @@ stamped_so : {D : Type 0} {G : Ghosts D} {ended : Option Fault} (state : D → D
     → ∥ HasRun state old ended ∥₁ → (drawn : Room D G) → Obeys state old drawn (Draw session) drawn_of (Ok (Some t)) → StampsAll state drawn new session result → EndsSomeRun Fact
 stamped_so state old new session t result Fact so run drawn draws (mid, stamps, last) =
     ends-run state old new _ _ Fact run (leads_through state old drawn mid new (Draw session) drawn_of _ (Stamp session) (Stamp session) stamped_of _ draws stamps last)
-    (so _ _ (record { count = stamps.0; drawn = draws.0; stamps = stamps.1; last = last.0; steps_are = refl; replies_are = refl; drew = draws.2; tells = last.2 }))
+    (so _ _ (record { count = stamps.0; drawn = draws.0; stamps = stamps.1; last = last.0; steps_are = refl; replies_are = refl; drew = draws.2; result_is = last.2 }))
 
 ended_so : {D : Type 0} {G : Ghosts D} {ended : Option Fault} (state : D → Device) (old new : Room D G) (session : ℕ) (result : Result ⊤ Fault) (Fact : List Step → List Reply → Type 0)
     → ((steps : List Step) (replies : List Reply) → DrawsAndEnds session result steps replies → Fact steps replies)
     → ∥ HasRun state old ended ∥₁ → (drawn : Room D G) → Obeys state old drawn (Draw session) drawn_of (Ok None) → Obeys state drawn new (End session) done_of result → EndsSomeRun Fact
 ended_so state old new session result Fact so run drawn draws last =
     ends-run state old new _ _ Fact run (leads_two state old drawn new (Draw session) drawn_of _ (End session) done_of result draws last)
-    (so _ _ (record { drawn = draws.0; last = last.0; steps_are = refl; replies_are = refl; drew = draws.2; tells = last.2 }))
+    (so _ _ (record { drawn = draws.0; last = last.0; steps_are = refl; replies_are = refl; drew = draws.2; result_is = last.2 }))
 
 pub polled_so : {D : Type 0} {G : Ghosts D} {ended : Option Fault} (state : D → Device) (old new : Room D G) (session t : ℕ) (result : Result ⊤ Fault) (Fact : List Step → List Reply → Type 0)
     → ((steps : List Step) (replies : List Reply) → PollsAndEnds session t result steps replies → Fact steps replies)
     → ∥ HasRun state old ended ∥₁ → (mid : Room D G) → Obeys state old mid (Poll session) committed_of (Ok (Some t)) → Obeys state mid new (End session) done_of result → EndsSomeRun Fact
 polled_so state old new session t result Fact so run mid polls last =
     ends-run state old new _ _ Fact run (leads_two state old mid new (Poll session) committed_of _ (End session) done_of result polls last)
-    (so _ _ (record { polled = polls.0; last = last.0; steps_are = refl; replies_are = refl; told = polls.2; tells = last.2 }))
+    (so _ _ (record { polled = polls.0; last = last.0; steps_are = refl; replies_are = refl; committed = polls.2; result_is = last.2 }))
 
 pub is-prepared : {D : Type 0} {G : Ghosts D} {ended : Option Fault} (state : D → Device) (old new : Room D G) (session : ℕ) (result : Result (Option ℕ) CommitError)
     → ∥ HasRun state old ended ∥₁ → Prepares state old new session result → IsPrepared session result
@@ -177,7 +177,7 @@ prepared-ok state old new session (Err error) run prepares = tt
 
 -- where it returns why it isn't
 pub prepared-err : {D : Type 0} {G : Ghosts D} {ended : Option Fault} (state : D → Device) (old new : Room D G) (session : ℕ) (result : Result (Option ℕ) CommitError)
-    → ∥ HasRun state old ended ∥₁ → Prepares state old new session result → (result ≡ Err (Refused WindowFull) → ⊥) → IfErr result (TellsUnprepared session)
+    → ∥ HasRun state old ended ∥₁ → Prepares state old new session result → (result ≡ Err (Refused WindowFull) → ⊥) → IfErr result (ReportsUnprepared session)
 prepared-err state old new session (Ok drawn) run prepares other = tt
 prepared-err state old new session (Err error) run prepares other = inl (is-prepared state old new session (Err error) run prepares, λ is. other (ap Err is))
 
@@ -190,4 +190,4 @@ conflicts-at state old new session key last run (inl one) at =
 conflicts-at state old new session key last run (inr (drawn, draws, end)) at =
     ends-run-at state old new (Draw session ∷ End session ∷ []) (draws.0 ∷ end.0 ∷ []) (IsPreparation session (Err (Refused (Conflict key)))) (λ q. last ≡ q.next - 1) run
     (leads_two state old drawn new (Draw session) drawn_of _ (End session) done_of _ draws end)
-    (inr (record { drawn = draws.0; last = end.0; steps_are = refl; replies_are = refl; drew = draws.2; tells = end.2 })) at
+    (inr (record { drawn = draws.0; last = end.0; steps_are = refl; replies_are = refl; drew = draws.2; result_is = end.2 })) at
