@@ -18,7 +18,7 @@ use Rattle.room.specs.Room.{Shows, RunsTo, Leads}
 use Rattle.room.proofs.Runs.{run-none, run-then}
 use Rattle.database.specs.Replies.{committed_of, drawn_of}
 use Rattle.database.specs.declared.opened.OpenedRoom.{OpenedRoom}
-use Rattle.database.specs.Obeys.{Obeys, InRoom, Repeats, StampsAll, Covers, DrawsNothing}
+use Rattle.database.specs.Obeys.{Obeys, InRoom, Repeats, RepeatsTimes, StampsAll, Covers, DrawsNothing}
 
 -- ---- one step after another
 
@@ -49,6 +49,15 @@ repeats-then state old mid new step reply repeats leads = (
 pub repeats-more : {D A : Type 0} → {G : Ghosts D} → (state : D → Device) (old mid new : Room D G) (step : Step) (read : Reply → Result A Fault) (result : Result A Fault)
     → Repeats state old mid step → Obeys state mid new step read result → Repeats state old new step
 repeats-more state old mid new step read result repeats obeys = repeats-then state old mid new step obeys.0 repeats obeys.1
+
+-- just so many times
+pub times-none : {D : Type 0} → {G : Ghosts D} → (state : D → Device) (room : Room D G) (step : Step) → IsOrderly (state room.device) → RepeatsTimes state room room step 0
+times-none state room step orderly = ([], λ q shows. ([], run-none state room q orderly shows))
+
+pub times-then : {D : Type 0} → {G : Ghosts D} → (state : D → Device) (old mid new : Room D G) (step : Step) (count : ℕ) (reply : Reply)
+    → RepeatsTimes state old mid step count → Leads state mid new step reply → RepeatsTimes state old new step (count + 1)
+unfolding repeats-then
+times-then state old mid new step count reply repeats leads = let a = repeats-then state old mid new step reply (count, repeats.0, repeats.1) leads in (a.1, a.2)
 
 -- what is returned may be named otherwise
 pub obeys-as : {D A : Type 0} → {G : Ghosts D} → (state : D → Device) (old new : Room D G) (step : Step) (read : Reply → Result A Fault) (result other : Result A Fault)

@@ -1,5 +1,5 @@
 -- What the error of a commit says.
-use Rattle.std.proofs.Common.{◌≡◌, ◌≢◌, ◌⊎◌, inl, inr, ℕ, Bool, true, false, List, [], ◌∷◌, length, refl, sym, subst, arith}
+use Rattle.std.proofs.Common.{◌≡◌, ◌≢◌, ◌⊎◌, ◌↔◌, ◌≤◌, inl, inr, ℕ, Bool, true, false, List, [], ◌∷◌, length, leb, le-leb, leb-true, refl, sym, subst, arith}
 use mathlib.Core.HLevel.{⊥_prop}
 use Rattle.std.specs.Prelude.{⊤, Option, Some, None, IfSome, is_some, IsTrue, Result, Ok, Err}
 use Rattle.std.specs.Result.{ForOk, ForErr}
@@ -24,7 +24,9 @@ use Rattle.room.specs.declared.room.Room.{Room}
 use Rattle.database.specs.declared.error.CommitError.{CommitError}
 use Rattle.database.specs.declared.error.CommitError.TheVariants.{Refused, Open}
 use Rattle.database.specs.Replies.{committed_of}
-use Rattle.room.specs.Room.{Leads}
+use Rattle.room.specs.Room.{Leads, Shows, ShowsStatus}
+use Rattle.room.specs.declared.status.Status.{Status}
+use Rattle.database.specs.declared.opened.OpenedRoom.{OpenedRoom}
 use Rattle.database.specs.Runs.{EndedAlong, HasRun, IsRunFrom, IsLast, HasEnded}
 use Rattle.database.specs.Obeys.{Finishes, AnswersStep, IsStep}
 use Rattle.database.specs.Committing.{IsAcknowledged, HasLackedMemory, IsSettledUpTo, WaitsInVain, IsGivenUp, StopsAfter, StopsAtEnd, GivesUp, IsAnswered, IsAnsweredAt, AnswersTo, ReportsError, ReportsRefusal}
@@ -153,6 +155,19 @@ finish-refused state old new session fault run (inr (mid, t, polls, last)) = pol
 pub settled-ended : (t : ℕ) (ended : Option Fault) → ForSome ended HasEnded → IsTrue (is_some ended) → IsSettledUpTo t
 settled-ended t (Some fault) so is = inr (inl (fault, so fault refl))
 settled-ended t None so is = absurd (cc is)
+
+-- a timestamp is settled exactly where it has ended, or the record has come to it
+pub settled-exact : {D : Type 0} {G : Ghosts D} (state : D → Device) (there : Option (OpenedRoom D G)) (room : OpenedRoom D G) (t : ℕ) (status : Status) → there ≡ Some room → is_some room.ended ≡ false
+    → ((q : State) → Shows state room.room q → ShowsStatus q status)
+    → IfSome there (λ room. (q : State) → Shows state room.room q → IsTrue (leb t status.persisted) ↔ (IsTrue (is_some room.ended) ⊎ (t ≤ q.ruling.persisted)))
+settled-exact {D} {G} state there room t status is going told =
+    subst (λ (o : Option (OpenedRoom D G)). IfSome o (λ room. (q : State) → Shows state room.room q → IsTrue (leb t status.persisted) ↔ (IsTrue (is_some room.ended) ⊎ (t ≤ q.ruling.persisted))))
+    (sym is)
+    (λ q shows. (λ less. inr (subst (λ (n : ℕ). t ≤ n) (told q shows).persisted (leb-true t status.persisted less)), λ either. settles (q.ruling.persisted) (told q shows).persisted either))
+  where
+    settles : (persisted : ℕ) → status.persisted ≡ persisted → IsTrue (is_some room.ended) ⊎ (t ≤ persisted) → IsTrue (leb t status.persisted)
+    settles persisted same (inl ended) = absurd (cc (sym ended, going))
+    settles persisted same (inr less) = le-leb t status.persisted (subst (λ (n : ℕ). t ≤ n) (sym same) less)
 
 not-last : (fault : Fault) (key : Key) → fault ≡ Conflict key → IsLast fault → ⊥
 not-last fault key e (inl out) = absurd (cc (sym e, out))

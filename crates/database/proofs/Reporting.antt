@@ -44,11 +44,11 @@ put-along : {D : Type 0} {G : Ghosts D} (state : D → Device) (old new : Room D
     → PutsCollecting state old new session key row result → (steps : List Step) × (replies : List Reply) × LeadsAlong state old new steps replies × IsPut session key row result steps replies
 put-along state old new session key row result (inl one) =
     (Put session key row ∷ [], one.0 ∷ [], leads-one state old new (Put session key row) one.0 one.1, inl (one.0, refl, refl, one.2))
-put-along state old new session key row result (inr (refused, collected, first, visits, last)) = (
-  Put session key row ∷ (replicate visits.0 Collect ++ Put session key row ∷ []),
-  first.0 ∷ (visits.1 ++ last.0 ∷ []),
-  leads_through state old refused collected new (Put session key row) done_of _ Collect (Put session key row) done_of result first visits last,
-  inr (record { count = visits.0; first = first.0; visits = visits.1; last = last.0; steps_are = refl; replies_are = refl; found_none = first.2; result_is = last.2 }),
+put-along state old new session key row result (inr (refused, collected, first, (count, all, visits), last)) = (
+  Put session key row ∷ (replicate count Collect ++ Put session key row ∷ []),
+  first.0 ∷ (visits.0 ++ last.0 ∷ []),
+  leads_through state old refused collected new (Put session key row) done_of _ Collect (Put session key row) done_of result first (count, visits.0, visits.1) last,
+  inr (record { count = count; first = first.0; visits = visits.0; last = last.0; steps_are = refl; replies_are = refl; found_none = first.2; result_is = last.2 }),
 )
 
 pub answers-put : {D : Type 0} {G : Ghosts D} {ended : Option Fault} (state : D → Device) (old new : Room D G) (session : ℕ) (key : Key) (row : List ℕ) (result : Result ⊤ Fault)

@@ -1,5 +1,5 @@
 -- What a put and a commit make of a run.
-use Rattle.std.specs.Prelude.{◌≡◌, ◌≢◌, ◌⊎◌, ◌≤◌, ◌-◌, ℕ, List, [], ◌∷◌, ◌++◌, replicate, ⊤, Option, Some, None, Result, Ok, Err, MatchResult}
+use Rattle.std.specs.Prelude.{◌≡◌, ◌≢◌, ◌⊎◌, ◌≤◌, ◌+◌, ◌-◌, ◌^◌, min, ℕ, List, [], ◌∷◌, ◌++◌, replicate, ⊤, Option, Some, None, Result, Ok, Err, MatchResult}
 use Rattle.base.specs.declared.fault.Fault.{Fault}
 use Rattle.base.specs.declared.fault.Fault.TheVariants.{SlotsOut, Conflict, WindowFull, OutOfMemory, TimestampsOut}
 use Rattle.base.specs.declared.key.Key.{Key}
@@ -149,6 +149,17 @@ most_refusals = 100
 -- A commit is waited for still: its own poll reported that it isn't covered, the committer hasn't ended, and wasn't refused memory too often
 abbrev pub IsLeftWaiting : ℕ → Option Fault → ℕ → Type 0
 IsLeftWaiting session ended refusals = AnswersStep (Poll session) committed_of (Ok None) × (ended ≡ None) × (refusals ≤ most_refusals)
+
+-- the timestamp that was reported is the answer, or the refusal, which leaves the commit open; where it isn't covered it is given up, or there is none
+abbrev pub IsReadOff : Result (Option ℕ) Fault → Option (Result ℕ CommitError) → Type 0
+IsReadOff (Ok (Some t)) answer = answer ≡ Some (Ok t)
+IsReadOff (Ok None) answer = (t : ℕ) → answer ≢ Some (Ok t)
+IsReadOff (Err fault) answer = answer ≡ Some (Err (Open fault))
+
+-- how many transactions are open once one was begun, or not
+abbrev pub open_after : {A : Type 0} → ℕ → Result A Fault → ℕ
+open_after count (Ok begun) = min (count + 1) (2 ^ 64 - 1)
+open_after count (Err fault) = count
 
 -- the session's poll was refused so, or it reported the timestamp and the end was refused so
 abbrev pub StopsAtEnd : ℕ → CommitError → Type 0

@@ -1,5 +1,5 @@
 -- What a call makes of a room.
-use Rattle.std.specs.Prelude.{◌≡◌, ◌⊎◌, ℕ, Bool, true, List, [], ◌∷◌, replicate, ⊤, Option, Some, None, Result, Ok, Err}
+use Rattle.std.specs.Prelude.{◌≡◌, ◌⊎◌, ℕ, ◌+◌, Bool, true, List, [], ◌∷◌, replicate, ⊤, Option, Some, None, Result, Ok, Err}
 use Rattle.base.specs.declared.fault.Fault.{Fault}
 use Rattle.base.specs.declared.fault.Fault.TheVariants.{SlotsOut}
 use Rattle.base.specs.declared.step.Step.{Step}
@@ -46,11 +46,20 @@ Repeats state old new step =
 
 -- ---- a put
 
--- The put is made; or it found no slot, the collector made visits, and the put is made after them
+-- the room makes this step just so many times
+abbrev pub RepeatsTimes : {D : Type 0} → {G : Ghosts D} → (D → Device) → Room D G → Room D G → Step → ℕ → Type 0
+RepeatsTimes state old new step count =
+    (replies : List Reply) × ((q : State) → Shows state old q → (states : List State) × RunsTo state old new (replicate count step) replies q states)
+
+-- the collector visits each slot and ends its round, which are so many visits
+abbrev pub CollectsAll : {D : Type 0} → {G : Ghosts D} → (D → Device) → Room D G → Room D G → Type 0
+CollectsAll state old new = (count : ℕ) × ((q : State) → Shows state old q → count ≡ q.layout.slots + 1) × RepeatsTimes state old new Collect count
+
+-- The put is made; or it found no slot, the collector visited all its places, and the put is made after that
 abbrev pub PutsCollecting : {D : Type 0} → {G : Ghosts D} → (D → Device) → Room D G → Room D G → ℕ → Key → List ℕ → Result ⊤ Fault → Type 0
 PutsCollecting {D} {G} state old new session key row result =
     Obeys state old new (Put session key row) done_of result
-    ⊎ ((refused collected : Room D G) × Obeys state old refused (Put session key row) done_of (Err SlotsOut) × Repeats state refused collected Collect × Obeys state collected new (Put session key row) done_of result)
+    ⊎ ((refused collected : Room D G) × Obeys state old refused (Put session key row) done_of (Err SlotsOut) × CollectsAll state refused collected × Obeys state collected new (Put session key row) done_of result)
 
 -- the row is put so, or what is under the key is deleted
 abbrev pub MakesWrite : {D : Type 0} → {G : Ghosts D} → (D → Device) → Room D G → Room D G → ℕ → Key → Option (List ℕ) → Result ⊤ Fault → Type 0

@@ -1,25 +1,45 @@
 -- What a turn of a worker leaves under the lock.
-use Rattle.std.specs.Prelude.{◌≡◌, ◌≢◌, ◌<◌, Some}
+use Rattle.std.specs.Prelude.{◌≡◌, ◌≢◌, ◌+◌, ◌-◌, ◌^◌, ℕ, min, Some}
 use Rattle.base.specs.declared.fault.Fault.{Fault}
 use Rattle.base.specs.declared.fault.Fault.TheVariants.{OutOfMemory}
 use Rattle.base.specs.declared.step.Step.TheVariants.{Commit as CommitTick}
 use Rattle.base.specs.declared.step.Reply.{Reply}
-use Rattle.base.specs.declared.step.Reply.TheVariants.{Refused}
+use Rattle.base.specs.declared.step.Reply.TheVariants.{Refused, Covered, Ticked}
+use Rattle.base.specs.declared.step.Reply.TheVariants as reply
+use Rattle.base.specs.declared.step.Stage.TheVariants.{GateFlushed}
 use Rattle.pmem.specs.Device.{Device}
 use Rattle.pmem.specs.declared.device.Pmem.{Ghosts}
 use Rattle.room.specs.Room.{Leads}
 use Rattle.database.specs.declared.desk.Desk.{Desk}
+use Rattle.database.specs.declared.turns.Turn.{Turn}
+use Rattle.database.specs.declared.turns.Turn.TheVariants.{Idle, Finished, Flushed, LacksMemory, Stopped, Unfinished}
 use Rattle.database.specs.Obeys.{InRoom, ended_of}
+
+-- what a turn comes to with a tick that is answered so
+abbrev pub turn_of : Reply → Turn
+turn_of reply.Idle = Idle
+turn_of (Covered batch) = Finished
+turn_of (Ticked GateFlushed) = Flushed
+turn_of (Refused OutOfMemory) = LacksMemory
+turn_of (Refused fault) = Stopped
+turn_of _ = Unfinished
+
+-- how often in a row a tick was refused memory then
+abbrev pub refusals_after : ℕ → Reply → ℕ
+refusals_after refusals (Refused OutOfMemory) = min (refusals + 1) (2 ^ 64 - 1)
+refusals_after refusals (Refused fault) = refusals
+refusals_after refusals _ = 0
 
 -- the tick wasn't refused, or for want of memory, which passes
 abbrev pub GoesOn : Reply → Type 0
 GoesOn reply = (fault : Fault) → reply ≡ Refused fault → fault ≡ OutOfMemory
 
 -- The room makes one tick of the committer, and nothing else. Where it is refused, that is kept as the reason why the committer has ended, and
--- nothing else is ever taken for it; want of memory doesn't end the committer, and is counted
-pub record TicksOnce {D : Type 0} {G : Ghosts D} (state : D → Device) (old new : Desk D G) : Type 0 where
+-- nothing else is ever taken for it; want of memory doesn't end the committer, and is counted. The turn comes to what the tick was answered
+pub record TicksOnce {D : Type 0} {G : Ghosts D} (state : D → Device) (old new : Desk D G) (result : Turn) : Type 0 where
   pub reply : Reply
   pub ticks : InRoom (λ before after. Leads state before after CommitTick reply) old.room new.room
   pub ended : (fault : Fault) → reply ≡ Refused fault → fault ≢ OutOfMemory → ended_of new.room ≡ Some fault
   pub goes_on : GoesOn reply → ended_of new.room ≡ ended_of old.room
-  pub counted : reply ≡ Refused OutOfMemory → 0 < new.refusals
+  pub counted : new.refusals ≡ refusals_after old.refusals reply
+  pub turn : result ≡ turn_of reply

@@ -19,7 +19,8 @@ pub fn put_collecting<D: Pmem + Drop>(
     key: Key,
     row: Row,
 ) -> Result<(), Fault>
-    ensures { PutsCollecting D.state room.old.room room.new.room session key row result }
+    ensures steps { PutsCollecting D.state room.old.room room.new.room session key row result }
+    ensures ended { room.new.ended ≡ room.old.ended }
 {
     match put(room, session, key, row) {
         Ok(()) => Ok(()),
@@ -40,7 +41,8 @@ fn write<D: Pmem + Drop>(
     session: u8,
     write: (Key, Option<Row>),
 ) -> Result<(), Fault>
-    ensures { MakesWrite D.state room.old.room room.new.room session write.0 write.1 result }
+    ensures steps { MakesWrite D.state room.old.room room.new.room session write.0 write.1 result }
+    ensures ended { room.new.ended ≡ room.old.ended }
 {
     let (key, row) = write;
     match row {
@@ -55,7 +57,8 @@ pub fn write_all<D: Pmem + Drop>(
     session: u8,
     writes: &[(Key, Option<Row>)],
 ) -> Result<(), Fault>
-    ensures { LeadsByWrites D.state room.old.room room.new.room session writes.now result }
+    ensures steps { LeadsByWrites D.state room.old.room room.new.room session writes.now result }
+    ensures ended { room.new.ended ≡ room.old.ended }
 {
     for one in writes {
         match write(room, session, *one) {
@@ -71,7 +74,8 @@ pub fn begin_with<D: Pmem + Drop>(
     room: &mut OpenedRoom<D>,
     writes: &[(Key, Option<Row>)],
 ) -> Result<u8, Fault>
-    ensures { BeginsWith D.state room.old.room room.new.room writes.now result }
+    ensures steps { BeginsWith D.state room.old.room room.new.room writes.now result }
+    ensures ended { room.new.ended ≡ room.old.ended }
 {
     match begin(room) {
         Ok(session) => match write_all(room, session, writes) {
@@ -92,6 +96,7 @@ pub fn prepare<D: Pmem + Drop, R: Wait>(
     session: u8,
 ) -> Result<Option<Ts>, CommitError>
     ensures steps { Prepares D.state room.old.room room.new.room session result }
+    ensures ended { room.new.ended ≡ room.old.ended }
     ensures refused { IfErr result (IsRefusedWhole D.state room.old.room room.new.room) }
 {
     match draw(room, session) {
@@ -115,7 +120,8 @@ pub fn stamp_all<D: Pmem + Drop, R: Wait>(
     room: &mut OpenedRoom<D>,
     session: u8,
 ) -> Result<(), Fault>
-    ensures { StampsAll D.state room.old.room room.new.room session result }
+    ensures stamps { StampsAll D.state room.old.room room.new.room session result }
+    ensures ended { room.new.ended ≡ room.old.ended }
 {
     for _ in rt.forever() {
         match stamp(room, session) {

@@ -61,20 +61,25 @@ pub struct Desk<D: Pmem> {
 }
 
 impl<D: Pmem + Drop> Desk<D> {
-    ghost use Rattle.std.specs.Prelude.{◌≡◌, ◌<◌, ◌≤◌, ◌-◌, ◌↔◌, None, Some, IsTrue, is_some, IfSome, IfNone};
+    ghost use Rattle.std.specs.Prelude.{◌≡◌, ◌⊎◌, ◌<◌, ◌≤◌, ◌-◌, ◌↔◌, ℕ, Option, None, Some, Result, IsTrue, is_some, IfSome, IfNone};
+    ghost use Rattle.machine.specs.Machine.{State};
+    ghost use Rattle.base.specs.declared.fault.Fault.{Fault};
+    ghost use Rattle.room.specs.Room.{Shows};
     ghost use Rattle.base.specs.declared.fault.Fault.TheVariants.{TimestampsOut};
     ghost use Rattle.base.specs.declared.step.Step.TheVariants.{Begin, Abort};
     ghost use Rattle.database.specs.Replies.{began_of, done_of};
     ghost use Rattle.std.specs.Option.{ForSome};
     ghost use Rattle.database.specs.Runs.{HasEnded};
-    ghost use Rattle.database.specs.Obeys.{Obeys, InRoom, AnswersStep, ended_of};
-    ghost use Rattle.database.specs.Committing.{BeginsWith, AnswersBegunWith, IsAnswered, IsAnsweredAt, IsGivenUp, HasLackedMemory, IsLeftWaiting, IsWithoutAnswer, IsSettledUpTo, most_refusals};
+    ghost use Rattle.database.specs.Obeys.{Obeys, InRoom, AnswersStep, Finishes, ended_of};
+    ghost use Rattle.database.specs.Committing.{BeginsWith, AnswersBegunWith, IsAnswered, IsAnsweredAt, IsGivenUp, HasLackedMemory, IsLeftWaiting, IsWithoutAnswer, IsSettledUpTo, IsReadOff, most_refusals, open_after};
 
     /// Opens a transaction. The number of its session.
     pub fn begin(&mut self) -> Result<u8, Fault>
         requires there { IsTrue (is_some self.old.room) }
         ensures step { InRoom (λ old new. Obeys D.state old new Begin began_of result) self.old.room self.new.room }
         ensures made { AnswersStep Begin began_of result }
+        ensures ended { ended_of self.new.room ≡ ended_of self.old.room }
+        ensures open { self.new.open ≡ open_after self.old.open result }
     {
         let Some(room) = &mut self.room else {
             unreachable!()
@@ -91,6 +96,8 @@ impl<D: Pmem + Drop> Desk<D> {
         requires there { IsTrue (is_some self.old.room) }
         ensures steps { InRoom (λ old new. BeginsWith D.state old new writes.now result) self.old.room self.new.room }
         ensures made { AnswersBegunWith writes.now result }
+        ensures ended { ended_of self.new.room ≡ ended_of self.old.room }
+        ensures open { self.new.open ≡ open_after self.old.open result }
     {
         let Some(room) = &mut self.room else {
             unreachable!()
@@ -115,6 +122,8 @@ impl<D: Pmem + Drop> Desk<D> {
         requires there { IsTrue (is_some self.old.room) }
         ensures step { InRoom (λ old new. Obeys D.state old new (Abort session) done_of result) self.old.room self.new.room }
         ensures made { AnswersStep (Abort session) done_of result }
+        ensures ended { ended_of self.new.room ≡ ended_of self.old.room }
+        ensures open { self.new.open ≡ self.old.open }
     {
         let Some(room) = &mut self.room else {
             unreachable!()
@@ -124,6 +133,8 @@ impl<D: Pmem + Drop> Desk<D> {
 
     /// The answer to the session's commit, once there is one.
     pub fn answer(&mut self, session: u8) -> Option<Result<Ts, CommitError>>
+        ensures finish { IsTrue (is_some self.old.room) → (told : Result (Option ℕ) Fault) × InRoom (λ old new. Finishes D.state old new session told) self.old.room self.new.room × IsReadOff told result }
+        ensures ended { ended_of self.new.room ≡ ended_of self.old.room }
         ensures some { IfSome result (IsAnswered session) }
         ensures none { IsTrue (is_some self.old.room) → IfNone result (IsLeftWaiting session (ended_of self.new.room) self.new.refusals) }
     {
@@ -142,6 +153,8 @@ impl<D: Pmem + Drop> Desk<D> {
 
     /// The answer to the session's commit with this timestamp, once there is one.
     pub fn answer_to(&mut self, session: u8, timestamp: Ts) -> Option<Result<(), CommitError>>
+        ensures finish { IsTrue (is_some self.old.room) → (told : Result (Option ℕ) Fault) × InRoom (λ old new. Finishes D.state old new session told) self.old.room self.new.room }
+        ensures ended { ended_of self.new.room ≡ ended_of self.old.room }
         ensures some { IfSome result (IsAnsweredAt session timestamp) }
         ensures none { IsTrue (is_some self.old.room) → IfNone result (IsWithoutAnswer session timestamp (ended_of self.new.room) self.new.refusals) }
     {
@@ -224,6 +237,7 @@ impl<D: Pmem + Drop> Desk<D> {
     pub fn is_settled(&self, timestamp: Ts) -> bool
         ensures so { IsTrue result → IsSettledUpTo timestamp }
         ensures ended { IsTrue (is_some (ended_of self.now.room)) → IsTrue result }
+        ensures exact { IfSome self.now.room (λ room. (q : State) → Shows D.state room.room q → IsTrue result ↔ (IsTrue (is_some room.ended) ⊎ (timestamp ≤ q.ruling.persisted))) }
     {
         if self.ended().is_some() {
             return true;

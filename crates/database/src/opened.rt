@@ -59,14 +59,16 @@ impl<D: Pmem + Drop> OpenedRoom<D> {
 
     /// The layout of the device.
     pub fn geometry(&self) -> Geometry
-        ensures { ComesTo (λ q. result ≡ q.layout) }
+        ensures shows { (q : State) → Shows D.state self.now.room q → result ≡ q.layout }
+        ensures comes { ComesTo (λ q. result ≡ q.layout) }
     {
         self.room.geometry()
     }
 
     /// The numbers of the ruling record, its gaps and long commits, and the next timestamp.
     pub fn status(&self) -> Status
-        ensures { ComesTo (λ q. ShowsStatus q result) }
+        ensures shows { (q : State) → Shows D.state self.now.room q → ShowsStatus q result }
+        ensures comes { ComesTo (λ q. ShowsStatus q result) }
     {
         self.room.status()
     }
@@ -120,6 +122,7 @@ impl<D: SyncAhead + Drop> OpenedRoom<D> {
     pub fn begin_sync(&mut self) -> Option<D::Pending>
         ensures device { device_of D.state self.new.room ≡ device_of D.state self.old.room }
         ensures shows { (q : State) → Shows D.state self.old.room q → Shows D.state self.new.room q }
+        ensures ended { self.new.ended ≡ self.old.ended }
     {
         self.room.begin_sync()
     }
@@ -128,6 +131,7 @@ impl<D: SyncAhead + Drop> OpenedRoom<D> {
     pub fn end_sync(&mut self, pending: D::Pending)
         ensures device { device_of D.state self.new.room ≡ device_of D.state self.old.room }
         ensures shows { (q : State) → Shows D.state self.old.room q → Shows D.state self.new.room q }
+        ensures ended { self.new.ended ≡ self.old.ended }
     {
         self.room.end_sync(pending);
     }

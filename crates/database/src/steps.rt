@@ -3,7 +3,7 @@ ghost use Rattle.base.specs.Steps.{as_reply};
 ghost use Rattle.session_steps.specs.Replies.{polled as polled_reply};
 ghost use Rattle.base.specs.declared.step.Step.TheVariants.{Begin, Get, Scan, Put, Delete, Draw, Stamp, Poll, Abort, End, Collect};
 ghost use Rattle.database.specs.Replies.{began_of, row_of, rows_of, done_of, drawn_of, stamped_of, committed_of};
-ghost use Rattle.database.specs.Obeys.{Obeys, Repeats};
+ghost use Rattle.database.specs.Obeys.{Obeys, RepeatsTimes};
 
 use crate::opened::OpenedRoom;
 use base::Ts;
@@ -16,7 +16,8 @@ use room::CommitStatus;
 
 /// Opens a session. Its number.
 pub fn begin<D: Pmem + Drop>(room: &mut OpenedRoom<D>) -> Result<u8, Fault>
-    ensures { Obeys D.state room.old.room room.new.room Begin began_of result }
+    ensures step { Obeys D.state room.old.room room.new.room Begin began_of result }
+    ensures ended { room.new.ended ≡ room.old.ended }
 {
     room.room.begin()
 }
@@ -27,7 +28,8 @@ pub fn get<D: Pmem + Drop>(
     session: u8,
     key: Key,
 ) -> Result<Option<Row>, Fault>
-    ensures { Obeys D.state room.old.room room.new.room (Get session key) row_of result }
+    ensures step { Obeys D.state room.old.room room.new.room (Get session key) row_of result }
+    ensures ended { room.new.ended ≡ room.old.ended }
 {
     room.room.get(session, key)
 }
@@ -40,7 +42,8 @@ pub fn scan<D: Pmem + Drop>(
     lo: u64,
     hi: u64,
 ) -> Result<Rows, Fault>
-    ensures { Obeys D.state room.old.room room.new.room (Scan session table lo hi) rows_of result }
+    ensures step { Obeys D.state room.old.room room.new.room (Scan session table lo hi) rows_of result }
+    ensures ended { room.new.ended ≡ room.old.ended }
 {
     room.room.scan(session, table, lo, hi)
 }
@@ -52,28 +55,32 @@ pub fn put<D: Pmem + Drop>(
     key: Key,
     row: Row,
 ) -> Result<(), Fault>
-    ensures { Obeys D.state room.old.room room.new.room (Put session key row) done_of result }
+    ensures step { Obeys D.state room.old.room room.new.room (Put session key row) done_of result }
+    ensures ended { room.new.ended ≡ room.old.ended }
 {
     room.room.put(session, key, row)
 }
 
 /// Deletes the row under the key, if there is one.
 pub fn delete<D: Pmem + Drop>(room: &mut OpenedRoom<D>, session: u8, key: Key) -> Result<(), Fault>
-    ensures { Obeys D.state room.old.room room.new.room (Delete session key) done_of result }
+    ensures step { Obeys D.state room.old.room room.new.room (Delete session key) done_of result }
+    ensures ended { room.new.ended ≡ room.old.ended }
 {
     room.room.delete(session, key)
 }
 
 /// Draws a timestamp. `None` if nothing was written.
 pub fn draw<D: Pmem + Drop>(room: &mut OpenedRoom<D>, session: u8) -> Result<Option<Ts>, Fault>
-    ensures { Obeys D.state room.old.room room.new.room (Draw session) drawn_of result }
+    ensures step { Obeys D.state room.old.room room.new.room (Draw session) drawn_of result }
+    ensures ended { room.new.ended ≡ room.old.ended }
 {
     room.room.draw(session)
 }
 
 /// Stamps one key. Whether all are stamped.
 pub fn stamp<D: Pmem + Drop>(room: &mut OpenedRoom<D>, session: u8) -> Result<bool, Fault>
-    ensures { Obeys D.state room.old.room room.new.room (Stamp session) stamped_of result }
+    ensures step { Obeys D.state room.old.room room.new.room (Stamp session) stamped_of result }
+    ensures ended { room.new.ended ≡ room.old.ended }
 {
     room.room.stamp(session)
 }
@@ -100,7 +107,8 @@ fn committed_in(polled: Result<CommitStatus, Fault>) -> Result<Option<Ts>, Fault
 
 /// Gives the transaction up.
 pub fn abort<D: Pmem + Drop>(room: &mut OpenedRoom<D>, session: u8) -> Result<(), Fault>
-    ensures { Obeys D.state room.old.room room.new.room (Abort session) done_of result }
+    ensures step { Obeys D.state room.old.room room.new.room (Abort session) done_of result }
+    ensures ended { room.new.ended ≡ room.old.ended }
 {
     room.room.abort(session)
 }
@@ -115,9 +123,10 @@ pub fn end<D: Pmem + Drop>(room: &mut OpenedRoom<D>, session: u8) -> Result<(), 
 
 /// Visits so many places of the collector's round.
 pub fn collect<D: Pmem + Drop>(room: &mut OpenedRoom<D>, places: u64)
-    ensures { Repeats D.state room.old.room room.new.room Collect }
+    ensures visits { RepeatsTimes D.state room.old.room room.new.room Collect places }
+    ensures ended { room.new.ended ≡ room.old.ended }
 {
-    for _ in 0..places {
+    for _made in 0..places {
         let reply = room.visit();
         drop(reply);
     }

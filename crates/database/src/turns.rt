@@ -44,7 +44,7 @@ pub enum Turn {
 
 // A tick of the committer.
 fn tick<D: Pmem + Drop>(desk: &mut Desk<D>) -> Turn
-    ensures once { IsTrue (is_some desk.old.room) → TicksOnce D.state desk.old desk.new }
+    ensures once { IsTrue (is_some desk.old.room) → TicksOnce D.state desk.old desk.new result }
     ensures stopped { result ≡ Stopped → IsTrue (is_some (ended_of desk.new.room)) }
 {
     let Some(room) = &mut desk.room else {
@@ -101,15 +101,22 @@ fn visit_some<D: Pmem + Drop>(room: &mut OpenedRoom<D>) -> Turn
 }
 
 impl<D: Pmem> Desk<D> {
-    ghost use Rattle.std.specs.Prelude.{◌≡◌, ◌≢◌, ◌<◌};
+    ghost use Rattle.std.specs.Prelude.{◌≡◌, ◌≢◌, ◌≤◌};
+    ghost use Rattle.base.specs.declared.fault.Fault.{Fault};
     ghost use Rattle.base.specs.declared.fault.Fault.TheVariants.{OutOfMemory};
+    ghost use Rattle.base.specs.declared.step.Reply.TheVariants.{Refused};
     ghost use Rattle.database.specs.declared.turns.Turn.TheVariants.{Stopped};
     ghost use Rattle.database.specs.Committing.{HasLackedMemory};
+    ghost use Rattle.database.specs.Ticking.{turn_of, refusals_after};
 
     // What a tick comes to that isn't refused.
     fn after_tick(&mut self, reply: &Reply) -> Turn
-        ensures room { self.new.room ≡ self.old.room }
+        requires answered { (fault : Fault) → reply.now ≢ Refused fault }
         ensures goes_on { result ≢ Stopped }
+        ensures room { self.new.room ≡ self.old.room }
+        ensures turn { result ≡ turn_of reply.now }
+        ensures refusals { self.new.refusals ≡ refusals_after self.old.refusals reply.now }
+        ensures covered { self.old.covered ≤ self.new.covered }
     {
         self.refusals = 0;
         match reply {
@@ -126,9 +133,11 @@ impl<D: Pmem> Desk<D> {
     // What a refusal of a tick comes to: want of memory passes, and nothing else does.
     fn after_refusal(&mut self, fault: Fault) -> Turn
         requires lacked { fault ≡ OutOfMemory → HasLackedMemory }
-        ensures counted { fault ≡ OutOfMemory → 0 < self.new.refusals }
         ensures room { self.new.room ≡ self.old.room }
         ensures stopped { result ≡ Stopped → fault ≢ OutOfMemory }
+        ensures turn { result ≡ turn_of (Refused fault) }
+        ensures refusals { self.new.refusals ≡ refusals_after self.old.refusals (Refused fault) }
+        ensures covered { self.new.covered ≡ self.old.covered }
     {
         match fault {
             Fault::OutOfMemory => {

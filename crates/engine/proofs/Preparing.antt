@@ -1,6 +1,6 @@
 -- A draw and its stamps.
 use Rattle.std.proofs.Common.{◌≡◌, ◌⊎◌, ℕ, List, [], ◌∷◌, ◌++◌, refl, sym, ◌∙◌, ap, subst, inl, inr}
-use Rattle.std.specs.Prelude.{All, Option, Some}
+use Rattle.std.specs.Prelude.{All, Option, Some, None}
 use Rattle.base.specs.declared.fault.Fault.{Fault}
 use Rattle.base.specs.declared.fault.Fault.TheVariants.{OutOfMemory}
 use Rattle.base.specs.declared.step.Step.TheVariants.{Draw, Stamp}
@@ -68,4 +68,13 @@ drawn_told old mid new phase n t answer is at a c =
     drawn_first old mid new n (note_of_draw answer) _ _ a c (λ r rest step told stamps. (
       subst (λ (p : Phase). AskPrepare p (r ∷ rest)) (sym is) (inr (r, rest, refl, step, stamps.0)),
       subst (λ (p : Phase). ReportsPrepare p (r ∷ rest) (Some t)) (sym is) ((r, rest, refl, told ∙ ap note_of_draw at), one_before AllStamped r rest stamps.1),
+    ))
+
+-- nothing was written, so nothing is stamped
+pub nothing_told : (old new : List Receipt) (phase : Phase) (n : ℕ) (answer : Option ℕ) → phase ≡ Active n → answer ≡ None → Asks old new (Draw n) (note_of_draw answer)
+    → Called old new (λ added. AskPrepare phase added × ReportsPrepare phase added None)
+nothing_told old new phase n answer is at a =
+    Called-one old new (Draw n) (note_of_draw answer) _ a (λ r step told. (
+      subst (λ (p : Phase). AskPrepare p (r ∷ [])) (sym is) (inr (r, [], refl, step, All-nil (λ (s : Receipt). s.step ≡ Stamp n))),
+      subst (λ (p : Phase). ReportsPrepare p (r ∷ []) None) (sym is) ((r, [], refl, told ∙ ap note_of_draw at), (r, refl)),
     ))

@@ -70,10 +70,10 @@ note_of_draw None = Done
 abbrev pub ReportsFirst : List Receipt → Note → Type 0
 ReportsFirst added note = (r : Receipt) × (rest : List Receipt) × (added ≡ r ∷ rest) × (r.note ≡ note)
 
--- where there is a timestamp, the last note says that all keys are stamped
+-- where there is a timestamp, the last note says that all keys are stamped; else the draw is the only step
 abbrev pub ReportsStamped : List Receipt → Option ℕ → Type 0
 ReportsStamped added (Some t) = ReportsLast added AllStamped
-ReportsStamped added None = Unit {0}
+ReportsStamped added None = (r : Receipt) × (added ≡ r ∷ [])
 
 -- the answer is the draw's, by the first note or by an earlier call; and all keys are stamped, by the last note or by an earlier call
 abbrev pub ReportsPrepare : Phase → List Receipt → Option ℕ → Type 0

@@ -1,5 +1,5 @@
 -- What is due for the workers after a step, and who is to be notified.
-use Rattle.std.specs.Prelude.{◌≡◌, ◌≢◌, ℕ, ◌+◌, ◌*◌, ◌-◌, ◌^◌, ◌<◌, min, Bool, true, false, IsTrue, IsFalse, List, [], length}
+use Rattle.std.specs.Prelude.{◌≡◌, ◌≢◌, ℕ, ◌+◌, ◌*◌, ◌-◌, ◌/◌, ◌^◌, ◌<◌, min, max, Bool, true, false, IsTrue, IsFalse, List, [], length}
 use Rattle.base.specs.Records.{Record}
 use Rattle.base.specs.declared.gap.Gap.{Gap}
 use Rattle.base.specs.declared.fault.Fault.TheVariants.{Device as DeviceFault, Failed, OutOfMemory, SlotsOut, TimestampsOut, WindowFull}
@@ -63,6 +63,21 @@ pub record NotifiesDue (old new : Due) (reply : Reply) : Type 0 where
 abbrev pub covered_after : ℕ → Reply → ℕ
 covered_after covered (Covered batch) = min (covered + length batch.commits) (2 ^ 64 - 1)
 covered_after covered _ = covered
+
+-- a slot was wanted since a round fell due last, and none was free
+abbrev pub wanted_after : Bool → Reply → Bool
+wanted_after wanted (Refused SlotsOut) = true
+wanted_after wanted _ = wanted
+
+-- the device fails, or has failed
+abbrev pub fails : Reply → Bool
+fails (Refused DeviceFault) = true
+fails (Refused Failed) = true
+fails _ = false
+
+-- a fourth of the slots, and one at least: so many covered commits make a round due
+abbrev pub fourth_of : ℕ → ℕ
+fourth_of slots = max (slots / 4) 1
 
 -- a record is due though no commit was stamped: a draw left less than half a window of the reserved timestamps, or a sweep ended, whose gaps are to be dropped
 abbrev pub WantsRecordOf : Reply → ℕ → List Gap → ℕ → ℕ → Type 0

@@ -64,7 +64,7 @@ pub struct Desk<D: Pmem, J: Origin> {
 }
 
 impl<D: Pmem + Drop, J: Origin> Desk<D, J> {
-    ghost use Rattle.std.specs.Prelude.{◌≡◌, ◌↔◌, ◌+◌, ◌⊎◌, ◌^◌, IsTrue, true, false, nat_lt, is_some, None, IfSome, IfNone, IfErr, OnErr, MatchOption, MatchResult};
+    ghost use Rattle.std.specs.Prelude.{◌≡◌, ◌≤◌, ◌↔◌, ◌+◌, ◌⊎◌, ◌^◌, IsTrue, IsFalse, true, false, nat_lt, is_some, None, IfSome, IfNone, IfErr, OnErr, MatchOption, MatchResult};
     ghost use Rattle.base.specs.Batches.{Batch};
     ghost use Rattle.base.specs.declared.fault.Fault.TheVariants.{OutOfMemory};
     ghost use Rattle.base.specs.declared.step.Reply.TheVariants.{Covered};
@@ -73,7 +73,7 @@ impl<D: Pmem + Drop, J: Origin> Desk<D, J> {
     ghost use Rattle.room.specs.Room.{Shows};
     ghost use Rattle.engine.specs.Origins.{HasCovered};
     ghost use Rattle.engine.specs.declared.desk.Duty.TheVariants.{Commit, Collect};
-    ghost use Rattle.engine.specs.Due.{IsDelivered, MakesDue, NotifiesDue, WantsRecord};
+    ghost use Rattle.engine.specs.Due.{IsDelivered, MakesDue, NotifiesDue, WantsRecord, covered_after, fourth_of, tick_after, wants_visit};
     ghost use Rattle.engine.specs.Lending.{HasMade, MakesOnly, has_failed, is_covered, halted_after, refusals_after, why_not, waited};
 
     /// No room yet.
@@ -165,6 +165,9 @@ impl<D: Pmem + Drop, J: Origin> Desk<D, J> {
         ensures due { IfSome self.old.audited (λ audited. MakesDue self.old.due self.new.due reply.now) }
         ensures news { IfSome self.old.audited (λ audited. NotifiesDue self.old.due self.new.due reply.now) }
         ensures record { IfSome self.old.audited (λ audited. (q : State) → Shows D.state audited.room q → WantsRecord reply.now q.ruling q.next q.layout.window → IsTrue self.new.due.tick) }
+        ensures needed { IfSome self.old.audited (λ audited. (q : State) → Shows D.state audited.room q → IsTrue self.new.due.tick → IsTrue (tick_after self.old.due.tick reply.now) ⊎ WantsRecord reply.now q.ruling q.next q.layout.window) }
+        ensures round { IfSome self.old.audited (λ audited. (q : State) → Shows D.state audited.room q → fourth_of q.layout.slots ≤ self.new.due.covered → IsTrue self.new.due.visit) }
+        ensures reason { IfSome self.old.audited (λ audited. (q : State) → Shows D.state audited.room q → IsFalse self.old.due.visit → IsTrue self.new.due.visit → IsTrue (wants_visit reply.now) ⊎ (IsTrue self.old.due.is_slot_wanted ⊎ (fourth_of q.layout.slots ≤ covered_after self.old.due.covered reply.now))) }
         ensures asleep { self.new.asleep ≡ self.old.asleep }
         ensures room { self.new.audited ≡ self.old.audited }
         ensures handed { self.new.handed ≡ self.old.handed }

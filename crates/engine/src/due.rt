@@ -1,9 +1,9 @@
 //! What the workers have to do, so that they sleep while there is nothing. A tick that found nothing finds nothing again until
 //! another step was made: a draw that leaves few timestamps reserved, or finds none, a last stamp, the end of a sweep. A round
 //! finds something once commits were covered, or where a slot is wanted.
-ghost use Rattle.std.specs.Prelude.{◌≡◌, ◌⊎◌, ◌≤◌, IsTrue, IsFalse, true, false};
+ghost use Rattle.std.specs.Prelude.{◌≡◌, ◌⊎◌, ◌≤◌, ◌&&◌, ◌||◌, not, if◌then◌else◌, IsTrue, IsFalse, true, false};
 ghost use Rattle.base.specs.declared.step.Reply.TheVariants.{Refused, SweepEnd};
-ghost use Rattle.engine.specs.Due.{covered_after, tick_after, wants_visit, wakes_waiting, KeepsNews, IsDelivered};
+ghost use Rattle.engine.specs.Due.{covered_after, fails, tick_after, wanted_after, wants_visit, wakes_waiting, KeepsNews, IsDelivered};
 
 use base::fault::Fault;
 use base::step::Reply;
@@ -90,6 +90,8 @@ impl Due {
         ensures wanted { IsTrue (wants_visit reply.now) → IsTrue self.new.visit }
         ensures within { IsTrue self.old.visit → IsFalse self.new.visit → reply.now ≡ SweepEnd }
         ensures needed { IsFalse self.old.visit → IsTrue self.new.visit → IsTrue (wants_visit reply.now) ⊎ (IsTrue self.old.is_slot_wanted ⊎ (quarter ≤ covered_after self.old.covered reply.now)) }
+        ensures counts_on { IsTrue self.old.visit → IsTrue self.new.visit → (reply.now ≡ SweepEnd → ⊥) → self.new.covered ≡ covered_after self.old.covered reply.now }
+        ensures wants_on { IsTrue self.old.visit → IsTrue self.new.visit → (reply.now ≡ SweepEnd → ⊥) → self.new.is_slot_wanted ≡ wanted_after self.old.is_slot_wanted reply.now }
         ensures covered { (self.new.covered ≡ covered_after self.old.covered reply.now) ⊎ ((self.new.covered ≡ 0) × IsTrue self.new.visit) }
         ensures committer { IsFalse self.old.tick → IsTrue self.new.tick → IsTrue self.new.news.committer }
         ensures collector { IsFalse self.old.visit → IsTrue self.new.visit → IsTrue self.new.news.collector }
@@ -119,6 +121,9 @@ impl Due {
         ensures visit { IsTrue self.old.visit → IsTrue self.new.visit }
         ensures needed { (IsTrue self.new.visit ⊎ IsTrue self.new.is_slot_wanted) → IsTrue (wants_visit (Refused fault)) ⊎ (IsTrue self.old.visit ⊎ IsTrue self.old.is_slot_wanted) }
         ensures covered { (self.new.covered ≡ self.old.covered) ⊎ ((self.new.covered ≡ 0) × IsTrue self.new.visit) }
+        ensures visit_is { self.new.visit ≡ (self.old.visit || fails (Refused fault)) }
+        ensures covered_is { self.new.covered ≡ if not self.old.visit && fails (Refused fault) then 0 else self.old.covered }
+        ensures wanted_is { self.new.is_slot_wanted ≡ if not self.old.visit && fails (Refused fault) then false else wanted_after self.old.is_slot_wanted (Refused fault) }
         ensures committer { IsFalse self.old.tick → IsTrue self.new.tick → IsTrue self.new.news.committer }
         ensures collector { IsFalse self.old.visit → IsTrue self.new.visit → IsTrue self.new.news.collector }
         ensures waiting { IsTrue (wakes_waiting (Refused fault)) → IsTrue self.new.news.waiting }
@@ -158,7 +163,8 @@ impl Due {
         ensures news { KeepsNews self.old.news self.new.news }
         ensures tick { self.new.tick ≡ self.old.tick }
         ensures waiting { self.new.news.waiting ≡ self.old.news.waiting }
-        ensures covered { (self.new.covered ≡ self.old.covered) ⊎ (self.new.covered ≡ 0) }
+        ensures covered { self.new.covered ≡ if self.old.visit then self.old.covered else 0 }
+        ensures wanted { self.new.is_slot_wanted ≡ if self.old.visit then self.old.is_slot_wanted else false }
     {
         if !self.visit {
             self.visit = true;

@@ -164,7 +164,7 @@ impl<D: Pmem + Drop, J: Origin, B: Drop> Engine<D, J, B> {
         ensures agrees { IfOk result (λ audited. Agrees audited.entries.items self.first (receipts_in sessions.items)) }
         ensures from { IfOk result (IsFrom D.state J.image) }
         ensures fault { IfErr result (λ e. e.0 ≡ WrongState) }
-        ensures back { IfErr result (λ e. (e.1.opening ≡ self.opening) × (e.1.first ≡ self.first) × (e.1.published ≡ self.published) × (e.2.items ≡ sessions.items)) }
+        ensures back { IfErr result (λ e. (e.1.opening ≡ self.opening) × (e.1.first ≡ self.first) × (e.1.published ≡ self.published) × (e.1.shared ≡ self.shared) × (e.1.readers ≡ self.readers) × (e.2.items ≡ sessions.items)) }
     {
         let count = sessions.len() as u64;
         if !may_close(&mut self.shared.desk.lock(rt), count) {

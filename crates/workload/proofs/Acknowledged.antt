@@ -14,11 +14,11 @@ use Rattle.base.specs.declared.step.Note.TheVariants.{Began, Committed, Covered 
 use Rattle.audited.specs.declared.receipt.Receipt.{Receipt}
 use Rattle.engine.specs.declared.phase.Phase.{Phase}
 use Rattle.engine.specs.declared.phase.Phase.TheVariants.{Idle, Active, Drawn, Stamped, Covered}
-use Rattle.engine.specs.Calls.{ArePolls, AreUnended, AskCommit, AskPrepare, Called, DeclinesCall, ReportsCommit, ReportsEnd, ReportsLast}
+use Rattle.engine.specs.Calls.{ArePolls, AreUnended, AskCommit, AskPrepare, Called, DeclinesCall, ReportsCommit, ReportsEnd, ReportsLast, note_of_commit}
 use Rattle.engine.specs.Phases.{added_since, number_of, phase_after, phase_after_step}
 use Rattle.engine.specs.Receipts.{Answers, Asks, Declines, Refuses}
 use Rattle.engine.proofs.Phasing.{phase_after-append}
-use Rattle.workload.specs.Load.{GivesUp, IsRefusedWith, Makes, MakesNone, MakesOne, acknowledged, draws, ended_of, has_drawn, may_pass, pending, reported_to}
+use Rattle.workload.specs.Load.{GivesUp, IsRefusedWith, Makes, MakesNone, MakesOne, ReportsNothing, acknowledged, draws, ended_of, has_drawn, may_pass, pending, reported_to}
 use Rattle.workload.proofs.Counted.{acknowledged-none, acknowledged-one, count-one, draws-append, draws-cons, ends, ends-append, ends-cons, ends-short, none-counted}
 
 -- ---- one after the other
@@ -373,12 +373,25 @@ ended-more Halted old added new fault is (inl (inr last)) = inr (inl (tells-more
 ended-more Halted old added new fault is (inr (halted, waiting)) = inr (inr halted)
 
 pub refused-called : (Halted : Fault → Type 0) (phase : Phase) (old new : List Receipt) (fault : Fault) (Asked : List Receipt → Type 0) → phase ≢ Idle
-    → Called old new (λ added. Asked added × DeclinesCall Halted phase added fault) → (fault ≡ OutOfMemory) ⊎ ((fault ≡ WrongState) ⊎ IsRefusedWith Halted new fault)
+    → Called old new (λ added. Asked added × DeclinesCall Halted phase added fault) → (fault ≡ OutOfMemory) ⊎ (((fault ≡ WrongState) × ReportsNothing new) ⊎ IsRefusedWith Halted new fault)
 refused-called Halted phase old new fault Asked there called = either (ended-more Halted old called.added new fault called.is (declined-there Halted phase called.added fault there called.holds.1).0)
   where
-    either : (fault ≡ OutOfMemory) ⊎ IsRefusedWith Halted new fault → (fault ≡ OutOfMemory) ⊎ ((fault ≡ WrongState) ⊎ IsRefusedWith Halted new fault)
+    either : (fault ≡ OutOfMemory) ⊎ IsRefusedWith Halted new fault → (fault ≡ OutOfMemory) ⊎ (((fault ≡ WrongState) × ReportsNothing new) ⊎ IsRefusedWith Halted new fault)
     either (inl memory) = inl memory
     either (inr refused) = inr (inr refused)
+
+-- ---- nothing was written
+
+nothing-more : (old added new before : List Receipt) (poll last : Receipt) → new ≡ old ++ added → added ≡ (before ++ poll ∷ []) ++ last ∷ [] → new ≡ ((old ++ before) ++ poll ∷ []) ++ last ∷ []
+nothing-more old added new before poll last is ends =
+    is ∙ (ap (λ (rs : List Receipt). old ++ rs) ends ∙ (sym (append_assoc old (before ++ poll ∷ []) (last ∷ [])) ∙ ap (λ (rs : List Receipt). rs ++ last ∷ []) (sym (append_assoc old before (poll ∷ [])))))
+
+-- a commit that told so
+pub reports-nothing : (phase : Phase) (old new : List Receipt) (answer : Option ℕ) (Asked : List Receipt → Type 0) → answer ≡ None
+    → Called old new (λ added. Asked added × ReportsCommit phase added answer) → ReportsNothing new
+reports-nothing phase old new answer Asked none called =
+    let t = called.holds.1 in
+    (number_of phase, old ++ t.before, t.poll, t.end, nothing-more old called.added new t.before t.poll t.end called.is t.is, t.polled, t.noted ∙ ap note_of_commit none)
 
 -- ---- a thread gives up
 
@@ -393,12 +406,12 @@ final-refused R fault final (inl memory) = absurd (no-memory fault final memory)
 final-refused R fault final (inr is) = is
 
 -- after a step back that failed
-pub gives-up : (Halted : Fault → Type 0) (mid new : List Receipt) (fault why : Fault) → (fault ≡ OutOfMemory) ⊎ ((fault ≡ WrongState) ⊎ IsRefusedWith Halted mid fault)
+pub gives-up : (Halted : Fault → Type 0) (mid new : List Receipt) (fault why : Fault) → (fault ≡ OutOfMemory) ⊎ (((fault ≡ WrongState) × ReportsNothing mid) ⊎ IsRefusedWith Halted mid fault)
     → (may_pass why ≡ false) × (((why ≡ fault) × (new ≡ mid)) ⊎ ReportsLast new (Refused why)) → GivesUp Halted new why
 gives-up Halted mid new fault why is (final, inr last) = record { is_final = final; why = inr (inl last) }
 gives-up Halted mid new fault why is (final, inl (same, kept)) = record {
   is_final = final;
-  why = subst (λ (f : Fault). (f ≡ WrongState) ⊎ IsRefusedWith Halted new f) (sym same)
-      (subst (λ (rs : List Receipt). (fault ≡ WrongState) ⊎ IsRefusedWith Halted rs fault) (sym kept)
-      (final-refused ((fault ≡ WrongState) ⊎ IsRefusedWith Halted mid fault) fault (ap may_pass (sym same) ∙ final) is));
+  why = subst (λ (f : Fault). ((f ≡ WrongState) × ReportsNothing new) ⊎ IsRefusedWith Halted new f) (sym same)
+      (subst (λ (rs : List Receipt). ((fault ≡ WrongState) × ReportsNothing rs) ⊎ IsRefusedWith Halted rs fault) (sym kept)
+      (final-refused (((fault ≡ WrongState) × ReportsNothing mid) ⊎ IsRefusedWith Halted mid fault) fault (ap may_pass (sym same) ∙ final) is));
 }

@@ -22,7 +22,7 @@ use Rattle.room.specs.declared.status.Status.{Status}
 use Rattle.engine.specs.Agreement.{Agrees, IsEntry}
 use Rattle.engine.specs.Calls.{ReportsLast}
 use Rattle.engine.specs.Origins.{HasHalted, IsRunFrom}
-use Rattle.workload.specs.Load.{AreMade, GivesUp, HasRefusal, IsRefusedWith, Makes, Works, may_pass}
+use Rattle.workload.specs.Load.{AreMade, GivesUp, HasRefusal, IsRefusedWith, Makes, ReportsNothing, Works, may_pass}
 
 -- ---- parts of a list
 
@@ -98,8 +98,8 @@ given-up : {D : Type 0} {G : Ghosts D} (state : D → Device) (room : Room D G) 
     → (fault ≡ WrongState) ⊎ ((may_pass fault ≡ false) × ∥ HasRefusal image fault ∥₁)
 given-up state room image opening entries first receipts fault all from gives = of gives.why
   where
-    of : (fault ≡ WrongState) ⊎ IsRefusedWith (HasHalted image) receipts fault → (fault ≡ WrongState) ⊎ ((may_pass fault ≡ false) × ∥ HasRefusal image fault ∥₁)
-    of (inl wrong) = inl wrong
+    of : ((fault ≡ WrongState) × ReportsNothing receipts) ⊎ IsRefusedWith (HasHalted image) receipts fault → (fault ≡ WrongState) ⊎ ((may_pass fault ≡ false) × ∥ HasRefusal image fault ∥₁)
+    of (inl (wrong, nothing)) = inl wrong
     of (inr refused) = inr (gives.is_final, refusal state room image opening entries first receipts fault all from refused)
 
 -- the fault of some thread is WrongState, or a final one, which a run was refused with

@@ -1,5 +1,5 @@
 -- What a load of commits needs, what its threads make, and what it leaves.
-use Rattle.std.specs.Prelude.{◌≡◌, ◌⊎◌, ℕ, ◌+◌, ◌*◌, ◌^◌, ◌<◌, ◌≤◌, nat_eq, Bool, true, false, if◌then◌else◌, List, [], ◌∷◌, length, slice_get, Option, Some, None, All, flat_map, count_by}
+use Rattle.std.specs.Prelude.{◌≡◌, ◌⊎◌, ℕ, ◌+◌, ◌*◌, ◌^◌, ◌<◌, ◌≤◌, nat_eq, Bool, true, false, if◌then◌else◌, List, [], ◌∷◌, ◌++◌, length, slice_get, Option, Some, None, All, flat_map, count_by}
 use Rattle.base.specs.declared.fault.Fault.{Fault}
 use Rattle.base.specs.declared.fault.Fault.TheVariants.{Conflict, Device as DeviceFault, NoThread, OutOfMemory, SlotsOut, TimestampsOut, WindowFull, WrongState}
 use Rattle.base.specs.declared.key.Key.{Key}
@@ -112,10 +112,15 @@ pub record MakesOne (phase : Phase) (old new : List Receipt) : Type 0 where
 abbrev pub IsRefusedWith : (Fault → Type 0) → List Receipt → Fault → Type 0
 IsRefusedWith Halted receipts fault = ReportsLast receipts (Refused fault) ⊎ Halted fault
 
+-- the last steps are a poll, which reported that nothing was written, and one after it
+abbrev pub ReportsNothing : List Receipt → Type 0
+ReportsNothing receipts =
+    (n : ℕ) × (before : List Receipt) × (poll last : Receipt) × (receipts ≡ (before ++ poll ∷ []) ++ last ∷ []) × (poll.step ≡ Poll n) × (poll.note ≡ Done)
+
 -- So it is, and a thread that meets the fault gives up; or a commit reported that nothing was written, which no step of a run does after a put
 pub record GivesUp (Halted : Fault → Type 0) (receipts : List Receipt) (fault : Fault) : Type 0 where
   pub is_final : may_pass fault ≡ false
-  pub why : (fault ≡ WrongState) ⊎ IsRefusedWith Halted receipts fault
+  pub why : ((fault ≡ WrongState) × ReportsNothing receipts) ⊎ IsRefusedWith Halted receipts fault
 
 -- the thread made its commits, or met such a fault
 abbrev pub Works : (Fault → Type 0) → ℕ → List Receipt → Option Fault → Type 0

@@ -4,7 +4,7 @@ ghost use Rattle.base.specs.declared.step.Note.TheVariants.{Refused};
 ghost use Rattle.engine.specs.declared.phase.Phase.TheVariants.{Idle};
 ghost use Rattle.engine.specs.Calls.{ReportsLast};
 ghost use Rattle.engine.specs.Origins.{HasHalted};
-ghost use Rattle.workload.specs.Load.{GivesUp, IsRefusedWith, Makes, MakesNone, MakesOne, Works, may_pass};
+ghost use Rattle.workload.specs.Load.{GivesUp, IsRefusedWith, Makes, MakesNone, MakesOne, ReportsNothing, Works, may_pass};
 ghost use Rattle.workload.specs.Tasks.{AllWork, AreFresh};
 
 use crate::task::Task;
@@ -133,7 +133,7 @@ fn try_commit<T: Wait, D: Pmem + Drop, J: Origin, B: Drop>(
 ) -> Result<(), Fault>
     ensures ok { OnOk result (MakesOne session.old.phase session.old.receipts.items session.new.receipts.items) }
     ensures none { IfErr result (λ fault. may_pass fault ≡ true → MakesNone session.old.phase session.old.receipts.items session.new.phase session.new.receipts.items) }
-    ensures err { IfErr result (λ fault. (fault ≡ OutOfMemory) ⊎ ((fault ≡ WrongState) ⊎ IsRefusedWith (HasHalted J.image) session.new.receipts.items fault)) }
+    ensures err { IfErr result (λ fault. (fault ≡ OutOfMemory) ⊎ (((fault ≡ WrongState) × ReportsNothing session.new.receipts.items) ⊎ IsRefusedWith (HasHalted J.image) session.new.receipts.items fault)) }
 {
     match begin_once(rt, session, key, row) {
         Ok(()) => match session.commit(rt) {

@@ -11,7 +11,7 @@ use Rattle.database.proofs.Reporting.{writes-more, writes-refused}
 use Rattle.database.proofs.committing.write_all.Goals as goal
 
 pub loop-one-init : goal.loop-one-init
-loop-one-init g c = ([], [], leads-none g.D.Pmem.state c.args.room.now.room (g.met.D.Pmem.orderly c.args.room.now.room.device), (refl, refl, refl))
+loop-one-init g c = record { made = ([], [], leads-none g.D.Pmem.state c.args.room.now.room (g.met.D.Pmem.orderly c.args.room.now.room.device), (refl, refl, refl)); ended = refl }
 
 pub loop-one-preserved : goal.loop-one-preserved
 loop-one-preserved g c =
@@ -20,9 +20,13 @@ loop-one-preserved g c =
     let one = c.one-item.result in
     let done : take (i + 1) writes ≡ take i writes ++ one ∷ [] =
     ap (λ n. take n writes) (add-one i) ∙ take-suc writes i one c.loop-one-test.true ∙ ap (λ (w : Key × Option (List ℕ)). take i writes ++ w ∷ []) (sym c.one-item.is) in
-    subst (λ (l : List (Key × Option (List ℕ))). LeadsByWrites g.D.Pmem.state c.args.room.now.room c.write.new.room.room c.args.session l (Ok tt)) (sym done)
-    (writes-more g.D.Pmem.state c.args.room.now.room c.loop-one.room.room c.write.new.room.room c.args.session (take i writes) one c.loop-one.invariant
-    (subst (λ (r : Result ⊤ Fault). MakesWrite g.D.Pmem.state c.loop-one.room.room c.write.new.room.room c.args.session one.0 one.1 r) c.in-Ok.is c.write.ensures))
+    record {
+      made =
+          subst (λ (l : List (Key × Option (List ℕ))). LeadsByWrites g.D.Pmem.state c.args.room.now.room c.write.new.room.room c.args.session l (Ok tt)) (sym done)
+          (writes-more g.D.Pmem.state c.args.room.now.room c.loop-one.room.room c.write.new.room.room c.args.session (take i writes) one c.loop-one.invariant.made
+          (subst (λ (r : Result ⊤ Fault). MakesWrite g.D.Pmem.state c.loop-one.room.room c.write.new.room.room c.args.session one.0 one.1 r) c.in-Ok.is c.write.ensures.steps));
+      ended = c.write.ensures.ended ∙ c.loop-one.invariant.ended;
+    }
 
 pub returns-in-Err : goal.returns-in-Err
 returns-in-Err g c =
@@ -31,11 +35,18 @@ returns-in-Err g c =
     let one = c.one-item.result in
     let whole : writes ≡ take i writes ++ one ∷ drop (suc i) writes =
     split_at writes i one c.loop-one-test.true ∙ ap (λ (w : Key × Option (List ℕ)). take i writes ++ w ∷ drop (suc i) writes) (sym c.one-item.is) in
-    subst (λ (l : List (Key × Option (List ℕ))). LeadsByWrites g.D.Pmem.state c.args.room.now.room c.write.new.room.room c.args.session l (Err c.in-Err.fault)) (sym whole)
-    (writes-refused g.D.Pmem.state c.args.room.now.room c.loop-one.room.room c.write.new.room.room c.args.session (take i writes) (drop (suc i) writes) one c.in-Err.fault c.loop-one.invariant
-    (subst (λ (r : Result ⊤ Fault). MakesWrite g.D.Pmem.state c.loop-one.room.room c.write.new.room.room c.args.session one.0 one.1 r) c.in-Err.is c.write.ensures))
+    record {
+      steps =
+          subst (λ (l : List (Key × Option (List ℕ))). LeadsByWrites g.D.Pmem.state c.args.room.now.room c.write.new.room.room c.args.session l (Err c.in-Err.fault)) (sym whole)
+          (writes-refused g.D.Pmem.state c.args.room.now.room c.loop-one.room.room c.write.new.room.room c.args.session (take i writes) (drop (suc i) writes) one c.in-Err.fault c.loop-one.invariant.made
+          (subst (λ (r : Result ⊤ Fault). MakesWrite g.D.Pmem.state c.loop-one.room.room c.write.new.room.room c.args.session one.0 one.1 r) c.in-Err.is c.write.ensures.steps));
+      ended = c.write.ensures.ended ∙ c.loop-one.invariant.ended;
+    }
 
 pub returns : goal.returns
-returns g c =
-    subst (λ (l : List (Key × Option (List ℕ))). LeadsByWrites g.D.Pmem.state c.args.room.now.room c.loop-one.room.room c.args.session l (Ok tt))
-    (take_all c.loop-one.one-index c.args.writes.now c.loop-one-test.false) c.loop-one.invariant
+returns g c = record {
+  steps =
+      subst (λ (l : List (Key × Option (List ℕ))). LeadsByWrites g.D.Pmem.state c.args.room.now.room c.loop-one.room.room c.args.session l (Ok tt))
+      (take_all c.loop-one.one-index c.args.writes.now c.loop-one-test.false) c.loop-one.invariant.made;
+  ended = c.loop-one.invariant.ended;
+}

@@ -8,5 +8,5 @@ use Rattle.database.proofs.steps.abort.Goals as goal
 pub invariant_of-room : goal.invariant_of-room
 invariant_of-room g c = record { run = run-led g.D.Pmem.state c.args.room.now.room c.abort.new.self (Abort c.args.session) (as_reply (done c.abort.result)) c.args.room.now.run c.abort.ensures.step }
 
-pub returns : goal.returns
-returns g c = (as_reply (done c.abort.result), c.abort.ensures.step, reads-done c.abort.result)
+pub returns-clause-step : goal.returns-clause-step
+returns-clause-step g c = (as_reply (done c.abort.result), c.abort.ensures.step, reads-done c.abort.result)

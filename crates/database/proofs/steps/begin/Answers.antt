@@ -8,5 +8,5 @@ use Rattle.database.proofs.steps.begin.Goals as goal
 pub invariant_of-room : goal.invariant_of-room
 invariant_of-room g c = record { run = run-led g.D.Pmem.state c.args.room.now.room c.begin.new.self Begin (as_reply (began c.begin.result)) c.args.room.now.run c.begin.ensures.step }
 
-pub returns : goal.returns
-returns g c = (as_reply (began c.begin.result), c.begin.ensures.step, reads-began c.begin.result)
+pub returns-clause-step : goal.returns-clause-step
+returns-clause-step g c = (as_reply (began c.begin.result), c.begin.ensures.step, reads-began c.begin.result)

@@ -1,9 +1,19 @@
+use Rattle.std.proofs.Common.{◌≡◌, ◌∙◌, ℕ, refl, subst, rules}
+use Rattle.database.specs.Obeys.{RepeatsTimes}
 use Rattle.base.specs.declared.step.Step.TheVariants.{Collect}
-use Rattle.database.proofs.Covering.{repeats-none, repeats-then}
+use Rattle.database.proofs.Covering.{times-none, times-then}
 use Rattle.database.proofs.steps.collect.Goals as goal
 
-pub loop-init : goal.loop-init
-loop-init g c = repeats-none g.D.Pmem.state c.args.room.now.room Collect (g.met.D.Pmem.orderly c.args.room.now.room.device)
+pub loop-made-init : goal.loop-made-init
+loop-made-init g c = record { visits = times-none g.D.Pmem.state c.args.room.now.room Collect (g.met.D.Pmem.orderly c.args.room.now.room.device); ended = refl }
 
-pub loop-preserved : goal.loop-preserved
-loop-preserved g c = repeats-then g.D.Pmem.state c.args.room.now.room c.loop.room.room c.visit-reply.new.self.room Collect c.visit-reply.result c.loop.invariant c.visit-reply.ensures.step
+pub loop-made-preserved : goal.loop-made-preserved
+loop-made-preserved g c = record {
+  visits = times-then g.D.Pmem.state c.args.room.now.room c.loop-made.room.room c.visit-reply.new.self.room Collect c.loop-made._made c.visit-reply.result c.loop-made.invariant.visits c.visit-reply.ensures.step;
+  ended = c.visit-reply.ensures.ended ∙ c.loop-made.invariant.ended;
+}
+
+pub returns-clause-visits : goal.returns-clause-visits
+returns-clause-visits g c =
+    let all : c.loop-made._made ≡ c.args.places = search rules in
+    subst (λ (n : ℕ). RepeatsTimes g.D.Pmem.state c.args.room.now.room c.loop-made.room.room Collect n) all c.loop-made.invariant.visits

@@ -8,5 +8,5 @@ use Rattle.database.proofs.steps.put.Goals as goal
 pub invariant_of-room : goal.invariant_of-room
 invariant_of-room g c = record { run = run-led g.D.Pmem.state c.args.room.now.room c.put.new.self (Put c.args.session c.args.key c.args.row) (as_reply (done c.put.result)) c.args.room.now.run c.put.ensures.step }
 
-pub returns : goal.returns
-returns g c = (as_reply (done c.put.result), c.put.ensures.step, reads-done c.put.result)
+pub returns-clause-step : goal.returns-clause-step
+returns-clause-step g c = (as_reply (done c.put.result), c.put.ensures.step, reads-done c.put.result)

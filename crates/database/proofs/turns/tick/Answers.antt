@@ -1,10 +1,10 @@
-use Rattle.std.proofs.Common.{◌≡◌, ◌∙◌, sym, ap, subst}
+use Rattle.std.proofs.Common.{◌∙◌, sym, ap, subst}
 use Rattle.std.specs.Prelude.{is_some}
-use Rattle.base.specs.declared.fault.Fault.TheVariants.{OutOfMemory}
 use Rattle.base.specs.declared.step.Step.TheVariants.{Commit}
 use Rattle.base.specs.declared.step.Reply.TheVariants.{Refused}
 use Rattle.room.specs.Room.{Leads}
 use Rattle.database.specs.Obeys.{ended_of}
+use Rattle.database.specs.Ticking.{turn_of, refusals_after}
 use Rattle.database.proofs.Errors.{has-lacked}
 use Rattle.database.proofs.turns.tick.Goals as goal
 
@@ -21,7 +21,8 @@ returns-in-Refused-clause-once g c there = record {
   ticks = (c.in-Some.room, c.tick-reply.new.self, c.in-Some.is, c.after_refusal.ensures.room, c.tick-reply.ensures.step);
   ended = λ fault same other. ap ended_of c.after_refusal.ensures.room ∙ c.tick-reply.ensures.ended fault same other;
   goes_on = λ goes. ap ended_of c.after_refusal.ensures.room ∙ (c.tick-reply.ensures.goes_on goes ∙ sym (ap ended_of c.in-Some.is));
-  counted = λ same. let e : c.in-Refused.fault ≡ OutOfMemory = cc (sym c.in-Refused.is, same) in c.after_refusal.ensures.counted e;
+  counted = c.after_refusal.ensures.refusals ∙ ap (refusals_after c.args.desk.now.refusals) (sym c.in-Refused.is);
+  turn = c.after_refusal.ensures.turn ∙ ap turn_of (sym c.in-Refused.is);
 }
 
 pub returns-clause-once : goal.returns-clause-once
@@ -30,7 +31,8 @@ returns-clause-once g c there = record {
   ticks = (c.in-Some.room, c.tick-reply.new.self, c.in-Some.is, c.after_tick.ensures.room, c.tick-reply.ensures.step);
   ended = λ fault is other. absurd (c.in_default-reply.not-Refused fault is);
   goes_on = λ goes. ap ended_of c.after_tick.ensures.room ∙ (c.tick-reply.ensures.goes_on goes ∙ sym (ap ended_of c.in-Some.is));
-  counted = λ is. absurd (c.in_default-reply.not-Refused OutOfMemory is);
+  counted = c.after_tick.ensures.refusals;
+  turn = c.after_tick.ensures.turn;
 }
 
 pub returns-in-Refused-clause-stopped : goal.returns-in-Refused-clause-stopped

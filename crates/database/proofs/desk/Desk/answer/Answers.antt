@@ -1,4 +1,5 @@
-use Rattle.std.proofs.Common.{inr, subst, Ok, rules}
+use Rattle.std.proofs.Common.{inr, subst, refl, Ok, Some, None, rules}
+use Rattle.std.specs.Prelude.{Err}
 use Rattle.database.specs.Obeys.{Finishes}
 use Rattle.database.specs.Committing.{IsGivenUp}
 use Rattle.database.proofs.Reporting.{is-acknowledged}
@@ -28,3 +29,19 @@ pub returns-in-Err-clause-some : goal.returns-in-Err-clause-some
 returns-in-Err-clause-some g c =
     ∣ inr (finish-refused g.D.Pmem.state c.in-Some.room.room c.finish.new.room.room c.args.session c.in-Err.fault c.in-Some.room.run
     (subst (λ r. Finishes g.D.Pmem.state c.in-Some.room.room c.finish.new.room.room c.args.session r) c.in-Err.is c.finish.ensures.steps)) ∣₁
+
+pub returns-in-Ok-Some-clause-finish : goal.returns-in-Ok-Some-clause-finish
+returns-in-Ok-Some-clause-finish g c there =
+    (Ok (Some c.in-Ok-Some.timestamp), (c.in-Some.room, c.finish.new.room, c.in-Some.is, refl, subst (λ o. Finishes g.D.Pmem.state c.in-Some.room.room c.finish.new.room.room c.args.session (Ok o)) c.in-Ok-Some.field-0-is c.in-Ok-Some.ensures.steps), refl)
+
+pub returns-in-Some-given_up-clause-finish : goal.returns-in-Some-given_up-clause-finish
+returns-in-Some-given_up-clause-finish g c there =
+    (Ok None, (c.in-Some.room, c.finish.new.room, c.in-Some.is, refl, subst (λ o. Finishes g.D.Pmem.state c.in-Some.room.room c.finish.new.room.room c.args.session (Ok o)) c.in-Ok-None.field-0-is c.in-Ok-None.ensures.steps), λ t is. absurd (cc is))
+
+pub returns-in-None-clause-finish : goal.returns-in-None-clause-finish
+returns-in-None-clause-finish g c there =
+    (Ok None, (c.in-Some.room, c.finish.new.room, c.in-Some.is, refl, subst (λ o. Finishes g.D.Pmem.state c.in-Some.room.room c.finish.new.room.room c.args.session (Ok o)) c.in-Ok-None.field-0-is c.in-Ok-None.ensures.steps), λ t is. absurd (cc is))
+
+pub returns-in-Err-clause-finish : goal.returns-in-Err-clause-finish
+returns-in-Err-clause-finish g c there =
+    (Err c.in-Err.fault, (c.in-Some.room, c.finish.new.room, c.in-Some.is, refl, subst (λ r. Finishes g.D.Pmem.state c.in-Some.room.room c.finish.new.room.room c.args.session r) c.in-Err.is c.finish.ensures.steps), refl)

@@ -4,5 +4,5 @@ use Rattle.database.proofs.transaction.Transaction.write.Goals as goal
 
 pub returns-clause-made : goal.returns-clause-made
 returns-clause-made g c =
-    let a = c.write_all.ensures in
+    let a = c.write_all.ensures.steps in
     ends-run g.D.Pmem.state c.in-Some.room.room c.write_all.new.room.room a.0 a.1 (AreWrites c.args.self.now.session c.args.writes.now c.write_all.result) c.in-Some.room.run a.2 a.3
