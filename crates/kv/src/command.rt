@@ -9,7 +9,7 @@ pub enum Command {
     Ask(Request),
     /// To put the rows of the lines that follow.
     Load,
-    /// To tell how long each line takes, or no more.
+    /// To print how long each line takes, or no more.
     Timing(bool),
     Help(Option<Word>),
     Quit,

@@ -1,16 +1,16 @@
 use std::rt::Clock;
 use std::time::{Duration, Instant};
 
-// After how many rows it is told again.
+// After how many rows it is printed again.
 const STEP: u64 = 1_024;
 
-/// What a person is told on standard error while rows are put.
+/// What is printed on standard error while rows are put.
 #[derive(Drop)]
 pub struct Progress<'a, R> {
     rt: &'a R,
-    // Whether it is told at all, and since when it lasts.
+    // Since when it lasts, if it is printed at all.
     start: Option<Instant>,
-    // How many rows are told.
+    // How many rows were printed last.
     told: u64,
 }
 
@@ -25,7 +25,7 @@ impl<'a, R: Eprint + Clock> Progress<'a, R> {
         Progress { rt, start, told: 0 }
     }
 
-    /// Tells of so many rows, if that is due.
+    /// Prints that so many rows are put, if that is due.
     pub fn show(&mut self, rows: u64) {
         if rows.saturating_sub(self.told) < STEP {
             return;

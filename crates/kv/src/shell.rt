@@ -211,7 +211,7 @@ impl<'a, R: Print + Eprint + Clock + Wait + Drop> Shell<'a, R> {
         self.was_refused | is_open
     }
 
-    // When a command begins, if that is to be told.
+    // When a command begins, if its time is to be printed.
     fn start(&self) -> Option<Instant> {
         if self.is_timed {
             Instant::now(self.rt).ok()

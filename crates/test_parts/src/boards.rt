@@ -335,7 +335,7 @@ fn told_across<J: Naming + Send + Sync, R: Threads + Wait + Sync>(
 // What one thread lays there for another.
 type Desk<J> = Mutex<Option<Result<Token<J>, Fault>>>;
 
-// Publishes a commit, and tells it.
+// Publishes a commit, and returns its token.
 fn published<J: Naming, R: Wait + Drop>(
     alloc: Global,
     board: &mut Board<J, R>,
