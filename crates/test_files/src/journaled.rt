@@ -81,12 +81,23 @@ fn live<R: Threads + Sync>(
         Ok(device) => device,
         Err(storage) => return Ok(Life::ended(before, storage)),
     };
-    let mut room = match Room::open(rt, alloc, device) {
+    let mut room = match open(rt, alloc, device) {
         Ok(room) => room,
         Err((_fault, device)) => return Ok(Life::ended(before, device.release())),
     };
     let acknowledged = commit_behind(&mut room, before)?;
     Ok(Life::ended(acknowledged, room.into_device().release()))
+}
+
+// A room over the device: in one place, since what an opening promises is long.
+fn open<R: Threads + Sync, D: Pmem + Drop + Send + Sync>(
+    rt: &R,
+    alloc: Global,
+    device: D,
+) -> Result<Room<D>, (Fault, D)>
+    requires at_rest { IsAtRest (D.state device) }
+{
+    Room::open(rt, alloc, device)
 }
 
 impl Life {
@@ -168,20 +179,34 @@ fn commit_behind(room: &mut Room<Device>, before: u8) -> Result<u8, Fault> {
     Ok(acknowledged)
 }
 
+// The number that an opening of the device finds.
+fn number_on<R: Threads + Sync, D: Pmem + Drop + Send + Sync>(
+    rt: &R,
+    alloc: Global,
+    device: D,
+) -> Result<u8, Fault>
+    requires at_rest { IsAtRest (D.state device) }
+{
+    match open(rt, alloc, device) {
+        Ok(room) => number_of(room),
+        Err((fault, _device)) => Err(fault),
+    }
+}
+
+fn number_of<D: Pmem + Drop>(room: Room<D>) -> Result<u8, Fault> {
+    number_in(&room)
+}
+
 // Opens what was found: it has all that was acknowledged, and at most the commit in hand.
 fn assert_opens<R: Threads + Sync + Abort>(rt: &R, alloc: Global, life: Life) -> Result<(), Fault> {
+    let acknowledged = life.acknowledged;
     let storage = MemoryStorage::new(life.found);
     let Ok(device) = Device::of_storage(alloc, storage, WORDS, ROOM, 2) else {
         return Err(Fault::OutOfMemory);
     };
-    match Room::open(rt, alloc, device) {
-        Ok(room) => {
-            let found = number_in(&room)?;
-            assert!(rt; found >= life.acknowledged && found - life.acknowledged <= 1);
-        }
-        Err((fault, _device)) => {
-            assert!(rt; life.acknowledged == 0 && fault == Fault::NotFormatted);
-        }
+    match number_on(rt, alloc, device) {
+        Ok(found) => assert!(rt; found >= acknowledged && found - acknowledged <= 1),
+        Err(fault) => assert!(rt; acknowledged == 0 && fault == Fault::NotFormatted),
     }
     Ok(())
 }
@@ -232,12 +257,9 @@ fn so_does_each_failing_call_of_a_second_life(rt: HostRuntime) -> Result<(), Fau
 
 // The number in an image without a journal.
 fn number_in_image<R: Threads + Sync>(rt: &R, alloc: Global, image: Vec<u64>) -> Result<u8, Fault> {
-    let Ok(device) = JournaledPmem::new(alloc, image, Nowhere, 2) else {
-        return Err(Fault::OutOfMemory);
-    };
-    match Room::open(rt, alloc, device) {
-        Ok(room) => number_in(&room),
-        Err((fault, _device)) => Err(fault),
+    match JournaledPmem::new(alloc, image, Nowhere, 2) {
+        Ok(device) => number_on(rt, alloc, device),
+        Err(_images) => Err(Fault::OutOfMemory),
     }
 }
 
@@ -294,7 +316,7 @@ fn at_rest(alloc: Global, words: Vec<u64>, calls: usize) -> Result<(Device, u64)
 }
 
 #[test]
-fn a_sync_ahead_that_fails_is_told_by_the_fence(rt: HostRuntime) -> Result<(), Fault> {
+fn a_sync_ahead_that_fails_is_reported_by_the_fence(rt: HostRuntime) -> Result<(), Fault> {
     let alloc = rt.alloc();
     // An opening makes eight calls. Then the image is written, and it is synced.
     for calls in [8, 9, 10] {
