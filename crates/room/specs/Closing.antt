@@ -16,7 +16,7 @@ use Rattle.group_commit.specs.declared.stage.CycleStage.TheVariants.{FlushLines,
 use Rattle.group_commit.specs.Cycles.{Cycling}
 use Rattle.txn.specs.declared.drawn.DrawnCommit.{DrawnCommit}
 use Rattle.txn.specs.DrawnCommits.{plain_drawn}
-use Rattle.cycle_simulation.specs.Closing.{ClosesAs}
+use Rattle.simulation.specs.cycles.Closing.{ClosesAs}
 use Rattle.room.specs.declared.volatile.VolatileState.{VolatileState}
 use Rattle.room.specs.Committing.{Shows}
 

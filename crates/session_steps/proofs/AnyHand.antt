@@ -11,7 +11,7 @@ use Rattle.txn.specs.declared.transaction.Transaction.{Transaction}
 use Rattle.txn.specs.declared.transaction.Transaction.TheVariants.{Active, Drawn, ReadOnly}
 use Rattle.txn.specs.Transactions.{transaction_at}
 use Rattle.index.specs.Entries.{entry_at, live_of}
-use Rattle.step_simulation.specs.Moves.{IsSlotOf}
+use Rattle.simulation.specs.steps.Moves.{IsSlotOf}
 use Rattle.session_steps.specs.declared.sessions.Sessions.{Sessions}
 use Rattle.session_steps.specs.Shows.{Hidden, plain_of, HasItsSlot, HoldsSession, HoldsDrawn, Agrees, Shows}
 

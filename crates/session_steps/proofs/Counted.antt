@@ -18,7 +18,7 @@ use Rattle.index.specs.Entries.{entry_at, live_of}
 use Rattle.state_invariant.specs.Kept.{Origin, Keeps, version_by}
 use Rattle.device_invariant.specs.Slots.{newest_of}
 use Rattle.device_invariant.proofs.PresentValues.{wanted-newest}
-use Rattle.step_simulation.specs.Moves.{IsSlotOf}
+use Rattle.simulation.specs.steps.Moves.{IsSlotOf}
 use Rattle.session_steps.specs.declared.sessions.Sessions.{Sessions}
 use Rattle.session_steps.specs.Shows.{Shows}
 use Rattle.session_steps.specs.Usage.{free_slots, CountsRows}

@@ -4,8 +4,8 @@ use Rattle.base.specs.declared.step.SessionStep.{SessionStep}
 use Rattle.base.specs.declared.step.SessionReply.{SessionReply}
 use Rattle.base.specs.Steps.{as_step}
 use Rattle.pmem.specs.Device.{Device, IsOrderly}
-use Rattle.step_simulation.specs.Moves.{is_quiet}
-use Rattle.step_simulation.proofs.StepsWithoutStores.{quiet-steps-lead}
+use Rattle.simulation.specs.steps.Moves.{is_quiet}
+use Rattle.simulation.proofs.steps.StepsWithoutStores.{quiet-steps-lead}
 use Rattle.session_steps.specs.declared.sessions.Sessions.{Sessions}
 use Rattle.session_steps.specs.Shows.{Hidden}
 use Rattle.session_steps.specs.Steps.{HoldsOn, Goes, Takes, Steps}

@@ -20,9 +20,9 @@ use Rattle.machine.proofs.Runs.{Answers-answer}
 use Rattle.pmem.specs.Device.{Device, IsOrderly}
 use Rattle.state_invariant.specs.Kept.{Origin}
 use Rattle.device_invariant.specs.Upholds.{Upholds}
-use Rattle.step_simulation.specs.Moves.{is_quiet}
-use Rattle.step_simulation.specs.Laws.{QuietStepsLead}
-use Rattle.step_simulation.proofs.StepsWithoutStores.{refusals-lead}
+use Rattle.simulation.specs.steps.Moves.{is_quiet}
+use Rattle.simulation.specs.steps.Laws.{QuietStepsLead}
+use Rattle.simulation.proofs.steps.StepsWithoutStores.{refusals-lead}
 use Rattle.session_steps.proofs.CodeTests.{same-drawers}
 use Rattle.session_steps.specs.declared.sessions.Sessions.{Sessions}
 use Rattle.session_steps.specs.Shows.{Hidden, plain_of, Agrees, Shows}

@@ -8,7 +8,7 @@ use Rattle.snapshot.specs.Snapshots.{Seen}
 use Rattle.txn.specs.declared.write.Write.{Write}
 use Rattle.index.specs.declared.entry.Entry.{Entry}
 use Rattle.index.specs.Entries.{entry_at, live_of}
-use Rattle.session_laws.specs.Sees.{is_unseen}
+use Rattle.simulation.specs.sessions.Sees.{is_unseen}
 use Rattle.session_steps.specs.Giving.{fits_slot}
 
 -- the least of the keys that was drawn last by a commit which the snapshot doesn't cover

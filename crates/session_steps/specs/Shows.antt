@@ -23,8 +23,8 @@ use Rattle.state_invariant.specs.Links.{HoldsNewest}
 use Rattle.device_invariant.specs.Slots.{newest_of}
 use Rattle.device_invariant.specs.Log.{lines_in, line_number}
 use Rattle.device_invariant.specs.Upholds.{Upholds}
-use Rattle.session_laws.specs.Sees.{Sees, last_on}
-use Rattle.step_simulation.specs.Moves.{IsSlotOf}
+use Rattle.simulation.specs.sessions.Sees.{Sees, last_on}
+use Rattle.simulation.specs.steps.Moves.{IsSlotOf}
 use Rattle.session_steps.specs.declared.sessions.Sessions.{Sessions}
 
 -- ---- the plain state

@@ -6,7 +6,7 @@ ghost use Rattle.std.specs.Prelude.{◌≡◌, ◌<◌, ℕ, true, All, IfErr, O
 ghost use Rattle.base.specs.declared.fault.Fault.TheVariants.{OutOfMemory};
 ghost use Rattle.base.specs.declared.key.Key.{Key as KeyValue};
 ghost use Rattle.index.specs.Entries.{entry_at, has_room};
-ghost use Rattle.session_laws.specs.Sees.{is_unseen};
+ghost use Rattle.simulation.specs.sessions.Sees.{is_unseen};
 ghost use Rattle.session_steps.specs.Drawing.{conflict_in};
 
 use crate::active::{bar, find_active};

@@ -38,10 +38,10 @@ use Rattle.group_commit.specs.declared.stage.CycleStage.TheVariants.{FlushLines,
 use Rattle.group_commit.specs.Cycles.{Cycling, line_from, flush_or_fence, operation_in, next_at, ticked_in}
 use Rattle.group_commit.specs.Laws.{IsCut}
 use Rattle.group_commit.proofs.Counting.{find-cut, cut-next, cut-whole}
-use Rattle.cycle_simulation.specs.Batches.{line_numbers}
-use Rattle.cycle_simulation.specs.Closing.{closing_record, IsClosing, AreFlushed, HasPersisted}
-use Rattle.cycle_simulation.proofs.closes.LastPart.{closing-flushes, closing-writes}
-use Rattle.cycle_simulation.proofs.covers.LineOrder.{lines-within}
+use Rattle.simulation.specs.cycles.Batches.{line_numbers}
+use Rattle.simulation.specs.cycles.Closing.{closing_record, IsClosing, AreFlushed, HasPersisted}
+use Rattle.simulation.proofs.cycles.closes.LastPart.{closing-flushes, closing-writes}
+use Rattle.simulation.proofs.cycles.covers.LineOrder.{lines-within}
 use Rattle.session_steps.specs.Shows.{plain_drawn}
 use Rattle.session_steps.proofs.covers.Lines.{member, table-lines}
 use Rattle.session_steps.proofs.Filters.{any-filter, filter-whole}

@@ -10,7 +10,7 @@ use Rattle.machine.proofs.Runs.{StandsAt-closing}
 use Rattle.pmem.specs.Device.{Device, IsOrderly, MayLeave}
 use Rattle.pmem.proofs.Images.{leaves_refl, leaves_trans, leaves_weaken}
 use Rattle.device_invariant.proofs.Upheld.{every-image-stands}
-use Rattle.cycle_simulation.specs.Closing.{ClosesAs}
+use Rattle.simulation.specs.cycles.Closing.{ClosesAs}
 use Rattle.room.specs.declared.volatile.VolatileState.{VolatileState}
 use Rattle.room.specs.Committing.{Shows}
 use Rattle.room.specs.Steps.{ShowsSome}

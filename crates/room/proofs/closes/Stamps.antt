@@ -25,8 +25,8 @@ use Rattle.txn.specs.declared.transaction.Transaction.TheVariants.{Drawn}
 use Rattle.txn.specs.Transactions.{transaction_at}
 use Rattle.state_invariant.proofs.covers.Chosen.{any-by_timestamp}
 use Rattle.state_invariant.proofs.Lists.{find-any, find-map}
-use Rattle.cycle_simulation.specs.Closing.{ClosesAs}
-use Rattle.cycle_simulation.proofs.closes.States.{closes-on}
+use Rattle.simulation.specs.cycles.Closing.{ClosesAs}
+use Rattle.simulation.proofs.cycles.closes.States.{closes-on}
 use Rattle.session_steps.specs.declared.sessions.Sessions.{Sessions}
 use Rattle.session_steps.specs.Shows.{plain_drawn, HoldsDrawn, Shows as SessionsShow}
 use Rattle.session_steps.specs.Replies.{stamped}

@@ -15,8 +15,8 @@ use Rattle.pmem.specs.Device.{Device}
 use Rattle.pmem.specs.Words.{LeavesOnly}
 use Rattle.pmem.proofs.Images.{leaves_weaken}
 use Rattle.group_commit.specs.Cycles.{Cycling}
-use Rattle.cycle_simulation.proofs.closes.States.{closes-on}
-use Rattle.cycle_simulation.proofs.covers.Ticks.{refusal-in_hand}
+use Rattle.simulation.proofs.cycles.closes.States.{closes-on}
+use Rattle.simulation.proofs.cycles.covers.Ticks.{refusal-in_hand}
 use Rattle.session_steps.proofs.Effects.{none-failed}
 use Rattle.session_steps.specs.declared.sessions.Sessions.{Sessions}
 use Rattle.room.specs.declared.volatile.VolatileState.{VolatileState}

@@ -32,7 +32,7 @@ use Rattle.group_commit.specs.Laws.{IsAfter}
 use Rattle.device_invariant.specs.Log.{Line, line_number, lines_in}
 use Rattle.state_invariant.specs.Kept.{Origin, Keeps}
 use Rattle.state_invariant.proofs.Commits.{uncommitted-above}
-use Rattle.cycle_simulation.proofs.covers.LinesStay.{lines-stay}
+use Rattle.simulation.proofs.cycles.covers.LinesStay.{lines-stay}
 use Rattle.session_steps.specs.declared.sessions.Sessions.{Sessions}
 use Rattle.session_steps.specs.Shows.{plain_drawn, line_numbers, Shows as SessionsShow}
 use Rattle.session_steps.specs.Steps.{Drawers, Steps as SessionSteps}

@@ -26,8 +26,8 @@ use Rattle.state_invariant.specs.Kept.{Origin}
 use Rattle.state_invariant.proofs.covers.Chosen.{keeps-chosen}
 use Rattle.device_invariant.specs.Log.{HoldsHand as LogHoldsHand}
 use Rattle.device_invariant.specs.Upholds.{Upholds}
-use Rattle.cycle_simulation.specs.Leads.{Ticks}
-use Rattle.cycle_simulation.proofs.covers.Ticks.{idle-ticks, choosing-ticks, refused-ticks}
+use Rattle.simulation.specs.cycles.Leads.{Ticks}
+use Rattle.simulation.proofs.cycles.covers.Ticks.{idle-ticks, choosing-ticks, refused-ticks}
 use Rattle.session_steps.specs.declared.sessions.Sessions.{Sessions}
 use Rattle.session_steps.specs.Shows.{plain_drawn, line_numbers}
 use Rattle.session_steps.proofs.AnyHand.{shows-hand}

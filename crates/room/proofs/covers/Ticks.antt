@@ -38,12 +38,12 @@ use Rattle.state_invariant.specs.Kept.{Origin}
 use Rattle.device_invariant.specs.Log.{Line, lines_in, line_number, writing_at}
 use Rattle.device_invariant.specs.Laws.{one_tick_on}
 use Rattle.device_invariant.specs.Upholds.{Upholds}
-use Rattle.cycle_simulation.specs.Leads.{Ticks, FailsTick}
-use Rattle.cycle_simulation.specs.Laws.{HasInHand}
-use Rattle.cycle_simulation.proofs.covers.LineOrder.{lines-are_in_order, lines-within}
-use Rattle.cycle_simulation.proofs.covers.Stages.{more_left}
-use Rattle.cycle_simulation.proofs.covers.Ticks.{line-ticks, fence-ticks, operation-ticks, covering-ticks, failing-ticks}
-use Rattle.session_laws.proofs.Batches.{covers-batch}
+use Rattle.simulation.specs.cycles.Leads.{Ticks, FailsTick}
+use Rattle.simulation.specs.cycles.Laws.{HasInHand}
+use Rattle.simulation.proofs.cycles.covers.LineOrder.{lines-are_in_order, lines-within}
+use Rattle.simulation.proofs.cycles.covers.Stages.{more_left}
+use Rattle.simulation.proofs.cycles.covers.Ticks.{line-ticks, fence-ticks, operation-ticks, covering-ticks, failing-ticks}
+use Rattle.simulation.proofs.sessions.Batches.{covers-batch}
 use Rattle.session_steps.specs.declared.sessions.Sessions.{Sessions}
 use Rattle.session_steps.specs.Shows.{plain_drawn, line_numbers}
 use Rattle.session_steps.specs.Steps.{is_by_actor, RunsBy}

@@ -18,7 +18,7 @@ use Rattle.state_invariant.proofs.collector.Garbage.{IsGarbage, garbage-undrawn,
 use Rattle.state_invariant.proofs.collector.Kept.{OnlyFrees, stays, frees}
 use Rattle.device_invariant.specs.Slots.{newest_of}
 use Rattle.device_invariant.specs.Log.{is_own, is_ended}
-use Rattle.step_simulation.specs.Moves.{IsSlotOf}
+use Rattle.simulation.specs.steps.Moves.{IsSlotOf}
 use Rattle.session_steps.specs.declared.sessions.Sessions.{Sessions}
 use Rattle.session_steps.specs.Shows.{Hidden, plain_of, plain_drawn, HoldsSession, HoldsEntry, HoldsDrawn, Agrees, line_numbers}
 use Rattle.session_steps.proofs.covers.Batch.{found}

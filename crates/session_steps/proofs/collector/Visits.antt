@@ -49,12 +49,12 @@ use Rattle.state_invariant.proofs.collector.Garbage.{IsGarbage, garbage-is, garb
 use Rattle.state_invariant.proofs.collector.Kept.{visit-frees, stays}
 use Rattle.device_invariant.specs.Upholds.{Upholds}
 use Rattle.device_invariant.proofs.Words.{word-within}
-use Rattle.session_laws.specs.Sees.{Sees}
-use Rattle.collect_simulation.specs.Garbage.{is_covered_for}
-use Rattle.collect_simulation.specs.Visits.{visit_operations}
-use Rattle.collect_simulation.proofs.Visits.{visits-lead}
-use Rattle.collect_simulation.proofs.Counting.{visits-count}
-use Rattle.collect_simulation.proofs.Garbage.{ends-show-garbage}
+use Rattle.simulation.specs.sessions.Sees.{Sees}
+use Rattle.simulation.specs.visits.Garbage.{is_covered_for}
+use Rattle.simulation.specs.visits.Visits.{visit_operations}
+use Rattle.simulation.proofs.visits.Visits.{visits-lead}
+use Rattle.simulation.proofs.visits.Counting.{visits-count}
+use Rattle.simulation.proofs.visits.Garbage.{ends-show-garbage}
 use Rattle.session_steps.specs.declared.sessions.Sessions.{Sessions}
 use Rattle.session_steps.specs.Shows.{Hidden, plain_of, plain_session, HoldsSession, HoldsEntry, Agrees, ShowsAny}
 use Rattle.session_steps.specs.Steps.{is_by_actor, HoldsOn, ShowsSome}

@@ -34,11 +34,11 @@ use Rattle.state_invariant.proofs.covers.Kept.{batch-drawn, found-left}
 use Rattle.state_invariant.proofs.Lists.{rising-above}
 use Rattle.device_invariant.specs.Slots.{newest_of}
 use Rattle.device_invariant.specs.Log.{is_ended}
-use Rattle.session_laws.specs.Laws.{is_covered_by, CoversByRecord}
-use Rattle.session_laws.proofs.Batches.{covers-batch}
-use Rattle.step_simulation.specs.Moves.{IsSlotOf}
+use Rattle.simulation.specs.sessions.Laws.{is_covered_by, CoversByRecord}
+use Rattle.simulation.proofs.sessions.Batches.{covers-batch}
+use Rattle.simulation.specs.steps.Moves.{IsSlotOf}
 use Rattle.session_steps.specs.declared.sessions.Sessions.{Sessions}
-use Rattle.session_laws.specs.Sees.{Sees, last_on}
+use Rattle.simulation.specs.sessions.Sees.{Sees, last_on}
 use Rattle.session_steps.specs.Shows.{Hidden, plain_of, plain_session, plain_drawn, HasItsSlot, HoldsSession, HasDrawn, HoldsEntry, HoldsDrawn, HoldsLines, has_drawn_by, line_numbers, Agrees}
 use Rattle.session_steps.specs.Covering.{covered_by_commits, committed_by, left_by, CoversCommits, IsOf, MayCover, hidden_covered, HasCovered, ShowsCovered}
 use Rattle.session_steps.proofs.slots.Held.{numbers-by-tests}

@@ -14,7 +14,7 @@ use Rattle.txn.specs.declared.write.Write.{Write}
 use Rattle.txn.specs.WriteSets.{plain_writes}
 use Rattle.index.specs.declared.entry.Entry.{Entry}
 use Rattle.index.specs.Entries.{covered, live_of}
-use Rattle.step_simulation.specs.Moves.{IsSlotOf}
+use Rattle.simulation.specs.steps.Moves.{IsSlotOf}
 use Rattle.state_invariant.specs.Kept.{Origin, Keeps, row_in, version_by}
 use Rattle.state_invariant.specs.Links.{last_row}
 use Rattle.session_steps.specs.Shows.{plain_drawn, HasItsSlot, HasVersionOf}

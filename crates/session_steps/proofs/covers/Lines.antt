@@ -13,11 +13,11 @@ use Rattle.dirty_table.specs.declared.sessions.SessionSet.{SessionSet}
 use Rattle.dirty_table.specs.Touches.{has, is_touched, lines_touched, meets, sessions_at}
 use Rattle.dirty_table.proofs.Tables.{lines_touched-member}
 use Rattle.dirty_table.proofs.Sets.{meets-at, meets-apart}
-use Rattle.cycle_simulation.specs.Batches.{line_numbers, is_line_of}
+use Rattle.simulation.specs.cycles.Batches.{line_numbers, is_line_of}
 use Rattle.txn.specs.declared.drawn.DrawnCommit.{DrawnCommit}
 use Rattle.txn.proofs.Passed.{filter-map}
 use Rattle.session_steps.specs.Shows.{plain_drawn, HoldsLines}
-use Rattle.cycle_simulation.proofs.covers.LineOrder.{lines-are_in_order}
+use Rattle.simulation.proofs.cycles.covers.LineOrder.{lines-are_in_order}
 use Rattle.session_steps.proofs.Filters.{any-filter}
 
 map-map : {X Y Z : Type 0} (f : X → Y) (g : Y → Z) (xs : List X) → map g (map f xs) ≡ map (λ x. g (f x)) xs

@@ -39,14 +39,14 @@ use Rattle.state_invariant.proofs.draws.Links.{last_row-before}
 use Rattle.state_invariant.proofs.Log.{writer-bounded}
 use Rattle.device_invariant.specs.Slots.{newest_of}
 use Rattle.device_invariant.specs.Log.{is_own, is_ended, line_at, line_number, lines_at, lines_in}
-use Rattle.step_simulation.specs.Moves.{IsSlotOf}
+use Rattle.simulation.specs.steps.Moves.{IsSlotOf}
 use Rattle.session_steps.specs.declared.sessions.Sessions.{Sessions}
 use Rattle.session_steps.specs.Drawing.{own_lines, ended_lines, touched_lines, drawn_entry}
-use Rattle.session_laws.specs.Sees.{Sees, last_on}
+use Rattle.simulation.specs.sessions.Sees.{Sees, last_on}
 use Rattle.session_steps.specs.Shows.{Hidden, plain_of, plain_drawn, HasItsSlot, HoldsSession, HasVersionOf, HasDrawn, HoldsEntry, HoldsDrawn, HoldsLines, Agrees, has_drawn_by, line_numbers}
 use Rattle.session_steps.specs.Steps.{Holds}
 use Rattle.session_steps.proofs.slots.Held.{numbers-by-tests}
-use Rattle.session_laws.proofs.Conflicts.{last_on-append}
+use Rattle.simulation.proofs.sessions.Conflicts.{last_on-append}
 use Rattle.session_steps.proofs.draws.Lines.{any-flat_map, any-each, any-at, any-range, range-any}
 use Rattle.session_steps.proofs.transactions.Sets.{each-set}
 use Rattle.session_steps.proofs.slots.Owned.{found-in, contained-found, rising-plain, own-is}

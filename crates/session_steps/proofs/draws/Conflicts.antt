@@ -11,8 +11,8 @@ use Rattle.txn.specs.declared.transaction.Transaction.TheVariants.{Active}
 use Rattle.txn.specs.declared.write.Write.{Write}
 use Rattle.txn.specs.Transactions.{transaction_at}
 use Rattle.txn.specs.WriteSets.{plain_writes}
-use Rattle.session_laws.specs.Sees.{Sees, is_unseen}
-use Rattle.session_laws.proofs.Conflicts.{conflicts}
+use Rattle.simulation.specs.sessions.Sees.{Sees, is_unseen}
+use Rattle.simulation.proofs.sessions.Conflicts.{conflicts}
 use Rattle.session_steps.specs.declared.sessions.Sessions.{Sessions}
 use Rattle.session_steps.specs.Drawing.{conflict_in}
 use Rattle.session_steps.specs.Shows.{Hidden, plain_of, plain_session, HoldsSession}

@@ -21,7 +21,7 @@ use Rattle.txn.specs.WriteSets.{IsRising, write_of}
 use Rattle.txn.proofs.Rising.{find_from_at}
 use Rattle.index.specs.declared.entry.Entry.{Entry}
 use Rattle.index.specs.Entries.{entry_at, live_of, Sets}
-use Rattle.step_simulation.specs.Moves.{IsSlotOf}
+use Rattle.simulation.specs.steps.Moves.{IsSlotOf}
 use Rattle.session_steps.specs.declared.sessions.Sessions.{Sessions}
 use Rattle.session_steps.specs.Drawing.{drawn_entry, fits_touched}
 use Rattle.session_steps.specs.Giving.{fits_slot}

@@ -30,10 +30,10 @@ use Rattle.device_invariant.specs.Upholds.{Upholds}
 use Rattle.device_invariant.proofs.Words.{word-within}
 use Rattle.device_invariant.proofs.PresentValues.{says-newest}
 use Rattle.device_invariant.proofs.reads.Images.{ruled-image}
-use Rattle.step_simulation.specs.Moves.{IsSlotOf}
+use Rattle.simulation.specs.steps.Moves.{IsSlotOf}
 use Rattle.collector.specs.declared.rounds.Collector.{Collector}
 use Rattle.session_steps.specs.declared.sessions.Sessions.{Sessions}
-use Rattle.session_laws.specs.Sees.{last_on}
+use Rattle.simulation.specs.sessions.Sees.{last_on}
 use Rattle.session_steps.specs.Shows.{Hidden, plain_of, plain_session, plain_drawn, HoldsSession, HoldsEntry, HoldsDrawn, HoldsLines, line_numbers, Shows}
 use Rattle.session_steps.specs.Opening.{Begins, HasFound}
 

@@ -42,9 +42,9 @@ use Rattle.state_invariant.specs.Kept.{version_by}
 use Rattle.state_invariant.proofs.Lookups.{apart-keys, first_below-some}
 use Rattle.state_invariant.proofs.sessions.Steps.{version-parts, free_slot-some}
 use Rattle.device_invariant.specs.Upholds.{Upholds}
-use Rattle.step_simulation.specs.Moves.{IsSlotOf, unless_own, put_operations, LinksNewest}
-use Rattle.step_simulation.proofs.Counting.{puts-count}
-use Rattle.step_simulation.proofs.puts.Leads.{puts-lead}
+use Rattle.simulation.specs.steps.Moves.{IsSlotOf, unless_own, put_operations, LinksNewest}
+use Rattle.simulation.proofs.steps.Counting.{puts-count}
+use Rattle.simulation.proofs.steps.puts.Leads.{puts-lead}
 use Rattle.session_steps.specs.declared.sessions.Sessions.{Sessions}
 use Rattle.session_steps.specs.Giving.{own_of, is_full_of}
 use Rattle.session_steps.specs.Shows.{Hidden, plain_of, plain_session, HasItsSlot, HoldsSession, HoldsEntry, Agrees}

@@ -29,9 +29,9 @@ use Rattle.index.specs.Reading.{CountsAs, ShowsTables}
 use Rattle.state_invariant.specs.Kept.{Origin}
 use Rattle.device_invariant.specs.Upholds.{Upholds}
 use Rattle.device_invariant.proofs.reads.Images.{ruled-image}
-use Rattle.session_laws.specs.Sees.{ReadsBy}
-use Rattle.session_laws.proofs.Reading.{reads}
-use Rattle.session_laws.proofs.Chains.{links-lead}
+use Rattle.simulation.specs.sessions.Sees.{ReadsBy}
+use Rattle.simulation.proofs.sessions.Reading.{reads}
+use Rattle.simulation.proofs.sessions.Chains.{links-lead}
 use Rattle.session_steps.specs.declared.sessions.Sessions.{Sessions}
 use Rattle.session_steps.specs.Shows.{Hidden, plain_of, plain_session, HoldsSession}
 use Rattle.session_steps.specs.Steps.{Holds, HoldsOn, Goes}

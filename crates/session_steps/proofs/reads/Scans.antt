@@ -26,9 +26,9 @@ use Rattle.index.specs.declared.ranges.KeyRange.TheVariants.{Within}
 use Rattle.index.specs.Entries.{key_cmp, entry_at}
 use Rattle.index.specs.Walking.{AreLinked}
 use Rattle.index.specs.Reading.{CountsAs, ShowsTables, HasRows, contains, ranged}
-use Rattle.session_laws.specs.Sees.{ReadsBy}
-use Rattle.session_laws.proofs.Reading.{reads}
-use Rattle.session_laws.proofs.Chains.{links-lead}
+use Rattle.simulation.specs.sessions.Sees.{ReadsBy}
+use Rattle.simulation.proofs.sessions.Reading.{reads}
+use Rattle.simulation.proofs.sessions.Chains.{links-lead}
 use Rattle.session_steps.specs.declared.sessions.Sessions.{Sessions}
 use Rattle.session_steps.specs.Shows.{Hidden, plain_of, plain_session, HoldsSession}
 use Rattle.session_steps.specs.Steps.{Holds, HoldsOn, Goes}

@@ -14,10 +14,10 @@ use Rattle.index.specs.declared.ranges.KeyRange.TheVariants.{All}
 use Rattle.index.specs.Entries.{entry_at}
 use Rattle.index.specs.Walking.{AreLinked}
 use Rattle.index.specs.Reading.{CountsAs, ShowsTables, ranged}
-use Rattle.session_laws.specs.Sees.{Sees, ReadsBy}
-use Rattle.session_laws.proofs.Present.{present-sees}
-use Rattle.session_laws.proofs.Reading.{reads}
-use Rattle.session_laws.proofs.Chains.{links-lead}
+use Rattle.simulation.specs.sessions.Sees.{Sees, ReadsBy}
+use Rattle.simulation.proofs.sessions.Present.{present-sees}
+use Rattle.simulation.proofs.sessions.Reading.{reads}
+use Rattle.simulation.proofs.sessions.Chains.{links-lead}
 use Rattle.session_steps.specs.declared.sessions.Sessions.{Sessions}
 use Rattle.session_steps.specs.Shows.{Hidden, plain_of, Agrees, Shows, ShowsAny}
 use Rattle.gap_list.proofs.Tidy.{well_formed-tidy}

@@ -27,7 +27,7 @@ use Rattle.state_invariant.proofs.Lookups.{apart-keys, held-by}
 use Rattle.state_invariant.proofs.sessions.Steps.{version-parts, own-at}
 use Rattle.session_steps.specs.declared.sessions.Sessions.{Sessions}
 use Rattle.session_steps.specs.Giving.{fits_slot, fits_writes, ReleasesSlots, own_of, given, is_full_of}
-use Rattle.step_simulation.specs.Moves.{IsSlotOf}
+use Rattle.simulation.specs.steps.Moves.{IsSlotOf}
 use Rattle.session_steps.specs.Shows.{Hidden, plain_of, plain_session, HasItsSlot, HoldsSession}
 use Rattle.session_steps.specs.Steps.{Holds, Goes}
 use Rattle.session_steps.proofs.transactions.Agrees.{agrees-changed}

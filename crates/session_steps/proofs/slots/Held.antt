@@ -11,7 +11,7 @@ use Rattle.txn.specs.declared.write.Write.{Write}
 use Rattle.dirty_table.specs.declared.sessions.SessionSet.{SessionSet}
 use Rattle.state_invariant.specs.Kept.{version_by}
 use Rattle.device_invariant.specs.Log.{is_own, is_ended, lines_in, line_at, line_number}
-use Rattle.step_simulation.specs.Moves.{IsSlotOf}
+use Rattle.simulation.specs.steps.Moves.{IsSlotOf}
 use Rattle.session_steps.specs.Shows.{HasItsSlot, HasVersionOf, HoldsLines, line_numbers, plain_drawn}
 
 -- nobody holds it, or this session does

@@ -19,7 +19,7 @@ use Rattle.state_invariant.specs.Kept.{Origin, Keeps, version_by}
 use Rattle.state_invariant.proofs.Lookups.{first_below-lowest}
 use Rattle.state_invariant.proofs.sessions.Steps.{own-at}
 use Rattle.session_steps.specs.Giving.{fits_slot, fits_writes, own_of}
-use Rattle.step_simulation.specs.Moves.{IsSlotOf}
+use Rattle.simulation.specs.steps.Moves.{IsSlotOf}
 use Rattle.session_steps.specs.Shows.{HasItsSlot}
 
 -- a version is its session's for its key

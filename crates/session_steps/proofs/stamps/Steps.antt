@@ -42,14 +42,14 @@ use Rattle.state_invariant.proofs.Lists.{find-any}
 use Rattle.state_invariant.proofs.Lookups.{find-all}
 use Rattle.device_invariant.specs.Slots.{newest_of}
 use Rattle.device_invariant.specs.Upholds.{Upholds}
-use Rattle.step_simulation.specs.Moves.{IsSlotOf, stamp_operations}
-use Rattle.step_simulation.proofs.Counting.{stamps-count}
-use Rattle.step_simulation.proofs.stamps.Lines.{stamps-operate}
-use Rattle.step_simulation.proofs.stamps.Leads.{stamps-lead}
+use Rattle.simulation.specs.steps.Moves.{IsSlotOf, stamp_operations}
+use Rattle.simulation.proofs.steps.Counting.{stamps-count}
+use Rattle.simulation.proofs.steps.stamps.Lines.{stamps-operate}
+use Rattle.simulation.proofs.steps.stamps.Leads.{stamps-lead}
 use Rattle.session_steps.specs.declared.sessions.Sessions.{Sessions}
 use Rattle.session_steps.specs.declared.stamp.Unstamped.{Unstamped}
 use Rattle.session_steps.specs.Stamping.{IsNextOf, has_left, is_unstamped}
-use Rattle.session_laws.specs.Sees.{last_on}
+use Rattle.simulation.specs.sessions.Sees.{last_on}
 use Rattle.session_steps.specs.Shows.{Hidden, plain_of, plain_session, plain_drawn, HoldsSession, HoldsDrawn, Agrees, has_drawn_by, line_numbers}
 use Rattle.session_steps.specs.Steps.{Holds, HoldsOn, GoesOn, IsBarred, is_by_actor}
 use Rattle.session_steps.proofs.transactions.Steps.{found, barred-refusal, covered-or-drawn, drawn-plain}

@@ -11,7 +11,7 @@ use Rattle.index.specs.Entries.{entry_at, live_of}
 use Rattle.state_invariant.specs.Kept.{Origin}
 use Rattle.device_invariant.specs.Slots.{newest_of}
 use Rattle.session_steps.specs.declared.sessions.Sessions.{Sessions}
-use Rattle.session_laws.specs.Sees.{Sees}
+use Rattle.simulation.specs.sessions.Sees.{Sees}
 use Rattle.session_steps.specs.Shows.{Hidden, plain_of, HoldsSession, HoldsDrawn, Agrees}
 use Rattle.session_steps.proofs.transactions.Sets.{each-set}
 use Rattle.session_steps.proofs.slots.Held.{SameBut, Moves, slot-kept, version-kept, version-before, writes-kept, table-kept}

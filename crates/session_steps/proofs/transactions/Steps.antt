@@ -31,13 +31,13 @@ use Rattle.state_invariant.proofs.Commits.{timestamp-all}
 use Rattle.state_invariant.proofs.Lists.{find-map}
 use Rattle.state_invariant.proofs.Lookups.{find-all}
 use Rattle.session_steps.specs.declared.sessions.Sessions.{Sessions}
-use Rattle.session_laws.specs.Sees.{Sees}
+use Rattle.simulation.specs.sessions.Sees.{Sees}
 use Rattle.session_steps.specs.Shows.{Hidden, plain_of, plain_session, plain_drawn, HoldsSession}
 use Rattle.session_steps.specs.Steps.{Holds, Goes, IsBarred, is_active, is_over, is_over_at}
 use Rattle.session_steps.proofs.transactions.Agrees.{agrees-changed}
 use Rattle.session_steps.proofs.transactions.Sets.{replaced-same, replaced-other, sessions-kept, sessions-begun, free-at, free-none}
 use Rattle.session_steps.proofs.Refusals.{refused-absent, refused-misplaced, passes, refusal-begin, is_of_active, others-bar}
-use Rattle.session_laws.proofs.Present.{present-sees}
+use Rattle.simulation.proofs.sessions.Present.{present-sees}
 use Rattle.session_steps.proofs.CodeTests.{unfound, same-drawers}
 
 -- ---- refusals

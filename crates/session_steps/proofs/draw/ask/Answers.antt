@@ -7,7 +7,7 @@ use Rattle.index.specs.declared.entry.Entry.{Entry}
 use Rattle.index.specs.Entries.{entry_at, has_room}
 use Rattle.snapshot.specs.Snapshots.{Seen}
 use Rattle.txn.specs.declared.write.Write.{Write}
-use Rattle.session_laws.specs.Sees.{is_unseen}
+use Rattle.simulation.specs.sessions.Sees.{is_unseen}
 use Rattle.session_steps.specs.Drawing.{conflict_in}
 use Rattle.session_steps.proofs.draw.ask.Goals as goal
 

@@ -1,5 +1,0 @@
-use Rattle.state_invariant.proofs.covers.Chosen.{keeps-chosen}
-use Rattle.cycle_simulation.proofs.law.batches_are_chosen.Goals as goal
-
-pub returns : goal.returns
-returns c = λ o q kept. keeps-chosen o q kept

@@ -1,0 +1,4 @@
+pub mod sessions
+pub mod steps
+pub mod cycles
+pub mod visits

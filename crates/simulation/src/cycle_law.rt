@@ -1,0 +1,79 @@
+//! The committer's ticks: which step of the plain machine each operation of a cycle is, and that each image that a device
+//! leaves meanwhile stands. Then what a close does.
+
+ghost use Rattle.simulation.specs.cycles.Laws.{BatchesAreChosen, LinesAreCounted, LinesRise, LinesStay, IdleTicks, ChoosingTicks, RefusedTicks, LineTicks, FenceTicks, OperationTicks, CoveringTicks, FailingTicks, ClosingFlushes, ClosingWrites, ClosesOn};
+
+/// The batch that is chosen keeps what a batch in hand is to keep.
+pub fn batches_are_chosen()
+    ensures { BatchesAreChosen }
+{}
+
+/// Drawn commits touch as many lines as the machine counts for them.
+pub fn lines_are_counted()
+    ensures { LinesAreCounted }
+{}
+
+/// The lines that commits touch have one rising list: that of the lines that one of them touches.
+pub fn lines_rise()
+    ensures { LinesRise }
+{}
+
+/// No step of a session changes which lines the batch in hand touches.
+pub fn lines_stay()
+    ensures { LinesStay }
+{}
+
+/// A tick with nothing to do.
+pub fn idle_ticks()
+    ensures { IdleTicks }
+{}
+
+/// The first tick of a cycle makes no operation: it takes a batch in hand.
+pub fn choosing_ticks()
+    ensures { ChoosingTicks }
+{}
+
+/// A tick that is refused changes nothing.
+pub fn refused_ticks()
+    ensures { RefusedTicks }
+{}
+
+/// A tick that flushes the next line of the batch.
+pub fn line_ticks()
+    ensures { LineTicks }
+{}
+
+/// The tick that fences the lines of the batch.
+pub fn fence_ticks()
+    ensures { FenceTicks }
+{}
+
+/// A tick that makes the next operation of the record's writing.
+pub fn operation_ticks()
+    ensures { OperationTicks }
+{}
+
+/// The last tick covers the batch.
+pub fn covering_ticks()
+    ensures { CoveringTicks }
+{}
+
+/// The operation of a tick fails.
+pub fn failing_ticks()
+    ensures { FailingTicks }
+{}
+
+/// A close waits until what is drawn persists.
+pub fn closing_flushes()
+    ensures { ClosingFlushes }
+{}
+
+/// A close writes the record under which all that is drawn is covered.
+pub fn closing_writes()
+    ensures { ClosingWrites }
+{}
+
+/// A close that finds a batch in hand covers it first.
+pub fn closes_on()
+    ensures { ClosesOn }
+{}

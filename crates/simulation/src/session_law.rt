@@ -1,0 +1,32 @@
+//! What the sessions of an engine rely on: which commits a snapshot sees, which keys were drawn since, and what a reader
+//! at a snapshot finds in the slots.
+
+ghost use Rattle.simulation.specs.sessions.Laws.{PresentSees, StepsKeepSight, Reads, ChainsLead, LinksLead, Conflicts, BatchesCover};
+
+/// The snapshot of all that is covered covers exactly what counts, and over every step each snapshot stays exact.
+pub fn snapshots_stay_exact()
+    ensures present { PresentSees }
+    ensures step { StepsKeepSight }
+{}
+
+/// What a snapshot in use covers in the slots are the rows of its tables, each key once; in a failed state too.
+pub fn snapshots_read_their_tables()
+    ensures { Reads }
+{}
+
+/// From a key's newest version that is held links lead to the version that a snapshot sees; in a failed state too.
+pub fn links_lead_to_what_is_seen()
+    ensures chains { ChainsLead }
+    ensures device { LinksLead }
+{}
+
+/// A session's key conflicts exactly where its snapshot doesn't cover the last timestamp that was drawn for the key.
+pub fn conflicts_are_of_last_draws()
+    ensures { Conflicts }
+{}
+
+/// A batch is of the drawn commits that its record commits. The others stay drawn, and the versions of the batch are the
+/// newest on the keys that it writes.
+pub fn records_say_who_is_covered()
+    ensures { BatchesCover }
+{}

@@ -1,8 +1,0 @@
-pub mod Runs
-pub mod Standing
-mod draws
-pub mod StepsWithoutStores
-pub mod Leading
-pub mod stamps
-pub mod puts
-pub mod Counting
