@@ -22,7 +22,7 @@ use std::sync::Wait;
 use std::sync::atomic::{AtomicU64, Ordering};
 use std::thread::{Threads, join, map_indices};
 use std::time::{Duration, Instant};
-use store_file::{Device, Refusal, open_database};
+use store::{Device, Refusal, open_database};
 
 const WORDS: &str = "crowd NAME SLOTS THREADS COMMITS [ROWS [read]]";
 

@@ -6,7 +6,7 @@ use std::sync::Wait;
 use std::sync::atomic::{AtomicU64, Ordering};
 use std::thread::sleep;
 use std::time::{Duration, Instant};
-use store_file::Device;
+use store::Device;
 
 // So many keys are read, one after the other.
 const KEYS: u64 = 8;

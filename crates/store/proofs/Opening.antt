@@ -6,7 +6,7 @@ use Rattle.base.specs.declared.fault.Fault.{Fault}
 use Rattle.base.specs.declared.fault.Fault.TheVariants.{Damaged, NotFormatted, Version, BadGeometry}
 use Rattle.base.specs.Layout.{Layout}
 use Rattle.base.specs.Search.{some_if}
-use Rattle.store_file.specs.Opening.{IsUnopened}
+use Rattle.store.specs.Files.{IsUnopened}
 use Rattle.store.specs.Opening.{IsDamagedAt}
 
 -- no superblock is damaged at a number

@@ -3,3 +3,4 @@ pub mod Answers
 pub mod Status
 pub mod Trying
 pub mod Opening
+pub mod Files

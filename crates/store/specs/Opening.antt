@@ -8,7 +8,7 @@ use Rattle.base.specs.Layout.{Layout, opened_layout}
 use Rattle.pmem.specs.Device.{Device}
 use Rattle.pmem.specs.Words.{image_of}
 use Rattle.database.specs.Closing.{HasLived, IsClosed, IsClosingRefused}
-use Rattle.store_file.specs.Opening.{IsFoundWith, IsUnopened}
+use Rattle.store.specs.Files.{IsFoundWith, IsUnopened}
 use Rattle.store.specs.declared.error.StoreError.{StoreError}
 use Rattle.store.specs.Errors.{part_of}
 

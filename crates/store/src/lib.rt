@@ -2,6 +2,7 @@
 #![tactic(auto)]
 
 mod error;
+mod files;
 mod ranges;
 mod reading;
 mod row;
@@ -15,9 +16,9 @@ pub use base::geometry::Geometry;
 pub use base::key::Key;
 pub use base::row::Row;
 pub use error::{Layout, Part, StoreError};
+pub use files::{Device, Refusal, open_database, open_file};
 pub use reading::Snapshot;
 pub use row::{RowExt, key};
 pub use status::Status;
 pub use store::Store;
-pub use store_file::Device;
 pub use transaction::Transaction;

@@ -1,4 +1,5 @@
 use crate::error::StoreError;
+use crate::files::Device;
 use crate::ranges::ends_of;
 use crate::row::RowExt;
 use crate::rows::{first_rows, last_rows};
@@ -8,7 +9,6 @@ use database::Transaction;
 use std::alloc::Global;
 use std::ops::RangeBounds;
 use std::sync::Wait;
-use store_file::Device;
 
 /// The rows as they were committed when it was made, and in a transaction what this has written. It takes one of 62 sessions
 /// up to its drop. A read waits for a step of another thread, which may be a sync of the file, and for no commit.

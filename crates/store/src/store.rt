@@ -3,12 +3,13 @@ ghost use Rattle.std.specs.String.{string_bytes};
 ghost use Rattle.base.specs.declared.fault.Fault.TheVariants.{Damaged};
 ghost use Rattle.pmem_file.specs.Devices.{failure_of, state_of};
 ghost use Rattle.database.specs.Closing.{HasLived, IsClosingRefused};
-ghost use Rattle.store_file.specs.Opening.{IsUnopened, ReportsFault, ReportsLayout};
+ghost use Rattle.store.specs.Files.{IsUnopened, ReportsFault, ReportsLayout};
 ghost use Rattle.store.specs.declared.error.StoreError.{StoreError};
 ghost use Rattle.store.specs.Errors.{part_of};
 ghost use Rattle.store.specs.Opening.{IsOpeningError, IsClosingError};
 
 use crate::error::{Layout, Part, StoreError};
+use crate::files::{Device, Refusal, open_database};
 use crate::reading::Snapshot;
 use crate::status::Status;
 use crate::transaction::Transaction;
@@ -22,7 +23,6 @@ use std::fs::File;
 use std::rt::Files;
 use std::sync::Wait;
 use std::thread::Threads;
-use store_file::{Device, Refusal, open_database};
 
 // How often `transact` begins a transaction.
 const TRIES: u64 = 1_000;
@@ -46,7 +46,7 @@ pub struct Store<R: Wait + Drop> {
 impl<R: Files<File = File> + Threads + Wait + Copy + Drop + Send + Sync + 'static> Store<R> {
     ghost use Rattle.std.specs.Prelude.{◌≡◌, IfOk, IfErr, OnOk};
     ghost use Rattle.std.specs.String.{string_bytes};
-    ghost use Rattle.store_file.specs.Opening.{OpensLayout};
+    ghost use Rattle.store.specs.Files.{OpensLayout};
     ghost use Rattle.store.specs.Opening.{IsOpeningError};
 
     /// Opens the file, which is made with this layout where it is missing or empty. One that holds a store of another layout is

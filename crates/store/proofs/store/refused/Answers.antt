@@ -1,5 +1,5 @@
 use Rattle.std.proofs.Common.{refl, subst}
-use Rattle.store_file.specs.Opening.{IsUnopened}
+use Rattle.store.specs.Files.{IsUnopened}
 use Rattle.store.proofs.Opening.{damaged-so}
 use Rattle.store.proofs.store.refused.Goals as goal
 

@@ -4,7 +4,7 @@ use Rattle.std.specs.Prelude.{IfErr}
 use Rattle.std.proofs.Crossing.{crosses}
 use Rattle.database.specs.Opening.{IsOpeningRefusal}
 use Rattle.pmem_file.specs.Devices.{state_of}
-use Rattle.store_file.proofs.opening.open_over.Goals as goal
+use Rattle.store.proofs.files.open_over.Goals as goal
 
 pub open-requires-send-D : goal.open-requires-send-D
 open-requires-send-D g c κs within = search (rules, sendable, crosses) depth 60 fits 20000

@@ -8,7 +8,7 @@ use Rattle.log_area.specs.Rulings.{IsLaidOut, layout_damage}
 use Rattle.pmem.specs.Device.{Device}
 use Rattle.pmem.specs.Words.{IsAtRest, image_of}
 use Rattle.recovery.specs.Fresh.{IsFormatRefusal}
-use Rattle.store_file.specs.declared.opening.Refusal.{Refusal}
+use Rattle.store.specs.declared.files.Refusal.{Refusal}
 
 -- The device is at rest, and its image has the layout that was asked for, but for version 1, which is opened as 2
 pub record IsFoundWith (layout : Layout) (device : Device) : Type 0 where

@@ -4,8 +4,8 @@ ghost use Rattle.base.specs.Layout.{Layout, opened_layout};
 ghost use Rattle.log_area.specs.Rulings.{IsLaidOut};
 ghost use Rattle.pmem.specs.Words.{IsAtRest, image_of};
 ghost use Rattle.pmem_file.specs.Devices.{failure_of, places_of, state_of};
-ghost use Rattle.store_file.specs.declared.opening.Refusal.{Refusal};
-ghost use Rattle.store_file.specs.Opening.{IsFoundWith, IsUnopened, OpensLayout, ReportsFault, ReportsLayout};
+ghost use Rattle.store.specs.declared.files.Refusal.{Refusal};
+ghost use Rattle.store.specs.Files.{IsFoundWith, IsUnopened, OpensLayout, ReportsFault, ReportsLayout};
 
 use base::fault::Fault;
 use base::geometry::Geometry;

@@ -1,4 +1,4 @@
-use Rattle.store_file.proofs.opening.open_found.Goals as goal
+use Rattle.store.proofs.files.open_found.Goals as goal
 
 pub returns-in-Ok-clause-ok : goal.returns-in-Ok-clause-ok
 returns-in-Ok-clause-ok g c =

@@ -1,6 +1,6 @@
 use Rattle.std.proofs.Common.{inl, inr}
 use Rattle.pmem_file.specs.Devices.{state_of}
-use Rattle.store_file.proofs.opening.open_file.Goals as goal
+use Rattle.store.proofs.files.open_file.Goals as goal
 
 pub returns-in-Err-clause-other : goal.returns-in-Err-clause-other
 returns-in-Err-clause-other g c = c.in-Err.ensures.err c.args.geometry
