@@ -1,7 +1,7 @@
 """Refuses each request for memory in turn of the built programs, and looks at status, output and file.
 
 It runs `wbl lives` over the scripts of lives in crates/test_scripts/data; the commands of wbl over one file that the other scripts
-there name; `wbl threads`; the lives and the board of test_hostile_lives, with memory for all stores of the device and without; and
+there name; `wbl threads`; the lives and the board of test_lives, with memory for all stores of the device and without; and
 kv over a new and over an old file. Of each it refuses the first request, then the second alone, and so on to the last; then, of
 wbl and kv, the first and all later ones, and so on. It fails at a crash, a run that doesn't end, a row that was never put, a first line
 that differs and isn't OutOfMemory, a file that changed where the status isn't 0 or that isn't sound, a refusal of what takes no
@@ -246,7 +246,7 @@ def tests(programs, part):
 def main():
     parser = argparse.ArgumentParser(prog="./memory", description=__doc__, formatter_class=argparse.RawDescriptionHelpFormatter)
     parser.add_argument("--wbl", default=os.path.join(TOP, "crates/wbl/out/wbl"), help="the program, as rt run builds it")
-    parser.add_argument("--runs", default=os.path.join(TOP, "crates/test_hostile_lives/out/test_hostile_lives"), help="test_hostile_lives, the same")
+    parser.add_argument("--runs", default=os.path.join(TOP, "crates/test_lives/out/test_lives"), help="test_lives, the same")
     parser.add_argument("--kv", default=os.path.join(TOP, "crates/kv/out/kv"), help="kv, the same")
     parser.add_argument("--only", nargs="*", metavar="NAME", help="these kinds alone, as kv")
     parser.add_argument("--jobs", type=int, default=max(1, (os.cpu_count() or 2) // 2), help="runs at a time")

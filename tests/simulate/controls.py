@@ -66,7 +66,7 @@ def said_of(control):
             planted(tree, control)
         begin, used = time.monotonic(), processor_seconds()
         command = ["rt", "try", "--seconds", str(SECONDS), "--", "0", str(SEEDS)]
-        done = subprocess.run(command, cwd=tree / "crates/test_random_lives", stdout=subprocess.PIPE, stderr=subprocess.STDOUT, text=True, check=False)
+        done = subprocess.run(command, cwd=tree / "crates/test_lives", stdout=subprocess.PIPE, stderr=subprocess.STDOUT, text=True, check=False)
         taken = f"{time.monotonic() - begin:.0f} seconds with the build, {processor_seconds() - used:.0f} of a processor"
     if found := re.search(r"^seed (\d+)\n((?:(?!checked: ).*\n){0,2})", done.stdout, re.M):
         return f"found by seed {found.group(1)}, {taken}: {' '.join(found.group(2).split())[:160]}", True

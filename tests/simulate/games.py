@@ -261,13 +261,13 @@ def rows_left(rng, programs, left, said):
 
 
 def play_room(rng, programs):
-    """Lives of a room over a device of version 1, 2 and 3 by the program of crates/test_random_lives, which compares them with its own
+    """Lives of a room over a device of version 1, 2 and 3 by the program of crates/test_lives, which compares them with its own
     model of plain tables: stopped anywhere, with any survivor of each word."""
     seed, seeds = rng.randrange(2 ** 62), 3
     ended = subprocess.run([programs.room, str(seed), str(seeds)], capture_output=True, text=True, timeout=SECONDS, check=False)
     numbers = re.fullmatch(r"lives (\d+) steps (\d+) stops (\d+)\n", ended.stdout)
     if ended.returncode != 0 or not numbers:
-        raise Found(f"test_random_lives {seed} {seeds}: status {ended.returncode}, {ended.stdout[-300:]} {ended.stderr[-600:]}")
+        raise Found(f"test_lives {seed} {seeds}: status {ended.returncode}, {ended.stdout[-300:]} {ended.stderr[-600:]}")
     lives, steps, stops = map(int, numbers.groups())
     return collections.Counter(lives=lives, steps=steps, stops=stops, images=lives)
 

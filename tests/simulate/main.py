@@ -14,7 +14,7 @@ A seed is a game, and the same seed is the same game. There are five kinds:
     images    lives over an image of version 1, 2 or 3, stopped anywhere with any survivor of each word: what is left is checked by
               `wbl check`, and lives on by `wbl run`, and what that leaves is compared word by word
     room      lives over a device of version 1, 2 and 3, stopped anywhere with any survivor of each word, by the proved program of
-              crates/test_random_lives, which the gate runs on 30 seeds
+              crates/test_lives, which the gate runs on 30 seeds
     memory    a script of lives one of whose requests for memory is refused, where the program takes its memory from the C library
     file      `bin/kv` over a file of version 1, 2 or 3: its system calls are traced, and the power fails before any of them, with
               each word that no sync followed old or new; wants strace
@@ -22,7 +22,7 @@ A seed is a game, and the same seed is the same game. There are five kinds:
 What each prints is compared with what the engine in Python says, to the letter (`room` with a model of its own). It prints how much was
 played, and of a difference its seed and the least script that it found for it, and ends with 1. Where it can't go on, since the disk is
 full or it fails itself, it says so and ends with 2: that is no difference. It wants `bin/wbl` and `bin/kv`, which `./build` makes, and for
-`room` the program that `rt run` in crates/test_random_lives makes. The controls want nothing, since `rt try` builds their programs without
+`room` the program that `rt run` in crates/test_lives makes. The controls want nothing, since `rt try` builds their programs without
 proofs.
 """
 import argparse
@@ -54,7 +54,7 @@ def kinds_here(words, refuse):
     """Returns the kinds of games that can be played here."""
     kinds = [words.only] if words.only else list(KINDS)
     wanted = {
-        "room": (os.path.exists(words.room), "rt run in crates/test_random_lives"),
+        "room": (os.path.exists(words.room), "rt run in crates/test_lives"),
         "memory": (is_refused(words.wbl, refuse), "a C compiler, and a program that takes its memory from the C library"),
         "file": (shutil.which("strace") and os.path.exists(words.kv), "strace and bin/kv"),
     }
@@ -177,8 +177,8 @@ def main():
     parser.add_argument("--only", choices=list(KINDS), help="this kind of game alone")
     parser.add_argument("--wbl", default=str(ROOT / "bin/wbl"), metavar="FILE", help="the program, by default bin/wbl")
     parser.add_argument("--kv", default=str(ROOT / "bin/kv"), metavar="FILE", help="the store, by default bin/kv")
-    room = ROOT / "crates/test_random_lives/out/test_random_lives"
-    parser.add_argument("--room", default=str(room), metavar="FILE", help="the program of crates/test_random_lives")
+    room = ROOT / "crates/test_lives/out/test_lives"
+    parser.add_argument("--room", default=str(room), metavar="FILE", help="the program of crates/test_lives")
     parser.add_argument("--controls", nargs="*", metavar="NAME", help="the five planted defects, or those that are named")
     words = parser.parse_args()
     if words.controls is not None:

@@ -1,4 +1,4 @@
-use crate::slots::{KEYS, SLOTS, Slots, Version, Writer};
+use crate::random::slots::{KEYS, SLOTS, Slots, Version, Writer};
 use base::fault::Fault;
 use base::gap::Gap;
 use base::geometry::Geometry;

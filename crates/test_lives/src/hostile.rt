@@ -1,56 +1,33 @@
 //! Runs of the room on devices and images that are hostile to it. Of each kind it prints how many runs there were, and that
-//! nothing was lost and nothing wrong. Then it prints what lives and a board answer. `refused NAME` lives the run of that
-//! name alone, and `refused NAME reserved` on a device that has memory for its stores: for who refuses allocations.
-#![tactic(auto)]
+//! nothing was lost and nothing wrong. Then it prints what lives and a board answer.
 
 mod images;
 mod judge;
 mod life;
-mod published;
+pub mod published;
 mod refused;
 mod runs;
 mod slots;
 mod stops;
 mod stories;
 
+use crate::hostile::images::{change_at_random, change_each, cut_each, sound_words};
+use crate::hostile::judge::Counts;
+use crate::hostile::published::publish;
+use crate::hostile::refused::live_run;
+use crate::hostile::runs::RUNS;
+use crate::hostile::slots::fill_at_random;
+use crate::hostile::stops::stop_each;
+use crate::hostile::stories::STORIES;
 use anyhow::{Error, bail};
 use asks::Story;
 use base::fault::Fault;
-use images::{change_at_random, change_each, cut_each, sound_words};
-use judge::Counts;
-use published::publish;
-use refused::live_run;
-use runs::RUNS;
-use slots::fill_at_random;
 use std::alloc::Global;
-use std::env;
 use std::sync::Wait;
 use std::thread::Threads;
-use stops::stop_each;
-use stories::STORIES;
 
-fn main(rt: HostRuntime) -> Result<(), Error> {
-    let alloc = rt.alloc();
-    let words: Vec<String> = env::args(&rt)?.skip(1).collect(alloc)?;
-    let words: Vec<&str> = words.iter().map(|word| word.as_str()).collect(alloc)?;
-    run(&rt, alloc, words.as_slice())
-}
-
-fn run<H: Print + Threads + Wait + Sync>(
-    rt: &H,
-    alloc: Global,
-    words: &[&str],
-) -> Result<(), Error> {
-    match words {
-        [] => run_all(rt, alloc),
-        ["refused", "board"] => publish(rt, alloc),
-        ["refused", name] => live_named(rt, alloc, name, false),
-        ["refused", name, "reserved"] => live_named(rt, alloc, name, true),
-        _ => bail!("the words are none, or refused NAME [reserved]"),
-    }
-}
-
-fn run_all<H: Print + Threads + Wait + Sync>(rt: &H, alloc: Global) -> Result<(), Error> {
+/// All of them, in turn.
+pub fn run_all<H: Print + Threads + Wait + Sync>(rt: &H, alloc: Global) -> Result<(), Error> {
     stop_stories(rt, alloc)?;
     run_images(rt, alloc)?;
     for run in RUNS {
@@ -75,8 +52,8 @@ fn print_filled<H: Print>(rt: &H, filled: (Counts, u64)) -> Result<(), Error> {
     Ok(())
 }
 
-// Lives the run of this name.
-fn live_named<H: Print + Threads + Sync>(
+/// Lives the run of this name alone.
+pub fn live_named<H: Print + Threads + Sync>(
     rt: &H,
     alloc: Global,
     name: &str,

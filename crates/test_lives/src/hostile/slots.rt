@@ -1,7 +1,7 @@
 //! Images whose slots hold words at random, under a record that persists timestamps up to 2^60 and reserves them up to 2^61.
-use crate::images::judge_words;
-use crate::judge::Counts;
-use crate::life::formatted;
+use crate::hostile::images::judge_words;
+use crate::hostile::judge::Counts;
+use crate::hostile::life::formatted;
 use base::fault::Fault;
 use rand_core::utils::NextWord;
 use rand_pcg::Pcg32;

@@ -1,4 +1,4 @@
-use Rattle.test_hostile_lives.proofs.published.publish_again.Given as goal
+use Rattle.test_lives.proofs.hostile.published.publish.Given as goal
 
 -- the book of the new history
 abbrev pub ghosts-publish_on : goal.ghosts-publish_on

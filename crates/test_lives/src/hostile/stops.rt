@@ -1,6 +1,6 @@
-use crate::judge::{Allowed, Counts, judge};
-use crate::life::{Failing, crashed_words, live, operations, words_before};
-use crate::stories::StoryTables;
+use crate::hostile::judge::{Allowed, Counts, judge};
+use crate::hostile::life::{Failing, crashed_words, live, operations, words_before};
+use crate::hostile::stories::StoryTables;
 use asks::{Table, steps};
 use base::fault::Fault;
 use base::step::Step;

@@ -1,6 +1,6 @@
 //! Runs of lives that say each reply. Where an allocation is refused, by who runs the program, the call is made once more.
-use crate::life::{crashed_words, fresh_words, leave, opened};
-use crate::runs::Run;
+use crate::hostile::life::{crashed_words, fresh_words, leave, opened};
+use crate::hostile::runs::Run;
 use anyhow::Error;
 use asks::{Ask, Life, Past, count_of, step_of};
 use base::fault::Fault;

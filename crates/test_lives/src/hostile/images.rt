@@ -1,5 +1,5 @@
-use crate::judge::{Counts, opened_rows};
-use crate::life::{formatted, leave, opened};
+use crate::hostile::judge::{Counts, opened_rows};
+use crate::hostile::life::{formatted, leave, opened};
 use asks::Ask::{Begin, End, Put};
 use asks::{Life, TWO_LINES_COVERED, steps};
 use base::fault::Fault;

@@ -1,10 +1,10 @@
-use crate::chance::Chance;
-use crate::counts::Counts;
-use crate::devices::{
+use crate::random::chance::Chance;
+use crate::random::counts::Counts;
+use crate::random::devices::{
     closed, crashed, formatted, gate_of, leave, left_by_opening, reopened, room_of,
 };
-use crate::model::{Model, Tables};
-use crate::slots::KEYS;
+use crate::random::model::{Model, Tables};
+use crate::random::slots::KEYS;
 use anyhow::{Error, bail};
 use base::fault::Fault;
 use base::key::Key;

@@ -1,6 +1,6 @@
-use crate::chance::Chance;
-use crate::model::WINDOW;
-use crate::slots::SLOTS;
+use crate::random::chance::Chance;
+use crate::random::model::WINDOW;
+use crate::random::slots::SLOTS;
 use base::fault::Fault;
 use base::geometry::Geometry;
 use pmem::Pmem;

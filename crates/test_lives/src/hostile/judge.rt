@@ -1,4 +1,4 @@
-use crate::life::{leave, opened};
+use crate::hostile::life::{leave, opened};
 use asks::Table;
 use base::fault::Fault;
 use base::key::Key;
