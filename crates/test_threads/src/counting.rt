@@ -1,3 +1,4 @@
+use crate::fixture::granted;
 use crate::hold::Hold;
 use base::actor::Actor;
 use base::fault::Fault;
@@ -6,7 +7,7 @@ use std::alloc::Global;
 use std::sync::Arc;
 use std::sync::atomic::{AtomicBool, AtomicU64, Ordering};
 
-/// What the threads tell one another.
+/// What the threads signal to one another.
 #[derive(Drop)]
 pub struct Signals {
     /// How many operations the device made.
@@ -20,6 +21,10 @@ pub struct Signals {
 }
 
 pub type SharedSignals = Arc<Signals, Global>;
+
+pub fn make_signals(alloc: Global) -> Result<SharedSignals, Fault> {
+    granted(Arc::new(alloc, Signals::new()))
+}
 
 impl Signals {
     pub fn new() -> Signals {

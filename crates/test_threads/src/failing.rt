@@ -1,10 +1,13 @@
-//! Threads over a device that fails after each of many numbers of operations: each session is told so, the close hands the
-//! device back, and what was acknowledged is there at the next opening.
+//! Threads over a device that fails after each of many numbers of operations: each session reports it, the close returns the
+//! device, and what was acknowledged is there at the next opening.
 ghost use Rattle.std.specs.Prelude.{◌≡◌, IfOk};
 ghost use Rattle.pmem.specs.Words.{IsAtRest, image_of};
 ghost use Rattle.pmem_model.specs.Sim.{device_of};
 
-use crate::fixture::{Always, at_rest, closed, fresh, granted, number_in, opened, put, running};
+use crate::fixture::{
+    Always, Worked, at_rest, commit_row, ended, fresh, gathered, leave, number_in, opened, running,
+    two_sessions,
+};
 use base::fault::Fault;
 use base::key::Key;
 use base::row::Row;
@@ -26,9 +29,9 @@ const MOST: u64 = 160;
 /// How many commits each of two threads asks for.
 const COMMITS: u64 = 4;
 
-/// How many commits a thread was acknowledged, and whether it then was told that the device fails.
+/// How many commits of a thread were acknowledged, and whether a call then reported that the device fails.
 #[derive(Clone, Copy)]
-struct Told {
+struct Reported {
     acknowledged: u64,
     fails: bool,
 }
@@ -37,7 +40,16 @@ struct Told {
 #[derive(Drop)]
 struct Left<D: Pmem> {
     device: D,
-    told: [Told; 2],
+    reported: [Reported; 2],
+}
+
+/// Whether both threads report that the device fails, and whether what was acknowledged outlives a crash that leaves the oldest
+/// values, and one that leaves the newest.
+#[derive(Clone, Copy, Debug, PartialEq, Eq)]
+struct Outcome {
+    fails: bool,
+    oldest: bool,
+    newest: bool,
 }
 
 // Puts one number after the other under the key, up to a call that is refused.
@@ -45,34 +57,30 @@ fn commit_each<D: Pmem + Drop, J: Origin, B: Drop>(
     rt: &impl Wait,
     session: &mut Session<D, J, B>,
     key: u64,
-) -> Told {
+) -> Reported {
     for number in 1..COMMITS + 1 {
-        let committed = match put(rt, session, key, number) {
-            Ok(()) => session.commit(rt),
-            Err(fault) => Err(fault),
-        };
-        if let Err(fault) = committed {
-            return Told {
+        if let Err(fault) = commit_row(rt, session, key, number) {
+            return Reported {
                 acknowledged: number.saturating_sub(1),
                 fails: matches!(fault, Fault::Device | Fault::Failed),
             };
         }
     }
-    Told {
+    Reported {
         acknowledged: COMMITS,
         fails: false,
     }
 }
 
-// The session, and what it was told.
+// The session, and what it reported.
 fn work<D: Pmem + Drop, J: Origin, B: Drop>(
     rt: &impl Wait,
     session: Session<D, J, B>,
     key: u64,
-) -> (Session<D, J, B>, Told) {
+) -> (Session<D, J, B>, Reported) {
     let mut session = session;
-    let told = commit_each(rt, &mut session, key);
-    (session, told)
+    let reported = commit_each(rt, &mut session, key);
+    (session, reported)
 }
 
 // Two threads that commit, each under its own key.
@@ -84,12 +92,10 @@ fn work_both<
     rt: &R,
     alloc: Global,
     engine: &Engine<D, J, Board<J, R>>,
-) -> Result<(Vec<Session<D, J, Board<J, R>>>, [Told; 2]), Fault> {
-    let first = engine.session(rt)?;
-    let second = engine.session(rt)?;
+) -> Worked<D, J, Board<J, R>, [Reported; 2]> {
+    let (first, second) = two_sessions(rt, engine)?;
     let ((first, one), (second, other)) = join(rt, || work(rt, first, 0), || work(rt, second, 1));
-    let sessions = granted(Vec::from_array(alloc, [first, second]))?;
-    Ok((sessions, [one, other]))
+    Ok((gathered(alloc, [first, second])?, [one, other]))
 }
 
 // A life of the device, up to where it fails.
@@ -103,11 +109,11 @@ fn live<
     requires at_rest { IsAtRest (D.state device) }
 {
     let engine = running::<D, J, R, Always, Always>(rt, alloc, history, device, Always, Always)?;
-    let (sessions, told) = work_both(rt, alloc, &engine)?;
-    let audited = closed(rt, engine, sessions)?;
+    let worked = work_both(rt, alloc, &engine);
+    let (audited, reported) = ended(rt, engine, worked)?;
     Ok(Left {
         device: audited.into_room().into_device(),
-        told,
+        reported,
     })
 }
 
@@ -129,15 +135,18 @@ fn left_after<R: Threads + Wait + Copy + Drop + Send + Sync + 'static>(
     live::<_, Brand, R>(rt, alloc, History::new(), failing(alloc, fuse)?)
 }
 
-// The rows that an opening finds after a crash with this choice.
-fn rows_after<R: Threads + Sync>(
+// The rows that an opening of the device finds.
+fn rows_in<D: Pmem + Drop + Send + Sync, R: Threads + Sync>(
     rt: &R,
     alloc: Global,
-    device: &SimPmem,
-    choice: &Choice,
-) -> Result<Vec<(Key, Row)>, Fault> {
-    let audited = opened(rt, alloc, at_rest(device.crash(choice)?)?)?;
-    audited.tables()
+    device: D,
+) -> Result<Vec<(Key, Row)>, Fault>
+    requires { IsAtRest (D.state device) }
+{
+    let audited = opened(rt, alloc, device)?;
+    let rows = audited.tables();
+    leave(audited);
+    rows
 }
 
 // The number under the key.
@@ -151,25 +160,57 @@ fn number_at(rows: &[(Key, Row)], number: u64) -> Result<u64, Fault> {
 }
 
 // Do the rows hold what was acknowledged, and of each thread at most the commit that was under way?
-fn are_kept(rows: &[(Key, Row)], told: &[Told; 2]) -> Result<bool, Fault> {
+fn are_kept(rows: &[(Key, Row)], reported: &[Reported; 2]) -> Result<bool, Fault> {
     let (first, second) = (number_at(rows, 0)?, number_at(rows, 1)?);
-    Ok(is_kept(first, &told[0]) && is_kept(second, &told[1]))
+    Ok(is_kept(first, &reported[0]) && is_kept(second, &reported[1]))
 }
 
-fn is_kept(number: u64, told: &Told) -> bool {
-    told.acknowledged <= number && number <= told.acknowledged.saturating_add(1)
+fn is_kept(number: u64, reported: &Reported) -> bool {
+    reported.acknowledged <= number && number <= reported.acknowledged.saturating_add(1)
+}
+
+// Is what was acknowledged there after a crash with this choice?
+fn outlives<R: Threads + Sync>(
+    rt: &R,
+    alloc: Global,
+    left: &Left<SimPmem>,
+    choice: &Choice,
+) -> Result<bool, Fault> {
+    let rows = rows_in(rt, alloc, at_rest(left.device.crash(choice)?)?)?;
+    are_kept(&rows, &left.reported)
+}
+
+fn outcome_of<R: Threads + Sync>(
+    rt: &R,
+    alloc: Global,
+    left: &Left<SimPmem>,
+) -> Result<Outcome, Fault> {
+    Ok(Outcome {
+        fails: left.reported[0].fails && left.reported[1].fails,
+        oldest: outlives(rt, alloc, left, &Choice::Oldest)?,
+        newest: outlives(rt, alloc, left, &Choice::Newest)?,
+    })
+}
+
+// What comes of a life in which so many operations succeed.
+fn outcome_after<R: Threads + Wait + Copy + Drop + Send + Sync + 'static>(
+    rt: &R,
+    alloc: Global,
+    fuse: u64,
+) -> Result<Outcome, Fault> {
+    let left = left_after(rt, alloc, fuse)?;
+    outcome_of(rt, alloc, &left)
 }
 
 #[test]
 fn what_was_acknowledged_outlives_a_failing_device(rt: HostRuntime) -> Result<(), Fail> {
-    let alloc = rt.alloc();
+    let kept = Outcome {
+        fails: true,
+        oldest: true,
+        newest: true,
+    };
     for fuse in LEAST..MOST {
-        let left = left_after(&rt, alloc, fuse)?;
-        assert!(rt; left.told[0].fails && left.told[1].fails, "after {fuse}");
-        let oldest = rows_after(&rt, alloc, &left.device, &Choice::Oldest)?;
-        assert!(rt; are_kept(&oldest, &left.told)?, "after {fuse}");
-        let newest = rows_after(&rt, alloc, &left.device, &Choice::Newest)?;
-        assert!(rt; are_kept(&newest, &left.told)?, "after {fuse}");
+        assert_eq!(rt; outcome_after(&rt, rt.alloc(), fuse)?, kept, "after {fuse}");
     }
     Ok(())
 }

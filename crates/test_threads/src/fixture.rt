@@ -88,13 +88,18 @@ pub fn at_rest(device: SimPmem) -> Result<SimPmem, Fault>
 pub fn fresh(alloc: Global, slots: u64, window: u64) -> Result<SimPmem, Fault>
     ensures { IfOk result (λ device. IsAtRest (device_of device)) }
 {
-    let geometry = Geometry::new(slots, 2, window)?;
+    let device = formatted(alloc, Geometry::new(slots, 2, window)?)?;
+    restarted(alloc, &device)
+}
+
+// A device of this geometry that was formatted.
+fn formatted(alloc: Global, geometry: Geometry) -> Result<SimPmem, Fault> {
     let Ok(zeros) = vec![in alloc; 0; geometry.words() as usize] else {
         return Err(Fault::OutOfMemory);
     };
     let mut device = SimPmem::from_words(alloc, &zeros)?;
     format(&mut device, geometry)?;
-    restarted(alloc, &device)
+    Ok(device)
 }
 
 /// A device at rest with the words of this one.
@@ -166,7 +171,7 @@ pub fn running<
     started::<D, J, R, G, H>(rt, alloc, history, audited, committer, collector)
 }
 
-/// The room, given back by an engine whose sessions these are.
+/// The room, returned by an engine whose sessions these are.
 pub fn closed<D: Pmem + Drop, J: Origin, B: Drop, R: Threads + Wait>(
     rt: &R,
     engine: Engine<D, J, B>,
@@ -178,6 +183,59 @@ pub fn closed<D: Pmem + Drop, J: Origin, B: Drop, R: Threads + Wait>(
     }
 }
 
+/// The sessions that worked over an engine, and what came of that.
+pub type Worked<D, J, B, T> = Result<(Vec<Session<D, J, B>>, T), Fault>;
+
+/// The room, once the engine is closed with the sessions that worked, and what came of that.
+pub fn ended<D: Pmem + Drop, J: Origin, B: Drop, T: Drop, R: Threads + Wait>(
+    rt: &R,
+    engine: Engine<D, J, B>,
+    worked: Worked<D, J, B, T>,
+) -> Result<(Audited<D>, T), Fault> {
+    match worked {
+        Ok((sessions, came)) => match closed(rt, engine, sessions) {
+            Ok(audited) => Ok((audited, came)),
+            Err(fault) => Err(fault),
+        },
+        Err(fault) => {
+            abandon(engine);
+            Err(fault)
+        }
+    }
+}
+
+/// Lets an engine go that isn't closed: in one place, since each function that drops one itself is long to prove.
+pub fn abandon<D: Pmem + Drop, J: Origin, B: Drop>(_engine: Engine<D, J, B>) {}
+
+/// Lets a room go.
+pub fn leave<D: Pmem + Drop>(_audited: Audited<D>) {}
+
+/// The device of the room, which is closed.
+pub fn shut<D: Pmem + Drop>(audited: Audited<D>) -> Result<D, Fault> {
+    match audited.into_room().close() {
+        Ok(device) => Ok(device),
+        Err((fault, _device)) => Err(fault),
+    }
+}
+
+/// Two sessions.
+pub fn two_sessions<D: Pmem + Drop, J: Origin, B: Drop>(
+    rt: &impl Wait,
+    engine: &Engine<D, J, B>,
+) -> Result<(Session<D, J, B>, Session<D, J, B>), Fault> {
+    let first = engine.session(rt)?;
+    let second = engine.session(rt)?;
+    Ok((first, second))
+}
+
+/// These sessions as a close takes them.
+pub fn gathered<D: Pmem + Drop, J: Origin, B: Drop, const N: usize>(
+    alloc: Global,
+    sessions: [Session<D, J, B>; N],
+) -> Result<Vec<Session<D, J, B>>, Fault> {
+    granted(Vec::from_array(alloc, sessions))
+}
+
 /// Begins a transaction that puts a row.
 pub fn put<D: Pmem + Drop, J: Origin, B: Drop, R: Wait>(
     rt: &R,
@@ -187,4 +245,15 @@ pub fn put<D: Pmem + Drop, J: Origin, B: Drop, R: Wait>(
 ) -> Result<(), Fault> {
     session.begin(rt)?;
     session.put(rt, key(number), row(value)?)
+}
+
+/// Puts a row in a transaction of its own, which is committed.
+pub fn commit_row<D: Pmem + Drop, J: Origin, B: Drop, R: Wait>(
+    rt: &R,
+    session: &mut Session<D, J, B>,
+    number: u64,
+    value: u64,
+) -> Result<Option<u64>, Fault> {
+    put(rt, session, number, value)?;
+    session.commit(rt)
 }

@@ -5,8 +5,11 @@ ghost use Rattle.std.specs.Prelude.{◌≡◌, IfOk};
 ghost use Rattle.pmem.specs.Words.{IsAtRest, image_of};
 ghost use Rattle.pmem_model.specs.Sim.{device_of};
 
-use crate::counting::{Counting, SharedSignals, Signals};
-use crate::fixture::{Never, closed, fresh, granted, key, put, row, running};
+use crate::counting::{Counting, SharedSignals, Signals, make_signals};
+use crate::fixture::{
+    Never, Worked, commit_row, ended, fresh, gathered, granted, key, leave, put, row, running,
+    two_sessions,
+};
 use crate::hold::Holding;
 use base::fault::Fault;
 use base::row::Row;
@@ -16,6 +19,7 @@ use pmem::Pmem;
 use pmem_model::SimPmem;
 use std::alloc::Global;
 use std::marker::Brand;
+use std::process::Abort;
 use std::sync::{Arc, Wait};
 use std::test::*;
 use std::thread::{Threads, join};
@@ -23,39 +27,33 @@ use std::thread::{Threads, join};
 /// A cycle of one line has so many ticks, and the last covers.
 const TICKS: u64 = 42;
 
-/// What the reader is answered while the room's lock is held.
-#[derive(Clone, Copy, Debug)]
+/// What the reader's calls return while the room's lock is held.
+#[derive(Clone, Copy, Debug, PartialEq, Eq)]
 struct Reading {
     row: Result<Option<Row>, Fault>,
     bounds: Result<(u64, u64), Fault>,
 }
 
-/// What is answered while the committer is held.
-#[derive(Clone, Copy, Debug)]
+/// What calls return while the committer is held.
+#[derive(Clone, Copy, Debug, PartialEq, Eq)]
 struct Meanwhile {
     own: Result<Option<Row>, Fault>,
     read: Reading,
     made: u64,
 }
 
-type Sessions<D, J, R> = Vec<Session<D, J, Board<J, R>>>;
-
-/// What the second session and the reader were answered, and the first session.
+/// What the second session's and the reader's calls returned, and the first session's commit.
 type Answers = (Meanwhile, Result<Option<u64>, Fault>);
 
-/// What is answered to both sessions.
-#[derive(Drop)]
+/// What the calls of both sessions returned, and how many operations the device had made.
+#[derive(Clone, Copy, Debug, PartialEq, Eq)]
 struct Seen {
     opened: u64,
     meanwhile: Meanwhile,
-    committed: Option<u64>,
+    committed: Result<Option<u64>, Fault>,
     made: u64,
     /// A thread was held until its turns were over.
     late: bool,
-}
-
-fn make_signals(alloc: Global) -> Result<SharedSignals, Fault> {
-    granted(Arc::new(alloc, Signals::new()))
 }
 
 // Puts a row and commits it.
@@ -65,12 +63,17 @@ fn commit<D: Pmem + Drop, J: Origin, B: Drop>(
     signals: &Signals,
 ) -> (Session<D, J, B>, Result<Option<u64>, Fault>) {
     let mut session = session;
-    let committed = match put(rt, &mut session, 7, 1) {
-        Ok(()) => session.commit(rt),
-        Err(fault) => Err(fault),
-    };
+    let committed = commit_row(rt, &mut session, 7, 1);
     signals.cycle.reach();
     (session, committed)
+}
+
+fn put_and_get<D: Pmem + Drop, J: Origin, B: Drop>(
+    rt: &impl Wait,
+    session: &mut Session<D, J, B>,
+) -> Result<Option<Row>, Fault> {
+    put(rt, session, 8, 2)?;
+    session.get(rt, key(8))
 }
 
 // Puts another row, with which the device is held, and reads it.
@@ -80,10 +83,7 @@ fn put_held<D: Pmem + Drop, J: Origin, B: Drop>(
     signals: &Signals,
 ) -> (Session<D, J, B>, Result<Option<Row>, Fault>) {
     let mut session = session;
-    let own = match put(rt, &mut session, 8, 2) {
-        Ok(()) => session.get(rt, key(8)),
-        Err(fault) => Err(fault),
-    };
+    let own = put_and_get(rt, &mut session);
     signals.operation.reach();
     (session, own)
 }
@@ -130,8 +130,8 @@ fn counted(alloc: Global, signals: &SharedSignals) -> Result<Counting<SimPmem>, 
     Ok(Counting::new(fresh(alloc, 4, 8)?, signals))
 }
 
-// Commits a row, within a cycle of which a second session and a reader are asked. The sessions, and what all were answered.
-fn work_together<
+// Commits a row, and calls a second session and a reader within the cycle of that.
+fn work<
     D: Pmem + Drop + Send + Sync + 'static,
     J: Origin + Send + Sync + 'static,
     R: Threads + Wait + Copy + Drop + Send + Sync + 'static,
@@ -140,20 +140,18 @@ fn work_together<
     alloc: Global,
     engine: &Engine<D, J, Board<J, R>>,
     signals: &Signals,
-) -> Result<(Sessions<D, J, R>, Answers), Fault> {
-    let first = engine.session(rt)?;
-    let second = engine.session(rt)?;
+) -> Worked<D, J, Board<J, R>, Answers> {
     let reader = engine.reader(rt)?;
+    let (first, second) = two_sessions(rt, engine)?;
     let ((first, committed), (second, meanwhile)) = join(
         rt,
         || commit(rt, first, signals),
         || work_meanwhile(rt, second, reader, signals),
     );
-    let sessions = granted(Vec::from_array(alloc, [first, second]))?;
-    Ok((sessions, (meanwhile, committed)))
+    Ok((gathered(alloc, [first, second])?, (meanwhile, committed)))
 }
 
-// A life of the device in which the committer is held after so many ticks.
+// A life of the device in which the committer is held by this.
 fn hold<
     D: Pmem + Drop + Send + Sync + 'static,
     J: Origin + Send + Sync + 'static,
@@ -163,52 +161,86 @@ fn hold<
     alloc: Global,
     history: History,
     device: D,
-    signals: SharedSignals,
-    ticks: u64,
+    holding: Holding,
+    signals: &Signals,
 ) -> Result<Seen, Fault>
     requires name { history ≡ J.book }
     requires image { image_of (D.state device) ≡ J.image }
     requires at_rest { IsAtRest (D.state device) }
 {
-    let holding = Holding::new(granted(Arc::try_clone(&signals))?, ticks);
     let engine = running::<D, J, R, Holding, Never>(rt, alloc, history, device, holding, Never)?;
     let opened = signals.made();
-    let (sessions, (meanwhile, committed)) = work_together(rt, alloc, &engine, &signals)?;
+    let worked = work(rt, alloc, &engine, signals);
     let made = signals.made();
-    closed(rt, engine, sessions)?;
+    let (audited, (meanwhile, committed)) = ended(rt, engine, worked)?;
+    leave(audited);
     Ok(Seen {
         opened,
         meanwhile,
-        committed: committed?,
+        committed,
         made,
         late: signals.operation.was_late() || signals.cycle.was_late(),
     })
 }
 
 // What is seen while the committer of a fresh device is held after so many ticks.
+fn seen_by<R: Threads + Wait + Copy + Drop + Send + Sync + 'static>(
+    rt: &R,
+    alloc: Global,
+    ticks: u64,
+    signals: &SharedSignals,
+) -> Result<Seen, Fault> {
+    let holding = Holding::new(granted(Arc::try_clone(signals))?, ticks);
+    let device = counted(alloc, signals)?;
+    hold::<_, Brand, R>(rt, alloc, History::new(), device, holding, signals)
+}
+
 fn seen_after<R: Threads + Wait + Copy + Drop + Send + Sync + 'static>(
     rt: &R,
     alloc: Global,
     ticks: u64,
 ) -> Result<Seen, Fault> {
     let signals = make_signals(alloc)?;
-    let device = counted(alloc, &signals)?;
-    hold::<_, Brand, R>(rt, alloc, History::new(), device, signals, ticks)
+    seen_by(rt, alloc, ticks, &signals)
 }
 
 // An opening makes 39 operations, a put 10, the stamp one, and each tick but the first one.
+fn expected(ticks: u64) -> Result<Seen, Fault> {
+    Ok(Seen {
+        opened: 39,
+        meanwhile: Meanwhile {
+            own: Ok(Some(row(2)?)),
+            read: Reading {
+                row: Ok(None),
+                bounds: Ok((2, 2)),
+            },
+            made: ticks.saturating_add(59),
+        },
+        committed: Ok(Some(1)),
+        made: 101,
+        late: false,
+    })
+}
+
+fn assert_seen(rt: &impl Abort, seen: &Seen, expected: &Seen) {
+    assert_eq!(rt; *seen, *expected);
+}
+
+fn assert_after<R: Threads + Wait + Copy + Drop + Send + Sync + Abort + 'static>(
+    rt: &R,
+    alloc: Global,
+    ticks: u64,
+) -> Result<(), Fault> {
+    let expected = expected(ticks)?;
+    let seen = seen_after(rt, alloc, ticks)?;
+    assert_seen(rt, &seen, &expected);
+    Ok(())
+}
+
 #[test]
 fn readers_and_writers_inside_a_cycle(rt: HostRuntime) -> Result<(), Fail> {
     for ticks in 1..TICKS {
-        let seen = seen_after(&rt, rt.alloc(), ticks)?;
-        assert_eq!(rt; seen.opened, 39);
-        assert_eq!(rt; seen.meanwhile.own, Ok(Some(row(2)?)));
-        assert_eq!(rt; seen.meanwhile.read.row, Ok(None));
-        assert_eq!(rt; seen.meanwhile.read.bounds, Ok((2, 2)));
-        assert_eq!(rt; seen.meanwhile.made, 59 + ticks);
-        assert_eq!(rt; seen.committed, Some(1));
-        assert_eq!(rt; seen.made, 101);
-        assert!(rt; !seen.late);
+        assert_after(&rt, rt.alloc(), ticks)?;
     }
     Ok(())
 }

@@ -1,8 +1,10 @@
 //! The engine's threads at work: a cycle that is held within while another session works and a reader reads, a committer that
-//! stops, a collector that is held, a device that fails, many sessions that conflict, a commit that a token tells to another
-//! thread, and workers that sleep.
+//! stops, a collector that is held, a device that fails, many sessions that conflict, a token of acknowledged commits that
+//! another thread learns, and workers that sleep.
 #![tactic(auto)]
 
+#[cfg(test)]
+mod acknowledged;
 #[cfg(test)]
 mod calls;
 #[cfg(test)]
@@ -21,5 +23,3 @@ mod sleeping;
 mod stopped;
 #[cfg(test)]
 mod stress;
-#[cfg(test)]
-mod told;

@@ -3,7 +3,7 @@
 ghost use Rattle.std.specs.Prelude.{◌≡◌};
 ghost use Rattle.pmem.specs.Words.{IsAtRest, image_of};
 
-use crate::fixture::{Always, closed, fresh, granted, key, running};
+use crate::fixture::{Always, Worked, ended, fresh, gathered, key, leave, running};
 use base::fault::Fault;
 use base::step::{Note, Step};
 use board::{Board, History};
@@ -22,7 +22,7 @@ const SLOTS: usize = 3;
 const READS: u64 = 2_000;
 
 /// How many steps the workers made.
-#[derive(Clone, Copy, Debug)]
+#[derive(Clone, Copy, Debug, PartialEq, Eq)]
 struct Made {
     ticks: usize,
     visits: usize,
@@ -43,46 +43,72 @@ fn read_often<D: Pmem + Drop, J: Origin, B: Drop>(
     session.commit(rt)
 }
 
-// How many of the entries are the workers'.
-fn made_in(entries: &[(Step, Note)]) -> Made {
-    Made {
-        ticks: entries
-            .iter()
-            .filter(|(step, _)| matches!(step, Step::Commit))
-            .count(),
-        visits: entries
-            .iter()
-            .filter(|(step, _)| matches!(step, Step::Collect))
-            .count(),
-    }
+// A session of the engine that reads often, and what its commit returns.
+fn work<D: Pmem + Drop, J: Origin, B: Drop>(
+    rt: &impl Wait,
+    alloc: Global,
+    engine: &Engine<D, J, B>,
+) -> Worked<D, J, B, Result<Option<u64>, Fault>> {
+    let mut session = engine.session(rt)?;
+    let committed = read_often(rt, &mut session);
+    Ok((gathered(alloc, [session])?, committed))
 }
 
-// What the workers made in a life of the device that only reads.
+// How many of the entries are the workers'.
+fn made_in(entries: &[(Step, Note)]) -> Made {
+    let mut made = Made {
+        ticks: 0,
+        visits: 0,
+    };
+    for (step, _) in entries {
+        match step {
+            Step::Commit => made.ticks = made.ticks.saturating_add(1),
+            Step::Collect => made.visits = made.visits.saturating_add(1),
+            _ => {}
+        }
+    }
+    made
+}
+
+// What the commit returns in a life of the device that only reads, and what the workers made.
 fn read_alone<
     D: Pmem + Drop + Send + Sync + 'static,
     J: Origin + Send + Sync + 'static,
     R: Threads + Wait + Copy + Drop + Send + Sync + 'static,
->(rt: &R, alloc: Global, history: History, device: D) -> Result<Made, Fault>
+>(
+    rt: &R,
+    alloc: Global,
+    history: History,
+    device: D,
+) -> Result<(Result<Option<u64>, Fault>, Made), Fault>
     requires name { history ≡ J.book }
     requires image { image_of (D.state device) ≡ J.image }
     requires at_rest { IsAtRest (D.state device) }
 {
     let engine = running::<D, J, R, Always, Always>(rt, alloc, history, device, Always, Always)?;
-    let mut session = engine.session(rt)?;
-    if read_often(rt, &mut session)?.is_some() {
-        return Err(Fault::Failed);
-    }
-    let sessions = granted(Vec::from_array(alloc, [session]))?;
-    let audited = closed(rt, engine, sessions)?;
-    Ok(made_in(audited.history()))
+    let worked = work(rt, alloc, &engine);
+    let (audited, committed) = ended(rt, engine, worked)?;
+    let made = made_in(audited.history());
+    leave(audited);
+    Ok((committed, made))
+}
+
+// The same of a fresh device.
+fn made_alone<R: Threads + Wait + Copy + Drop + Send + Sync + 'static>(
+    rt: &R,
+    alloc: Global,
+) -> Result<(Result<Option<u64>, Fault>, Made), Fault> {
+    read_alone::<_, Brand, R>(rt, alloc, History::new(), fresh(alloc, SLOTS as u64, 8)?)
 }
 
 #[test]
 fn a_life_that_only_reads_sleeps(rt: HostRuntime) -> Result<(), Fail> {
-    let alloc = rt.alloc();
-    let device = fresh(alloc, SLOTS as u64, 8)?;
-    let made = read_alone::<_, Brand, _>(&rt, alloc, History::new(), device)?;
-    assert_eq!(rt; made.ticks, 1);
-    assert_eq!(rt; made.visits, SLOTS + 1);
+    let (committed, made) = made_alone(&rt, rt.alloc())?;
+    let round = Made {
+        ticks: 1,
+        visits: SLOTS + 1,
+    };
+    assert_eq!(rt; committed, Ok(None));
+    assert_eq!(rt; made, round);
     Ok(())
 }

@@ -4,11 +4,13 @@ ghost use Rattle.std.specs.Prelude.{◌≡◌, IfOk};
 ghost use Rattle.pmem.specs.Words.{IsAtRest, image_of};
 ghost use Rattle.pmem_model.specs.Sim.{device_of};
 
-use crate::counting::{SharedSignals, Signals};
+use crate::counting::{SharedSignals, Signals, make_signals};
 use crate::fixture::{
-    Always, Never, closed, fresh, granted, key, opened, put, restarted, row, running,
+    Always, Never, Worked, ended, fresh, gathered, granted, key, leave, opened, put, restarted,
+    row, running, shut,
 };
 use crate::hold::Holding;
+use audited::Audited;
 use base::fault::Fault;
 use base::key::Key;
 use base::row::Row;
@@ -16,7 +18,6 @@ use board::{Board, History, Reader};
 use engine::{Engine, Origin, Session};
 use pmem::Pmem;
 use pmem_model::SimPmem;
-use room::Status;
 use std::alloc::Global;
 use std::marker::Brand;
 use std::sync::{Arc, Wait};
@@ -26,11 +27,15 @@ use std::thread::Threads;
 /// How many sessions there are, of which the last finds the window full.
 const SESSIONS: u64 = 5;
 
-/// What an opening finds.
-#[derive(Drop)]
+/// What an opening finds: the numbers of the ruling record, how many rows there are, and the first one.
+#[derive(Clone, Copy, Debug, PartialEq, Eq)]
 struct Found {
-    status: Status,
-    rows: Vec<(Key, Row)>,
+    gate: u64,
+    persisted: u64,
+    dirty: u64,
+    next: u64,
+    rows: usize,
+    first: Option<Row>,
 }
 
 // Has a session put a row and prepare. Does it draw this timestamp, or find the window full where that is 5?
@@ -46,21 +51,31 @@ fn draws<D: Pmem + Drop, J: Origin, B: Drop>(
     })
 }
 
+// A session that draws so.
+fn drawn<D: Pmem + Drop, J: Origin, B: Drop>(
+    rt: &impl Wait,
+    engine: &Engine<D, J, B>,
+    timestamp: u64,
+) -> Result<Session<D, J, B>, Fault> {
+    let mut session = engine.session(rt)?;
+    match draws(rt, &mut session, timestamp) {
+        Ok(true) => Ok(session),
+        Ok(false) => Err(Fault::Failed),
+        Err(fault) => Err(fault),
+    }
+}
+
 // Sessions that draw one after the other, of which none waits for a cover.
 fn draw_each<D: Pmem + Drop, J: Origin, B: Drop>(
     rt: &impl Wait,
     alloc: Global,
     engine: &Engine<D, J, B>,
-) -> Result<Vec<Session<D, J, B>>, Fault> {
+) -> Worked<D, J, B, ()> {
     let mut sessions = Vec::new(alloc);
     for timestamp in 1..SESSIONS + 1 {
-        let mut session = engine.session(rt)?;
-        if !draws(rt, &mut session, timestamp)? {
-            return Err(Fault::Failed);
-        }
-        granted(sessions.push(session))?;
+        granted(sessions.push(drawn(rt, engine, timestamp)?))?;
     }
-    Ok(sessions)
+    Ok((sessions, ()))
 }
 
 // The device, closed after a life in which nothing was covered before.
@@ -74,54 +89,110 @@ fn draw_and_close<
     requires at_rest { IsAtRest (D.state device) }
 {
     let engine = running::<D, J, R, Never, Never>(rt, alloc, history, device, Never, Never)?;
-    let sessions = draw_each(rt, alloc, &engine)?;
-    let audited = closed(rt, engine, sessions)?;
-    audited.into_room().close().map_err(|refused| refused.0)
+    let worked = draw_each(rt, alloc, &engine);
+    let (audited, ()) = ended(rt, engine, worked)?;
+    shut(audited)
+}
+
+fn shown<D: Pmem + Drop>(audited: &Audited<D>) -> Result<Found, Fault> {
+    let rows = audited.tables()?;
+    let opening = audited.opening();
+    Ok(Found {
+        gate: opening.gate,
+        persisted: opening.persisted,
+        dirty: opening.dirty,
+        next: opening.next,
+        rows: rows.len(),
+        first: first_of(&rows),
+    })
+}
+
+fn first_of(rows: &[(Key, Row)]) -> Option<Row> {
+    match rows.first() {
+        Some((_, row)) => Some(*row),
+        None => None,
+    }
+}
+
+// What an opening of the device finds.
+fn found_in<D: Pmem + Drop + Send + Sync, R: Threads + Sync>(
+    rt: &R,
+    alloc: Global,
+    device: D,
+) -> Result<Found, Fault>
+    requires { IsAtRest (D.state device) }
+{
+    let audited = opened(rt, alloc, device)?;
+    let found = shown(&audited);
+    leave(audited);
+    found
 }
 
 // What an opening finds of what is left of the device.
 fn open_again<R: Threads + Sync>(rt: &R, alloc: Global, device: &SimPmem) -> Result<Found, Fault> {
-    let audited = opened(rt, alloc, restarted(alloc, device)?)?;
-    Ok(Found {
-        status: audited.opening(),
-        rows: audited.tables()?,
-    })
+    found_in(rt, alloc, restarted(alloc, device)?)
+}
+
+// What an opening finds after a life in which sessions of a fresh device drew and a close covered that.
+fn found_drawn<R: Threads + Wait + Copy + Drop + Send + Sync + 'static>(
+    rt: &R,
+    alloc: Global,
+) -> Result<Found, Fault> {
+    let device = draw_and_close::<_, Brand, R>(rt, alloc, History::new(), fresh(alloc, 8, 4)?)?;
+    open_again(rt, alloc, &device)
 }
 
 #[test]
 fn a_close_covers_what_no_committer_does(rt: HostRuntime) -> Result<(), Fail> {
-    let alloc = rt.alloc();
-    let device = draw_and_close::<_, Brand, _>(&rt, alloc, History::new(), fresh(alloc, 8, 4)?)?;
-    let found = open_again(&rt, alloc, &device)?;
+    let found = found_drawn(&rt, rt.alloc())?;
     // The close wrote record 3, with 4 and 5, and the opening adds the window.
-    assert_eq!(rt; (found.status.gate, found.status.persisted), (4, 4));
-    assert_eq!(rt; (found.status.dirty, found.status.next), (9, 5));
-    assert_eq!(rt; found.rows.len(), 4);
+    let covered = Found {
+        gate: 4,
+        persisted: 4,
+        dirty: 9,
+        next: 5,
+        rows: 4,
+        first: Some(row(1)?),
+    };
+    assert_eq!(rt; found, covered);
     Ok(())
+}
+
+// The device after a life that is only an opening, and ends without a close.
+fn left_open<D: Pmem + Drop + Send + Sync, R: Threads + Sync>(
+    rt: &R,
+    alloc: Global,
+    device: D,
+) -> Result<D, Fault>
+    requires { IsAtRest (D.state device) }
+{
+    let audited = opened(rt, alloc, device)?;
+    Ok(audited.into_room().into_device())
 }
 
 // A fresh device whose first life ended without a close, so that its next one has a gap.
 fn with_gap<R: Threads + Sync>(rt: &R, alloc: Global) -> Result<SimPmem, Fault>
     ensures { IfOk result (λ device. IsAtRest (device_of device)) }
 {
-    let audited = opened(rt, alloc, fresh(alloc, 4, 8)?)?;
-    restarted(alloc, &audited.into_room().into_device())
+    let device = left_open(rt, alloc, fresh(alloc, 4, 8)?)?;
+    restarted(alloc, &device)
 }
 
-/// What is answered while the collector is held.
-#[derive(Clone, Copy, Debug)]
+/// What calls return while the collector is held.
+#[derive(Clone, Copy, Debug, PartialEq, Eq)]
 struct Meanwhile {
     bounds: Result<(u64, u64), Fault>,
     before: Result<Option<Row>, Fault>,
     committed: Option<u64>,
 }
 
-/// The same, and whether the collector was held until its turns were over.
-#[derive(Drop)]
-struct Held<D: Pmem> {
+/// The same, whether the collector was held until its turns were over, and the rows that an opening finds then.
+#[derive(Clone, Copy, Debug, PartialEq, Eq)]
+struct Held {
     meanwhile: Meanwhile,
     late: bool,
-    device: D,
+    rows: usize,
+    first: Option<Row>,
 }
 
 // Reads, and commits a row.
@@ -144,16 +215,30 @@ fn read_and_commit<D: Pmem + Drop, J: Origin, B: Drop>(
 fn work_meanwhile<D: Pmem + Drop, J: Origin, B: Drop>(
     rt: &impl Wait,
     session: &mut Session<D, J, B>,
-    reader: &mut Reader<J>,
+    reader: Reader<J>,
     signals: &Signals,
 ) -> Result<Meanwhile, Fault> {
+    let mut reader = reader;
     signals.cycle.wait(rt);
-    let meanwhile = read_and_commit(rt, session, reader);
+    let meanwhile = read_and_commit(rt, session, &mut reader);
     signals.cycle.free();
     meanwhile
 }
 
-// A life in which the collector is held after so many visits.
+// The same with a session and a reader of this engine.
+fn work<D: Pmem + Drop, J: Origin, B: Drop>(
+    rt: &impl Wait,
+    alloc: Global,
+    engine: &Engine<D, J, B>,
+    signals: &Signals,
+) -> Worked<D, J, B, Result<Meanwhile, Fault>> {
+    let mut session = engine.session(rt)?;
+    let reader = engine.reader(rt)?;
+    let meanwhile = work_meanwhile(rt, &mut session, reader, signals);
+    Ok((gathered(alloc, [session])?, meanwhile))
+}
+
+// A life in which the collector is held by this, and the device, closed.
 fn hold_collector<
     D: Pmem + Drop + Send + Sync + 'static,
     J: Origin + Send + Sync + 'static,
@@ -163,54 +248,80 @@ fn hold_collector<
     alloc: Global,
     history: History,
     device: D,
-    signals: SharedSignals,
-    visits: u64,
-) -> Result<Held<D>, Fault>
+    holding: Holding,
+    signals: &Signals,
+) -> Result<(D, Result<Meanwhile, Fault>), Fault>
     requires name { history ≡ J.book }
     requires image { image_of (D.state device) ≡ J.image }
     requires at_rest { IsAtRest (D.state device) }
 {
-    let holding = Holding::new(granted(Arc::try_clone(&signals))?, visits);
     let engine = running::<D, J, R, Always, Holding>(rt, alloc, history, device, Always, holding)?;
-    let mut session = engine.session(rt)?;
-    let mut reader = engine.reader(rt)?;
-    let meanwhile = work_meanwhile(rt, &mut session, &mut reader, &signals)?;
-    let late = signals.cycle.was_late();
-    let sessions = granted(Vec::from_array(alloc, [session]))?;
-    let audited = closed(rt, engine, sessions)?;
-    match audited.into_room().close() {
-        Ok(device) => Ok(Held {
-            meanwhile,
-            late,
-            device,
-        }),
-        Err((fault, _device)) => Err(fault),
-    }
+    let worked = work(rt, alloc, &engine, signals);
+    let (audited, meanwhile) = ended(rt, engine, worked)?;
+    Ok((shut(audited)?, meanwhile))
 }
 
-// The same of a device with a gap.
+// The same of a device with a gap, and after so many visits.
+fn hold_after<R: Threads + Wait + Copy + Drop + Send + Sync + 'static>(
+    rt: &R,
+    alloc: Global,
+    visits: u64,
+    signals: &SharedSignals,
+) -> Result<(SimPmem, Result<Meanwhile, Fault>), Fault> {
+    let holding = Holding::new(granted(Arc::try_clone(signals))?, visits);
+    let device = with_gap(rt, alloc)?;
+    hold_collector::<_, Brand, R>(rt, alloc, History::new(), device, holding, signals)
+}
+
+fn held_of(
+    meanwhile: Result<Meanwhile, Fault>,
+    late: bool,
+    found: Result<Found, Fault>,
+) -> Result<Held, Fault> {
+    let found = found?;
+    Ok(Held {
+        meanwhile: meanwhile?,
+        late,
+        rows: found.rows,
+        first: found.first,
+    })
+}
+
+// What is seen of such a life, and of the opening after it.
+fn held_by<R: Threads + Wait + Copy + Drop + Send + Sync + 'static>(
+    rt: &R,
+    alloc: Global,
+    visits: u64,
+    signals: &SharedSignals,
+) -> Result<Held, Fault> {
+    let (device, meanwhile) = hold_after(rt, alloc, visits, signals)?;
+    let found = open_again(rt, alloc, &device);
+    held_of(meanwhile, signals.cycle.was_late(), found)
+}
+
 fn held_after<R: Threads + Wait + Copy + Drop + Send + Sync + 'static>(
     rt: &R,
     alloc: Global,
     visits: u64,
-) -> Result<Held<SimPmem>, Fault> {
-    let signals = granted(Arc::new(alloc, Signals::new()))?;
-    let device = with_gap(rt, alloc)?;
-    hold_collector::<_, Brand, R>(rt, alloc, History::new(), device, signals, visits)
+) -> Result<Held, Fault> {
+    let signals = make_signals(alloc)?;
+    held_by(rt, alloc, visits, &signals)
 }
 
 #[test]
 fn a_commit_inside_a_sweep(rt: HostRuntime) -> Result<(), Fail> {
-    let alloc = rt.alloc();
+    let committed = Held {
+        meanwhile: Meanwhile {
+            bounds: Ok((3, 3)),
+            before: Ok(None),
+            committed: Some(9),
+        },
+        late: false,
+        rows: 1,
+        first: Some(row(1)?),
+    };
     for visits in 1..5 {
-        let held = held_after(&rt, alloc, visits)?;
-        assert!(rt; !held.late);
-        assert_eq!(rt; held.meanwhile.bounds, Ok((3, 3)));
-        assert_eq!(rt; held.meanwhile.before, Ok(None));
-        assert_eq!(rt; held.meanwhile.committed, Some(9));
-        let found = open_again(&rt, alloc, &held.device)?;
-        assert_eq!(rt; found.rows.len(), 1);
-        assert_eq!(rt; found.rows[0].1, row(1)?);
+        assert_eq!(rt; held_after(&rt, rt.alloc(), visits)?, committed);
     }
     Ok(())
 }

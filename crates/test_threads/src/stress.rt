@@ -2,8 +2,11 @@
 //! that. The rows hold just what was acknowledged.
 ghost use Rattle.std.specs.Prelude.{◌≡◌};
 ghost use Rattle.pmem.specs.Words.{IsAtRest, image_of};
+ghost use Rattle.pmem_model.specs.Sim.{device_of};
 
-use crate::fixture::{Always, closed, fresh, granted, key, number_in, restarted, row, running};
+use crate::fixture::{
+    Always, Worked, ended, fresh, granted, key, number_in, restarted, row, running, shut,
+};
 use audited::Audited;
 use base::fault::Fault;
 use base::key::Key;
@@ -11,6 +14,7 @@ use base::row::Row;
 use board::{Board, History};
 use engine::{Engine, Origin, Session};
 use pmem::Pmem;
+use pmem_model::SimPmem;
 use std::alloc::Global;
 use std::marker::Brand;
 use std::sync::Wait;
@@ -40,17 +44,15 @@ struct Known {
 
 /// A session, and how many of its commits were acknowledged for each number.
 #[derive(Drop)]
-struct Worked<D: Pmem, J: Origin, B: Drop> {
+struct Adder<D: Pmem, J: Origin, B: Drop> {
     session: Session<D, J, B>,
     counts: Result<Counts, Fault>,
 }
 
-/// What a life came to.
-#[derive(Drop)]
-struct Life<D: Pmem> {
-    device: D,
+/// What a life came to: how many commits were acknowledged, and what the rows hold at its end.
+#[derive(Clone, Copy)]
+struct Life {
     acknowledged: Counts,
-    /// What the rows hold at its end.
     held: Counts,
 }
 
@@ -69,13 +71,13 @@ fn read_number<D: Pmem + Drop, J: Origin, B: Drop>(
     Ok(number)
 }
 
-// Adds one to the number at the key, in a transaction.
-fn add_one<D: Pmem + Drop, J: Origin, B: Drop>(
+// Begins a transaction that adds one to the number at the key. The sum.
+fn put_one_more<D: Pmem + Drop, J: Origin, B: Drop>(
     rt: &impl Wait,
     session: &mut Session<D, J, B>,
     key: Key,
     known: &mut Known,
-) -> Result<(), Fault> {
+) -> Result<u64, Fault> {
     session.begin(rt)?;
     let number = read_number(rt, session, key)?;
     if number < known.last {
@@ -84,6 +86,17 @@ fn add_one<D: Pmem + Drop, J: Origin, B: Drop>(
     known.last = number;
     let more = number.saturating_add(1);
     session.put(rt, key, row(more)?)?;
+    Ok(more)
+}
+
+// Adds one to the number at the key, in a transaction.
+fn add_one<D: Pmem + Drop, J: Origin, B: Drop>(
+    rt: &impl Wait,
+    session: &mut Session<D, J, B>,
+    key: Key,
+    known: &mut Known,
+) -> Result<(), Fault> {
+    let more = put_one_more(rt, session, key, known)?;
     if session.commit(rt)?.is_none() {
         return Err(Fault::Failed);
     }
@@ -156,10 +169,17 @@ fn sums(one: Counts, other: Counts) -> Counts {
 fn work<D: Pmem + Drop, J: Origin, B: Drop>(
     rt: &impl Wait,
     session: Session<D, J, B>,
-) -> Worked<D, J, B> {
+) -> Adder<D, J, B> {
     let mut session = session;
     let counts = add_all(rt, &mut session);
-    Worked { session, counts }
+    Adder { session, counts }
+}
+
+fn cores(rt: &impl Threads) -> usize {
+    match available_parallelism(rt) {
+        Ok(cores) => cores.get().clamp(2, 8),
+        Err(_) => 4,
+    }
 }
 
 // A session for each core.
@@ -168,29 +188,31 @@ fn sessions<D: Pmem + Drop, J: Origin, B: Drop, R: Threads + Wait>(
     alloc: Global,
     engine: &Engine<D, J, B>,
 ) -> Result<Vec<Session<D, J, B>>, Fault> {
-    let cores = match available_parallelism(rt) {
-        Ok(cores) => cores.get().clamp(2, 8),
-        Err(_) => 4,
-    };
     let mut sessions = Vec::new(alloc);
-    for _ in 0..cores {
+    for _ in 0..cores(rt) {
         granted(sessions.push(engine.session(rt)?))?;
     }
     Ok(sessions)
 }
 
-// The sessions, and what they count together.
-fn together<D: Pmem + Drop, J: Origin, B: Drop>(
-    alloc: Global,
-    worked: Vec<Worked<D, J, B>>,
-) -> Result<(Vec<Session<D, J, B>>, Counts), Fault> {
-    let mut sessions = Vec::new(alloc);
+// What they count together.
+fn sum_of<D: Pmem + Drop, J: Origin, B: Drop>(adders: &[Adder<D, J, B>]) -> Result<Counts, Fault> {
     let mut all = [0; 3];
-    for one in worked {
-        all = sums(all, one.counts?);
-        granted(sessions.push(one.session))?;
+    for adder in adders {
+        all = sums(all, adder.counts?);
     }
-    Ok((sessions, all))
+    Ok(all)
+}
+
+fn sessions_of<D: Pmem + Drop, J: Origin, B: Drop>(
+    alloc: Global,
+    adders: Vec<Adder<D, J, B>>,
+) -> Result<Vec<Session<D, J, B>>, Fault> {
+    let mut sessions = Vec::new(alloc);
+    for adder in adders {
+        granted(sessions.push(adder.session))?;
+    }
+    Ok(sessions)
 }
 
 // The numbers that the rows hold.
@@ -217,23 +239,25 @@ fn work_all<
     rt: &R,
     alloc: Global,
     engine: &Engine<D, J, Board<J, R>>,
-) -> Result<(Vec<Session<D, J, Board<J, R>>>, Counts), Fault> {
+) -> Worked<D, J, Board<J, R>, Result<Counts, Fault>> {
     let sessions = sessions(rt, alloc, engine)?;
-    let worked = granted(map_vec(rt, sessions, &|session| work(rt, session)))?;
-    together(alloc, worked)
+    let adders = granted(map_vec(rt, sessions, &|session| work(rt, session)))?;
+    let sum = sum_of(&adders);
+    Ok((sessions_of(alloc, adders)?, sum))
 }
 
-// What a room is left with that is closed.
-fn ended<D: Pmem + Drop>(audited: Audited<D>, acknowledged: Counts) -> Result<Life<D>, Fault> {
-    let held = numbers_in(&audited.tables()?)?;
-    match audited.into_room().close() {
-        Ok(device) => Ok(Life {
-            device,
-            acknowledged,
-            held,
-        }),
-        Err((fault, _device)) => Err(fault),
-    }
+fn held_in<D: Pmem + Drop>(audited: &Audited<D>) -> Result<Counts, Fault> {
+    numbers_in(&audited.tables()?)
+}
+
+fn life_of(
+    acknowledged: Result<Counts, Fault>,
+    held: Result<Counts, Fault>,
+) -> Result<Life, Fault> {
+    Ok(Life {
+        acknowledged: acknowledged?,
+        held: held?,
+    })
 }
 
 // Opens the device, adds in all threads, and closes it.
@@ -241,23 +265,54 @@ fn live<
     D: Pmem + Drop + Send + Sync + 'static,
     J: Origin + Send + Sync + 'static,
     R: Threads + Wait + Copy + Drop + Send + Sync + 'static,
->(rt: &R, alloc: Global, history: History, device: D) -> Result<Life<D>, Fault>
+>(rt: &R, alloc: Global, history: History, device: D) -> Result<(D, Result<Life, Fault>), Fault>
     requires name { history ≡ J.book }
     requires image { image_of (D.state device) ≡ J.image }
     requires at_rest { IsAtRest (D.state device) }
 {
     let engine = running::<D, J, R, Always, Always>(rt, alloc, history, device, Always, Always)?;
-    let (sessions, acknowledged) = work_all(rt, alloc, &engine)?;
-    ended(closed(rt, engine, sessions)?, acknowledged)
+    let worked = work_all(rt, alloc, &engine);
+    let (audited, acknowledged) = ended(rt, engine, worked)?;
+    let held = held_in(&audited);
+    Ok((shut(audited)?, life_of(acknowledged, held)))
+}
+
+// The same, of a history of its own.
+fn lived<R: Threads + Wait + Copy + Drop + Send + Sync + 'static>(
+    rt: &R,
+    alloc: Global,
+    device: SimPmem,
+) -> Result<(SimPmem, Result<Life, Fault>), Fault>
+    requires { IsAtRest (device_of device) }
+{
+    live::<_, Brand, R>(rt, alloc, History::new(), device)
+}
+
+// The life that goes on with this device.
+fn life_after<R: Threads + Wait + Copy + Drop + Send + Sync + 'static>(
+    rt: &R,
+    alloc: Global,
+    device: &SimPmem,
+) -> Result<Life, Fault> {
+    let (_device, life) = lived(rt, alloc, restarted(alloc, device)?)?;
+    life
+}
+
+// Two lives of a fresh device.
+fn two_lives<R: Threads + Wait + Copy + Drop + Send + Sync + 'static>(
+    rt: &R,
+    alloc: Global,
+) -> Result<(Result<Life, Fault>, Result<Life, Fault>), Fault> {
+    let (device, first) = lived(rt, alloc, fresh(alloc, 16, 8)?)?;
+    let second = life_after(rt, alloc, &device);
+    Ok((first, second))
 }
 
 #[test]
 fn counts_are_those_acknowledged(rt: HostRuntime) -> Result<(), Fail> {
-    let alloc = rt.alloc();
-    let first = live::<_, Brand, _>(&rt, alloc, History::new(), fresh(alloc, 16, 8)?)?;
+    let (first, second) = two_lives(&rt, rt.alloc())?;
+    let (first, second) = (first?, second?);
     assert_eq!(rt; first.held, first.acknowledged);
-    let again = restarted(alloc, &first.device)?;
-    let second = live::<_, Brand, _>(&rt, alloc, History::new(), again)?;
     assert_eq!(rt; second.held, sums(first.acknowledged, second.acknowledged));
     Ok(())
 }

@@ -1,6 +1,6 @@
 use Rattle.pmem.specs.Words.{image_of}
 use Rattle.pmem_model.specs.Sim.{device_of}
-use Rattle.test_threads.proofs.sleeping.a_life_that_only_reads_sleeps.Given as goal
+use Rattle.test_threads.proofs.sleeping.made_alone.Given as goal
 
 -- the book of the new history
 abbrev pub ghosts-read_alone-J-Naming : goal.ghosts-read_alone-J-Naming

@@ -1,6 +1,6 @@
 use Rattle.pmem.specs.Words.{image_of}
 use Rattle.pmem_model.specs.Sim.{device_of}
-use Rattle.test_threads.proofs.stress.counts_are_those_acknowledged.Given as goal
+use Rattle.test_threads.proofs.stress.lived.Given as goal
 
 -- the book of the new history
 abbrev pub ghosts-live-J-Naming : goal.ghosts-live-J-Naming

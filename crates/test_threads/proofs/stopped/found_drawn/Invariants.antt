@@ -1,6 +1,6 @@
 use Rattle.pmem.specs.Words.{image_of}
 use Rattle.pmem_model.specs.Sim.{device_of}
-use Rattle.test_threads.proofs.stopped.a_close_covers_what_no_committer_does.Given as goal
+use Rattle.test_threads.proofs.stopped.found_drawn.Given as goal
 
 -- the book of the new history
 abbrev pub ghosts-draw_and_close-J-Naming : goal.ghosts-draw_and_close-J-Naming

@@ -1,6 +1,6 @@
 use Rattle.pmem.specs.Words.{image_of}
 use Rattle.pmem_model.specs.Sim.{device_of}
-use Rattle.test_threads.proofs.calls.each_call_of_a_session.Given as goal
+use Rattle.test_threads.proofs.calls.call_fresh.Given as goal
 
 -- the book of the new history
 abbrev pub ghosts-call_all-J-Naming : goal.ghosts-call_all-J-Naming

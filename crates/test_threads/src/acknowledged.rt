@@ -1,9 +1,11 @@
-//! One thread commits twenty times and tells the last commit by a token; another thread's reader learns that and reads. The
+//! One thread commits twenty times and hands a token of the last commit to another, whose reader learns it and reads. The
 //! committer pruned meanwhile: the last sixteen stamps may be read.
 ghost use Rattle.std.specs.Prelude.{◌≡◌};
 ghost use Rattle.pmem.specs.Words.{IsAtRest, image_of};
 
-use crate::fixture::{Always, Never, closed, fresh, granted, key, put, row, running};
+use crate::fixture::{
+    Always, Never, Worked, commit_row, ended, fresh, gathered, key, leave, row, running,
+};
 use base::fault::Fault;
 use base::row::Row;
 use board::{Board, History, Reader, Token};
@@ -20,8 +22,8 @@ const COMMITS: u64 = 20;
 
 type Answer = Result<Option<Row>, Fault>;
 
-/// What the reader is answered.
-#[derive(Clone, Copy, Debug)]
+/// What the reader's calls return.
+#[derive(Clone, Copy, Debug, PartialEq, Eq)]
 struct Reading {
     bounds: Result<(u64, u64), Fault>,
     below: Answer,
@@ -40,8 +42,7 @@ fn commit_each<D: Pmem + Drop, J: Origin, B: Drop>(
 ) -> Result<u64, Fault> {
     let mut last = 0;
     for number in 1..COMMITS + 1 {
-        put(rt, session, 7, number)?;
-        last = session.commit(rt)?.ok_or(Fault::Failed)?;
+        last = commit_row(rt, session, 7, number)?.ok_or(Fault::Failed)?;
     }
     Ok(last)
 }
@@ -63,7 +64,7 @@ fn commit<D: Pmem + Drop, J: Origin, R: Wait + Drop>(
 }
 
 // Commits, and lays a token that covers the last commit on the desk.
-fn tell<D: Pmem + Drop, J: Origin, R: Wait + Drop>(
+fn hand_over<D: Pmem + Drop, J: Origin, R: Wait + Drop>(
     rt: &impl Wait,
     session: Session<D, J, Board<J, R>>,
     desk: &Desk<J>,
@@ -74,20 +75,27 @@ fn tell<D: Pmem + Drop, J: Origin, R: Wait + Drop>(
     session
 }
 
-// Waits for the token on the desk, learns it and reads.
-fn learn<J: Origin>(rt: &impl Wait, reader: Reader<J>, desk: &Desk<J>) -> Result<Reading, Fault> {
-    let mut reader = reader;
+// Waits for what is laid on the desk.
+fn taken<J: Origin>(rt: &impl Wait, desk: &Desk<J>) -> Result<Token<J>, Fault> {
     for _ in rt.forever() {
         match desk.lock(rt).take() {
-            Some(Ok(token)) => {
-                reader.learn(token);
-                return Ok(read_around(&mut reader));
-            }
-            Some(Err(fault)) => return Err(fault),
+            Some(token) => return token,
             None => yield_now(),
         }
     }
     unreachable!()
+}
+
+// Learns the token that is laid on the desk, and reads.
+fn learn<J: Origin>(rt: &impl Wait, reader: Reader<J>, desk: &Desk<J>) -> Result<Reading, Fault> {
+    let mut reader = reader;
+    match taken(rt, desk) {
+        Ok(token) => {
+            reader.learn(token);
+            Ok(read_around(&mut reader))
+        }
+        Err(fault) => Err(fault),
+    }
 }
 
 // Reads at the lowest and the last stamp, and beside them.
@@ -101,23 +109,29 @@ fn read_around<J: Origin>(reader: &mut Reader<J>) -> Reading {
     }
 }
 
-// Has one session tell a reader in another thread of its commits.
-fn tell_and_learn<
+// A session of this engine commits in one thread, and a reader learns of that in another.
+fn work<
     D: Pmem + Drop + Send + Sync + 'static,
     J: Origin + Send + Sync + 'static,
     R: Threads + Wait + Copy + Drop + Send + Sync + 'static,
 >(
     rt: &R,
+    alloc: Global,
     engine: &Engine<D, J, Board<J, R>>,
-) -> Result<(Session<D, J, Board<J, R>>, Result<Reading, Fault>), Fault> {
-    let session = engine.session(rt)?;
+) -> Worked<D, J, Board<J, R>, Result<Reading, Fault>> {
     let reader = engine.reader(rt)?;
+    let session = engine.session(rt)?;
     let desk = Mutex::new(None);
-    Ok(join(rt, || tell(rt, session, &desk), || learn(rt, reader, &desk)))
+    let (session, reading) = join(
+        rt,
+        || hand_over(rt, session, &desk),
+        || learn(rt, reader, &desk),
+    );
+    Ok((gathered(alloc, [session])?, reading))
 }
 
 // What the reader reads in a life of the device.
-fn tell_across<
+fn live<
     D: Pmem + Drop + Send + Sync + 'static,
     J: Origin + Send + Sync + 'static,
     R: Threads + Wait + Copy + Drop + Send + Sync + 'static,
@@ -127,21 +141,30 @@ fn tell_across<
     requires at_rest { IsAtRest (D.state device) }
 {
     let engine = running::<D, J, R, Always, Never>(rt, alloc, history, device, Always, Never)?;
-    let (session, reading) = tell_and_learn(rt, &engine)?;
-    let sessions = granted(Vec::from_array(alloc, [session]))?;
-    closed(rt, engine, sessions)?;
+    let worked = work(rt, alloc, &engine);
+    let (audited, reading) = ended(rt, engine, worked)?;
+    leave(audited);
     reading
+}
+
+// The same of a fresh device.
+fn read_fresh<R: Threads + Wait + Copy + Drop + Send + Sync + 'static>(
+    rt: &R,
+    alloc: Global,
+) -> Result<Reading, Fault> {
+    live::<_, Brand, R>(rt, alloc, History::new(), fresh(alloc, 32, 8)?)
 }
 
 // The opening wrote record 2, and each commit has a record of its own. At the last, 22, the committer prunes to 7.
 #[test]
 fn another_thread_reads_told_commits(rt: HostRuntime) -> Result<(), Fail> {
-    let alloc = rt.alloc();
-    let reading = tell_across::<_, Brand, _>(&rt, alloc, History::new(), fresh(alloc, 32, 8)?)?;
-    assert_eq!(rt; reading.bounds, Ok((7, 22)));
-    assert_eq!(rt; reading.below, Err(Fault::TooOld));
-    assert_eq!(rt; reading.lowest, Ok(Some(row(5)?)));
-    assert_eq!(rt; reading.last, Ok(Some(row(20)?)));
-    assert_eq!(rt; reading.above, Err(Fault::NotYet));
+    let read = Reading {
+        bounds: Ok((7, 22)),
+        below: Err(Fault::TooOld),
+        lowest: Ok(Some(row(5)?)),
+        last: Ok(Some(row(20)?)),
+        above: Err(Fault::NotYet),
+    };
+    assert_eq!(rt; read_fresh(&rt, rt.alloc())?, read);
     Ok(())
 }

@@ -1,6 +1,6 @@
 use Rattle.pmem.specs.Words.{image_of}
 use Rattle.pmem_model.specs.Sim.{device_of}
-use Rattle.test_threads.proofs.held.seen_after.Given as goal
+use Rattle.test_threads.proofs.held.seen_by.Given as goal
 
 -- the book of the new history
 abbrev pub ghosts-hold-J-Naming : goal.ghosts-hold-J-Naming
