@@ -20,7 +20,7 @@ mod words;
 mod work;
 
 use crate::answers::Terminals;
-use crate::work::{obey_words, tell_failed};
+use crate::work::{obey_words, report_failed};
 use std::alloc::Global;
 use std::io::IsTerminal;
 use std::process::ExitCode;
@@ -36,7 +36,7 @@ fn main(rt: HostRuntime) -> ExitCode {
     };
     let status = match read_words(&rt, alloc) {
         Ok(words) => obey_words(&rt, alloc, words.as_slice(), terminals),
-        Err(error) => tell_failed(&rt, &error),
+        Err(error) => report_failed(&rt, &error),
     };
     ExitCode::from(status)
 }

@@ -11,7 +11,7 @@ pub struct Progress<'a, R> {
     // Since when it lasts, if it is printed at all.
     start: Option<Instant>,
     // How many rows were printed last.
-    told: u64,
+    printed: u64,
 }
 
 impl<'a, R: Eprint + Clock> Progress<'a, R> {
@@ -22,15 +22,19 @@ impl<'a, R: Eprint + Clock> Progress<'a, R> {
         } else {
             None
         };
-        Progress { rt, start, told: 0 }
+        Progress {
+            rt,
+            start,
+            printed: 0,
+        }
     }
 
     /// Prints that so many rows are put, if that is due.
     pub fn show(&mut self, rows: u64) {
-        if rows.saturating_sub(self.told) < STEP {
+        if rows.saturating_sub(self.printed) < STEP {
             return;
         }
-        self.told = rows;
+        self.printed = rows;
         if let Some(elapsed) = self.elapsed() {
             let rate = rate(rows, elapsed);
             let _ = eprint!(self.rt; "\rkv: {rows} rows, {rate} a second");
@@ -39,7 +43,7 @@ impl<'a, R: Eprint + Clock> Progress<'a, R> {
 
     /// Ends the line, if one was begun.
     pub fn end(&self) {
-        if self.start.is_some() && 0 < self.told {
+        if self.start.is_some() && 0 < self.printed {
             let _ = eprintln!(self.rt; "");
         }
     }

@@ -26,9 +26,9 @@ pub fn answer_lines<'a, R: Input + Print + Eprint + Clock + Wait + Drop>(
     let mut lines = Lines::new(alloc, rt.reader()).map_err(Stop::Input)?;
     println!(rt; "ready").map_err(Stop::Output)?;
     let answered = shell.answer_each(&mut lines);
-    let told = shell.flush();
+    let flushed = shell.flush();
     answered?;
-    told?;
+    flushed?;
     Ok(shell.leave())
 }
 
@@ -43,9 +43,9 @@ pub fn answer_command<'a, R: Input + Print + Eprint + Clock + Wait + Drop>(
     let mut shell = Shell::new(rt, alloc, database, manner).map_err(Stop::Output)?;
     let mut lines = Lines::new(alloc, rt.reader()).map_err(Stop::Input)?;
     let obeyed = shell.obey(&mut lines, command);
-    let told = shell.flush();
+    let flushed = shell.flush();
     obeyed?;
-    told?;
+    flushed?;
     Ok(shell.was_refused)
 }
 
@@ -138,7 +138,7 @@ impl<'a, R: Print + Eprint + Clock + Wait + Drop> Shell<'a, R> {
                 self.refuse(lines.number(), begins, &refusal)?;
             }
         }
-        self.tell_time(start)
+        self.print_time(start)
     }
 
     fn answer<I: BufRead + Drop>(
@@ -220,7 +220,7 @@ impl<'a, R: Print + Eprint + Clock + Wait + Drop> Shell<'a, R> {
         }
     }
 
-    fn tell_time(&mut self, start: Option<Instant>) -> Result<(), Stop> {
+    fn print_time(&mut self, start: Option<Instant>) -> Result<(), Stop> {
         let Some(start) = start else {
             return Ok(());
         };

@@ -41,7 +41,7 @@ pub fn obey_words<
 >(rt: &R, alloc: Global, words: &[String], terminals: Terminals) -> u8 {
     let command_line = match command_line(alloc) {
         Ok(command_line) => command_line,
-        Err(error) => return tell_failed(rt, &io::Error::from(error)),
+        Err(error) => return report_failed(rt, &io::Error::from(error)),
     };
     let matches = match command_line.try_get_matches_from(words) {
         Ok(matches) => matches,
@@ -49,7 +49,7 @@ pub fn obey_words<
     };
     let options = match read_options(&matches) {
         Ok(options) => options,
-        Err(error) => return tell_bad_words(rt, &error),
+        Err(error) => return report_bad_words(rt, &error),
     };
     let manner = Manner::of(terminals, options.command.is_none(), options.is_text);
     if let Some(Command::Help(word)) = &options.command {
@@ -63,12 +63,12 @@ pub fn obey_words<
 }
 
 /// Says that the words can't be read. The status.
-pub fn tell_failed(rt: &impl Eprint, error: &io::Error) -> u8 {
+pub fn report_failed(rt: &impl Eprint, error: &io::Error) -> u8 {
     let _ = eprintln!(rt; "kv: {error}");
     FAILED
 }
 
-fn tell_bad_words(rt: &impl Eprint, error: &Error) -> u8 {
+fn report_bad_words(rt: &impl Eprint, error: &Error) -> u8 {
     let _ = eprintln!(rt; "kv: {error}");
     BAD_WORDS
 }
@@ -87,7 +87,7 @@ fn refuse_words(rt: &(impl Print + Eprint), error: &clap::Error) -> u8 {
 fn explain(rt: &(impl Print + Eprint), alloc: Global, manner: Manner, word: Option<Word>) -> u8 {
     match print_help(rt, alloc, manner, word) {
         Ok(()) => DONE,
-        Err(error) => tell_failed(rt, &error),
+        Err(error) => report_failed(rt, &error),
     }
 }
 

@@ -314,7 +314,7 @@ fn sixteen_stamps_stay_readable(rt: HostRuntime) -> Result<(), Fail> {
 }
 
 // One thread publishes a commit and hands its token to another, which learns it and reads the commit. Then the board ends.
-fn told_across<J: Naming + Send + Sync, R: Threads + Wait + Sync>(
+fn read_across<J: Naming + Send + Sync, R: Threads + Wait + Sync>(
     rt: &R,
     alloc: Global,
     history: History,
@@ -325,7 +325,7 @@ fn told_across<J: Naming + Send + Sync, R: Threads + Wait + Sync>(
     let desk = Mutex::new(None);
     let (board, (mut reader, answer)) = join(
         rt,
-        || tell(rt, alloc, board, &desk),
+        || post(rt, alloc, board, &desk),
         || learn(rt, reader, &desk),
     );
     drop(board);
@@ -345,7 +345,7 @@ fn published<J: Naming, R: Wait + Drop>(
 }
 
 // Publishes a commit, and lays a token on the desk.
-fn tell<J: Naming, R: Wait + Drop>(
+fn post<J: Naming, R: Wait + Drop>(
     rt: &impl Wait,
     alloc: Global,
     board: Board<J, R>,
@@ -377,7 +377,7 @@ fn learn<J: Naming>(rt: &impl Wait, reader: Reader<J>, desk: &Desk<J>) -> (Reade
 
 #[test]
 fn another_thread_reads_a_told_commit(rt: HostRuntime) -> Result<(), Fail> {
-    let (answer, ended) = told_across::<Brand, _>(&rt, rt.alloc(), History::new())?;
+    let (answer, ended) = read_across::<Brand, _>(&rt, rt.alloc(), History::new())?;
     let row = Row::new(&[9])?;
     assert_eq!(rt; answer, Ok(Some(row)));
     assert_eq!(rt; ended, Err(Fault::Shut));

@@ -1,4 +1,4 @@
-//! Each call of a store, two threads in conflict, and each error that a store over a working file tells.
+//! Each call of a store, two threads in conflict, and each error that a store over a working file reports.
 #![tactic(auto)]
 
 mod calls;

@@ -23,30 +23,33 @@ pub fn refuse_each<
 >(rt: &R) -> Result<(), Error> {
     let alloc = rt.alloc();
     let geometry = Geometry::new(4, 2, 64)?;
-    tell(rt, Store::open(*rt, alloc, "none/x.img", geometry))?;
+    print_opened(rt, Store::open(*rt, alloc, "none/x.img", geometry))?;
     fs::write(rt, "text.img", b"no image")?;
-    tell(rt, Store::open(*rt, alloc, "text.img", geometry))?;
+    print_opened(rt, Store::open(*rt, alloc, "text.img", geometry))?;
     let store = Store::open(*rt, alloc, "small.img", geometry)?;
-    tell(rt, Store::open(*rt, alloc, "small.img", geometry))?;
+    print_opened(rt, Store::open(*rt, alloc, "small.img", geometry))?;
     fill(rt, &store)?;
     store.close()?;
-    tell(
+    print_opened(
         rt,
         Store::open(*rt, alloc, "small.img", Geometry::wide(8, 2, 64)?),
     )?;
 
     write(rt, alloc, "place.img", image(alloc, 0, 1)?)?;
-    tell(rt, Store::open(*rt, alloc, "place.img", geometry))?;
+    print_opened(rt, Store::open(*rt, alloc, "place.img", geometry))?;
     let mut words = image(alloc, 1, 1)?;
     set_begin(&mut words, 2, 1);
     write(rt, alloc, "slot.img", words)?;
-    tell(rt, Store::open(*rt, alloc, "slot.img", geometry))?;
+    print_opened(rt, Store::open(*rt, alloc, "slot.img", geometry))?;
     write(rt, alloc, "numbers.img", image(alloc, 1, (1 << 62) - 1)?)?;
-    tell(rt, Store::open(*rt, alloc, "numbers.img", geometry))
+    print_opened(rt, Store::open(*rt, alloc, "numbers.img", geometry))
 }
 
 // What is said of a store that isn't opened.
-fn tell<R: Wait + Drop + Print>(rt: &R, opened: Result<Store<R>, StoreError>) -> Result<(), Error> {
+fn print_opened<R: Wait + Drop + Print>(
+    rt: &R,
+    opened: Result<Store<R>, StoreError>,
+) -> Result<(), Error> {
     match opened {
         Ok(store) => {
             println!(rt; "{} is open", store.name())?;

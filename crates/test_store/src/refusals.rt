@@ -10,9 +10,9 @@ pub fn meet_each<R: Print + AllocGlobal + Wait + Drop>(
     store: &Store<R>,
 ) -> Result<(), Error> {
     let mut t = store.begin()?;
-    tell(rt, t.put(key(4, 0), Row::of_text(LONG)?))?;
+    print_refused(rt, t.put(key(4, 0), Row::of_text(LONG)?))?;
     for number in 1..=33 {
-        tell(rt, t.put(key(4, number), Row::of_u64(number)))?;
+        print_refused(rt, t.put(key(4, number), Row::of_u64(number)))?;
     }
     t.commit()?;
     println!(rt; "{} of 33 kept", store.read()?.count(4, ..)?)?;
@@ -32,7 +32,7 @@ pub fn meet_each<R: Print + AllocGlobal + Wait + Drop>(
     open_many(rt, store)
 }
 
-fn tell(rt: &impl Print, step: Result<(), StoreError>) -> Result<(), Error> {
+fn print_refused(rt: &impl Print, step: Result<(), StoreError>) -> Result<(), Error> {
     if let Err(error) = step {
         println!(rt; "refused: {error}")?;
     }
