@@ -1,5 +1,5 @@
 //! The one history of what a board's changes were. It exists in proofs alone; what is kept is its length.
-ghost use Rattle.std.specs.Prelude.{◌≡◌, ◌+◌, ◌<◌, ◌^◌, ◌++◌, ◌∷◌, [], length, IfSome, IsTrue, MatchBool};
+ghost use Rattle.std.specs.Prelude.{◌≡◌, ◌+◌, ◌<◌, ◌^◌, ◌++◌, ◌∷◌, [], length, IfSome, IsFalse, IsTrue, MatchBool};
 ghost use Rattle.std.specs.Bool.{OnTrue};
 ghost use mathlib.Core.List.{IsPrefix};
 ghost use Rattle.board.specs.Changes.{list_of};
@@ -163,6 +163,7 @@ impl<J: Naming> Front<J> {
     /// Whether the other one begins with it. If not, it is the longer one, and begins with the other.
     pub(crate) fn begins(&self, other: &Front<J>) -> bool
         ensures prefix { MatchBool result (IsPrefix self.now other.now) (IsPrefix other.now self.now) }
+        ensures longer { IsFalse result → length other.now < length self.now }
         ensures lists { MatchBool result (Begins (list_of self.now) (list_of other.now)) (Begins (list_of other.now) (list_of self.now)) }
     {
         let mut both = self.seen.again();
