@@ -66,37 +66,6 @@ left-next lines before now after at line lt is left unmarks same = record {
   size = same ∙ left.size;
 }
 
-pub left-all : (lines : List ℕ) (before now : List Mark) → Left lines before now (length lines) → Unmarks lines before now
-left-all lines before now left = record {
-  marked = λ other marked. let l = left.each other marked in (l.0, l.1 ∙ ap (λ (ns : List ℕ). is_listed ns other) (drop-all lines));
-  plain = left.plain;
-}
-  where
-    drop-all : (ns : List ℕ) → drop (length ns) ns ≡ []
-    drop-all [] = refl
-    drop-all (n ∷ ns) = drop-all ns
-
--- one line isn't marked any more
-pub unmarks-one : (marks : List Mark) (line : ℕ) → line < length marks → Unmarks (line ∷ []) marks (set marks line Unchanged)
-unmarks-one marks line lt = record {
-  marked = λ other is. marked_by other is (nat_eq other line) refl;
-  plain = λ other is. plain_by other is (nat_eq other line) refl;
-}
-  where
-    here : (other : ℕ) → nat_eq other line ≡ true → get_or (set marks line Unchanged) other Unchanged ≡ Unchanged
-    here other it = let same : line ≡ other = grind (arith, nat_tests) in subst (λ (n : ℕ). get_or (set marks line Unchanged) n Unchanged ≡ Unchanged) same (get_or-set_same marks line Unchanged Unchanged lt)
-
-    apart : (other : ℕ) → nat_eq other line ≡ false → get_or (set marks line Unchanged) other Unchanged ≡ get_or marks other Unchanged
-    apart other it = let differs : other ≢ line = grind (arith, nat_tests) in get_or-set_other marks line other Unchanged Unchanged differs
-
-    marked_by : (other : ℕ) → is_marked (set marks line Unchanged) other ≡ true → (b : Bool) → nat_eq other line ≡ b → (is_marked marks other ≡ true) × (is_listed (line ∷ []) other ≡ false)
-    marked_by other is true it = absurd (true≢false (sym is ∙ ap is_change (here other it)))
-    marked_by other is false it = let no : (line == other) ≡ false = grind (arith, nat_tests) in (ap is_change (sym (apart other it)) ∙ is, ap (λ (b : Bool). b || false) no)
-
-    plain_by : (other : ℕ) → is_plain (set marks line Unchanged) other ≡ true → (b : Bool) → nat_eq other line ≡ b → is_plain marks other ≡ true
-    plain_by other is true it = absurd (true≢false (sym is ∙ ap is_plain_change (here other it)))
-    plain_by other is false it = ap is_plain_change (sym (apart other it)) ∙ is
-
 -- no mark is left where each was listed
 pub none-left : (places : ℕ) (lines : List ℕ) (old new : List Mark) → AreMarked places lines old → Unmarks lines old new → AreMarked places [] new
 none-left places lines old new are unmarks = record {
