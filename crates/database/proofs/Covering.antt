@@ -4,9 +4,10 @@ use Rattle.std.specs.Prelude.{⊤, replicate, Result, Ok, Err, IsTrue, is_some}
 use Rattle.std.proofs.lemmas.List.{replicate_more}
 use Rattle.base.specs.declared.fault.Fault.{Fault}
 use Rattle.base.specs.declared.step.Step.{Step}
-use Rattle.base.specs.declared.step.Step.TheVariants.{Draw, Poll, End}
+use Rattle.base.specs.declared.step.Step.TheVariants.{Draw, Stamp, Poll, End}
 use Rattle.base.specs.declared.step.Reply.{Reply}
-use Rattle.base.specs.declared.step.Reply.TheVariants.{Committed, Waiting, Done, Drawn as DrewAs}
+use Rattle.base.specs.declared.step.Reply.TheVariants.{Committed, Waiting, Done, More, Drawn as DrewAs}
+use Rattle.base.specs.declared.step.Reply.TheVariants as reply
 use Rattle.base.specs.Commits.{Writes}
 use Rattle.base.specs.Lists.{is_nil}
 use Rattle.base.specs.Stands.{has_timestamp}
@@ -16,9 +17,9 @@ use Rattle.pmem.specs.declared.device.Pmem.{Ghosts}
 use Rattle.room.specs.declared.room.Room.{Room}
 use Rattle.room.specs.Room.{Shows, RunsTo, Leads}
 use Rattle.room.proofs.Runs.{run-none, run-then}
-use Rattle.database.specs.Replies.{committed_of, drawn_of}
+use Rattle.database.specs.Replies.{committed_of, drawn_of, stamped_of}
 use Rattle.database.specs.declared.opened.OpenedRoom.{OpenedRoom}
-use Rattle.database.specs.Obeys.{Obeys, InRoom, Repeats, RepeatsTimes, StampsAll, Covers, DrawsNothing}
+use Rattle.database.specs.Obeys.{Obeys, InRoom, Repeats, RepeatsTimes, RepeatsAnswered, StampsAll, Covers, DrawsNothing}
 
 -- ---- one step after another
 
@@ -46,9 +47,46 @@ repeats-then state old mid new step reply repeats leads = (
       ),
 )
 
-pub repeats-more : {D A : Type 0} → {G : Ghosts D} → (state : D → Device) (old mid new : Room D G) (step : Step) (read : Reply → Result A Fault) (result : Result A Fault)
-    → Repeats state old mid step → Obeys state mid new step read result → Repeats state old new step
-repeats-more state old mid new step read result repeats obeys = repeats-then state old mid new step obeys.0 repeats obeys.1
+-- each answered so
+pub answered-none : {D : Type 0} → {G : Ghosts D} → (state : D → Device) (room : Room D G) (step : Step) (answer : Reply) → IsOrderly (state room.device) → RepeatsAnswered state room room step answer
+answered-none state room step answer orderly = (0, λ q shows. ([], run-none state room q orderly shows))
+
+answered-then : {D : Type 0} → {G : Ghosts D} → (state : D → Device) (old mid new : Room D G) (step : Step) (answer : Reply)
+    → RepeatsAnswered state old mid step answer → Leads state mid new step answer → RepeatsAnswered state old new step answer
+answered-then state old mid new step answer repeats leads = (
+  repeats.0 + 1,
+  λ q shows.
+      let runs = repeats.1 q shows in
+      let one = leads (final q runs.0) runs.1.shows in (
+        runs.0 ++ one.0 ∷ [],
+        subst (λ (replies : List Reply). RunsTo state old new (replicate (repeats.0 + 1) step) replies q (runs.0 ++ one.0 ∷ [])) (replicate_more repeats.0 answer)
+            (subst (λ (steps : List Step). RunsTo state old new steps (replicate repeats.0 answer ++ answer ∷ []) q (runs.0 ++ one.0 ∷ [])) (replicate_more repeats.0 step)
+            (run-then state old mid new (replicate repeats.0 step) (replicate repeats.0 answer) step answer q runs.0 one.0 runs.1 one.1)),
+      ),
+)
+
+-- a stamp leaves more keys only where its reply is that
+is_more : (answer : Reply) → Ok false ≡ stamped_of answer → answer ≡ More
+is_more reply.More e = refl
+is_more reply.Stamped e = absurd (cc e)
+is_more reply.Done e = absurd (cc e)
+is_more reply.Waiting e = absurd (cc e)
+is_more reply.Idle e = absurd (cc e)
+is_more reply.SweepEnd e = absurd (cc e)
+is_more (reply.Began n) e = absurd (cc e)
+is_more (reply.Row row) e = absurd (cc e)
+is_more (reply.Rows rows) e = absurd (cc e)
+is_more (reply.Drawn t) e = absurd (cc e)
+is_more (reply.Committed t) e = absurd (cc e)
+is_more (reply.Ticked stage) e = absurd (cc e)
+is_more (reply.Covered batch) e = absurd (cc e)
+is_more (reply.Visited slot) e = absurd (cc e)
+is_more (reply.Refused fault) e = absurd (cc e)
+
+pub stamps-more : {D : Type 0} → {G : Ghosts D} → (state : D → Device) (old mid new : Room D G) (n : ℕ)
+    → RepeatsAnswered state old mid (Stamp n) More → Obeys state mid new (Stamp n) stamped_of (Ok false) → RepeatsAnswered state old new (Stamp n) More
+stamps-more state old mid new n repeats one =
+    answered-then state old mid new (Stamp n) More repeats (subst (λ (answer : Reply). Leads state mid new (Stamp n) answer) (is_more one.0 one.2) one.1)
 
 -- just so many times
 pub times-none : {D : Type 0} → {G : Ghosts D} → (state : D → Device) (room : Room D G) (step : Step) → IsOrderly (state room.device) → RepeatsTimes state room room step 0

@@ -114,19 +114,19 @@ pub finish-waits : {D : Type 0} {G : Ghosts D} {ended : Option Fault} (state : D
 finish-waits state old new session run polls = answers-step state old new (Poll session) committed_of (Ok None) run polls.0
 
 -- and it is waited for no longer
-pub stops-after : {D : Type 0} {G : Ghosts D} {ended : Option Fault} (state : D → Device) (old new : Room D G) (session : ℕ) (error : CommitError) → ∥ HasRun state old ended ∥₁
-    → Finishes state old new session (Ok None) → IsGivenUp ended error → GivesUp session error
-stops-after {D} {G} {ended} state old new session error run polls gives = ∣ inl (stops error gives) ∣₁
+pub stops-after : {D : Type 0} {G : Ghosts D} {ended : Option Fault} (state : D → Device) (old new : Room D G) (session refusals : ℕ) (error : CommitError) → ∥ HasRun state old ended ∥₁
+    → Finishes state old new session (Ok None) → IsGivenUp ended refusals error → GivesUp session error
+stops-after {D} {G} {ended} state old new session refusals error run polls gives = ∣ inl (stops error gives) ∣₁
   where
     in-vain : (fault : Fault) → ended ≡ Some fault → WaitsInVain session fault
     in-vain fault is =
         ends-once-ended state old new fault (Poll session ∷ []) (polls.0.0 ∷ []) (IsStep (Poll session) committed_of (Ok None)) (subst (λ (e : Option Fault). ∥ HasRun state old e ∥₁) is run)
         (leads-one state old new (Poll session) polls.0.0 polls.0.1) (polls.0.0, refl, refl, polls.0.2)
 
-    stops : (error : CommitError) → IsGivenUp ended error → StopsAfter session error
+    stops : (error : CommitError) → IsGivenUp ended refusals error → StopsAfter session error
     stops (Refused fault) (out, is) = (out, in-vain fault is)
     stops (Open fault) (inl (other, is)) = inl (other, in-vain fault is)
-    stops (Open fault) (inr (memory, lacks)) = inr (memory, lacks, finish-waits state old new session run polls)
+    stops (Open fault) (inr (memory, going, often, lacks)) = inr (memory, lacks, finish-waits state old new session run polls)
 
 -- what is kept of a commit says what became of it
 pub answered-so : (session : ℕ) (result : Result ℕ CommitError) → ForOk result (IsAcknowledged session) → ForErr result (GivesUp session) → IsAnswered session result
@@ -185,8 +185,3 @@ tells-refusal session (Refused fault) (inl (inl (prepared, other), back, late)) 
 tells-refusal session (Refused fault) (inl (inr (inl (out, ended)), back, late)) key e = absurd (cc (sym out, e))
 tells-refusal session (Refused fault) (inl (inr (inr (memory, lacks, full)), back, late)) key e = absurd (cc (sym memory, e))
 tells-refusal session (Refused fault) (inr (t, prepared, gives)) key e = let is : fault ≡ Conflict key = cc e in absurd (∥∥₁_elim gives ⊥_prop (λ why. not-given-up session fault key is why))
-
--- a commit that is waited for doesn't meet one
-pub no-conflict-waited : (session : ℕ) (error : CommitError) (key : Key) → GivesUp session error → error ≡ Refused (Conflict key) → ⊥
-no-conflict-waited session (Open fault) key gives e = absurd (cc e)
-no-conflict-waited session (Refused fault) key gives e = let is : fault ≡ Conflict key = cc e in ∥∥₁_elim gives ⊥_prop (λ why. not-given-up session fault key is why)

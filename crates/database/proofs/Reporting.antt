@@ -8,6 +8,7 @@ use Rattle.base.specs.declared.key.Key.{Key}
 use Rattle.base.specs.declared.step.Step.{Step}
 use Rattle.base.specs.declared.step.Step.TheVariants.{Begin, Put, Delete, Draw, Stamp, Poll, Abort, End, Collect}
 use Rattle.base.specs.declared.step.Reply.{Reply}
+use Rattle.base.specs.declared.step.Reply.TheVariants.{More}
 use Rattle.pmem.specs.Device.{Device}
 use Rattle.pmem.specs.declared.device.Pmem.{Ghosts}
 use Rattle.room.specs.declared.room.Room.{Room}
@@ -42,8 +43,8 @@ leads_two state old mid new step read result last tells told one end =
 -- the room makes it
 put-along : {D : Type 0} {G : Ghosts D} (state : D → Device) (old new : Room D G) (session : ℕ) (key : Key) (row : List ℕ) (result : Result ⊤ Fault)
     → PutsCollecting state old new session key row result → (steps : List Step) × (replies : List Reply) × LeadsAlong state old new steps replies × IsPut session key row result steps replies
-put-along state old new session key row result (inl one) =
-    (Put session key row ∷ [], one.0 ∷ [], leads-one state old new (Put session key row) one.0 one.1, inl (one.0, refl, refl, one.2))
+put-along state old new session key row result (inl (one, other)) =
+    (Put session key row ∷ [], one.0 ∷ [], leads-one state old new (Put session key row) one.0 one.1, inl ((one.0, refl, refl, one.2), other))
 put-along state old new session key row result (inr (refused, collected, first, (count, all, visits), last)) = (
   Put session key row ∷ (replicate count Collect ++ Put session key row ∷ []),
   first.0 ∷ (visits.0 ++ last.0 ∷ []),
@@ -139,8 +140,8 @@ stamped_so : {D : Type 0} {G : Ghosts D} {ended : Option Fault} (state : D → D
     → ((steps : List Step) (replies : List Reply) → DrawsAndStamps session t result steps replies → Fact steps replies)
     → ∥ HasRun state old ended ∥₁ → (drawn : Room D G) → Obeys state old drawn (Draw session) drawn_of (Ok (Some t)) → StampsAll state drawn new session result → EndsSomeRun Fact
 stamped_so state old new session t result Fact so run drawn draws (mid, stamps, last) =
-    ends-run state old new _ _ Fact run (leads_through state old drawn mid new (Draw session) drawn_of _ (Stamp session) (Stamp session) stamped_of _ draws stamps last)
-    (so _ _ (record { count = stamps.0; drawn = draws.0; stamps = stamps.1; last = last.0; steps_are = refl; replies_are = refl; drew = draws.2; result_is = last.2 }))
+    ends-run state old new _ _ Fact run (leads_through state old drawn mid new (Draw session) drawn_of _ (Stamp session) (Stamp session) stamped_of _ draws (stamps.0, replicate stamps.0 More, stamps.1) last)
+    (so _ _ (record { count = stamps.0; drawn = draws.0; last = last.0; steps_are = refl; replies_are = refl; drew = draws.2; result_is = last.2 }))
 
 ended_so : {D : Type 0} {G : Ghosts D} {ended : Option Fault} (state : D → Device) (old new : Room D G) (session : ℕ) (result : Result ⊤ Fault) (Fact : List Step → List Reply → Type 0)
     → ((steps : List Step) (replies : List Reply) → DrawsAndEnds session result steps replies → Fact steps replies)

@@ -1,12 +1,12 @@
 -- What a put and a commit make of a run.
-use Rattle.std.specs.Prelude.{◌≡◌, ◌≢◌, ◌⊎◌, ◌≤◌, ◌+◌, ◌-◌, ◌^◌, min, ℕ, List, [], ◌∷◌, ◌++◌, replicate, ⊤, Option, Some, None, Result, Ok, Err, MatchResult}
+use Rattle.std.specs.Prelude.{◌≡◌, ◌≢◌, ◌⊎◌, ◌<◌, ◌≤◌, ◌+◌, ◌-◌, ◌^◌, min, ℕ, List, [], ◌∷◌, ◌++◌, replicate, ⊤, Option, Some, None, Result, Ok, Err, MatchResult}
 use Rattle.base.specs.declared.fault.Fault.{Fault}
 use Rattle.base.specs.declared.fault.Fault.TheVariants.{SlotsOut, Conflict, WindowFull, OutOfMemory, TimestampsOut}
 use Rattle.base.specs.declared.key.Key.{Key}
 use Rattle.base.specs.declared.step.Step.{Step}
 use Rattle.base.specs.declared.step.Step.TheVariants.{Begin, Put, Delete, Draw, Stamp, Poll, Abort, End, Commit as CommitTick, Collect}
 use Rattle.base.specs.declared.step.Reply.{Reply}
-use Rattle.base.specs.declared.step.Reply.TheVariants.{Refused as RefusedWith}
+use Rattle.base.specs.declared.step.Reply.TheVariants.{More, Refused as RefusedWith}
 use Rattle.database.specs.declared.error.CommitError.{CommitError}
 use Rattle.database.specs.declared.error.CommitError.TheVariants.{Refused, Open}
 use Rattle.database.specs.Replies.{began_of, done_of, drawn_of, stamped_of, committed_of}
@@ -15,7 +15,8 @@ use Rattle.pmem.specs.declared.device.Pmem.{Ghosts}
 use Rattle.room.specs.declared.room.Room.{Room}
 use Rattle.database.specs.Runs.{LeadsAlong, EndsSomeRun, EndsOnceEnded, HasEnded}
 use Rattle.database.specs.Numbers.{LeadsTo, ComesTo}
-use Rattle.database.specs.Obeys.{IsStep, AnswersStep, all_stamped}
+use Rattle.database.specs.declared.opened.OpenedRoom.{OpenedRoom}
+use Rattle.database.specs.Obeys.{IsStep, AnswersStep, InRoom, Finishes, ended_of, all_stamped}
 
 -- ---- a put
 
@@ -30,9 +31,9 @@ pub record PutsAgain (session : ℕ) (key : Key) (row : List ℕ) (result : Resu
   pub found_none : Err SlotsOut ≡ done_of first
   pub result_is : result ≡ done_of last
 
--- that, or a put alone
+-- that, or a put alone, which didn't want for a slot
 abbrev pub IsPut : ℕ → Key → List ℕ → Result ⊤ Fault → List Step → List Reply → Type 0
-IsPut session key row result steps replies = IsStep (Put session key row) done_of result steps replies ⊎ PutsAgain session key row result steps replies
+IsPut session key row result steps replies = (IsStep (Put session key row) done_of result steps replies × (result ≢ Err SlotsOut)) ⊎ PutsAgain session key row result steps replies
 
 -- such a put ends a run from an opening
 abbrev pub AnswersPut : ℕ → Key → List ℕ → Result ⊤ Fault → Type 0
@@ -65,14 +66,13 @@ LeadsByWrites state old new session writes result =
 
 -- ---- a commit
 
--- the session drew this timestamp and stamped, and the last stamp reported that all keys are stamped, or was refused
+-- the session drew this timestamp and stamped as long as that left more keys, and the last stamp reported that all keys are stamped, or was refused
 pub record DrawsAndStamps (session t : ℕ) (result : Result ⊤ Fault) (steps : List Step) (replies : List Reply) : Type 0 where
   pub count : ℕ
   pub drawn : Reply
-  pub stamps : List Reply
   pub last : Reply
   pub steps_are : steps ≡ Draw session ∷ (replicate count (Stamp session) ++ Stamp session ∷ [])
-  pub replies_are : replies ≡ drawn ∷ (stamps ++ last ∷ [])
+  pub replies_are : replies ≡ drawn ∷ (replicate count More ++ last ∷ [])
   pub drew : Ok (Some t) ≡ drawn_of drawn
   pub result_is : all_stamped result ≡ stamped_of last
 
@@ -137,24 +137,33 @@ abbrev pub StopsAfter : ℕ → CommitError → Type 0
 StopsAfter session (Refused fault) = (fault ≡ TimestampsOut) × WaitsInVain session fault
 StopsAfter session (Open fault) = ((fault ≢ TimestampsOut) × WaitsInVain session fault) ⊎ ((fault ≡ OutOfMemory) × HasLackedMemory × AnswersStep (Poll session) committed_of (Ok None))
 
--- so a commit that isn't covered is waited for no longer, where the committer has ended so, if it has
-abbrev pub IsGivenUp : Option Fault → CommitError → Type 0
-IsGivenUp ended (Refused fault) = (fault ≡ TimestampsOut) × (ended ≡ Some fault)
-IsGivenUp ended (Open fault) = ((fault ≢ TimestampsOut) × (ended ≡ Some fault)) ⊎ ((fault ≡ OutOfMemory) × HasLackedMemory)
-
 -- how often in a row the committer may be refused memory while somebody waits for it
 abbrev pub most_refusals : ℕ
 most_refusals = 100
+
+-- So a commit that isn't covered is waited for no longer: the committer has ended with this fault, or it hasn't, and was refused memory more often than that
+abbrev pub IsGivenUp : Option Fault → ℕ → CommitError → Type 0
+IsGivenUp ended refusals (Refused fault) = (fault ≡ TimestampsOut) × (ended ≡ Some fault)
+IsGivenUp ended refusals (Open fault) =
+    ((fault ≢ TimestampsOut) × (ended ≡ Some fault)) ⊎ ((fault ≡ OutOfMemory) × (ended ≡ None) × (most_refusals < refusals) × HasLackedMemory)
 
 -- A commit is waited for still: its own poll reported that it isn't covered, the committer hasn't ended, and wasn't refused memory too often
 abbrev pub IsLeftWaiting : ℕ → Option Fault → ℕ → Type 0
 IsLeftWaiting session ended refusals = AnswersStep (Poll session) committed_of (Ok None) × (ended ≡ None) × (refusals ≤ most_refusals)
 
--- the timestamp that was reported is the answer, or the refusal, which leaves the commit open; where it isn't covered it is given up, or there is none
-abbrev pub IsReadOff : Result (Option ℕ) Fault → Option (Result ℕ CommitError) → Type 0
-IsReadOff (Ok (Some t)) answer = answer ≡ Some (Ok t)
-IsReadOff (Ok None) answer = (t : ℕ) → answer ≢ Some (Ok t)
-IsReadOff (Err fault) answer = answer ≡ Some (Err (Open fault))
+-- The timestamp that was reported is the answer, or the refusal, which leaves the commit open. Where it isn't covered the answer is why it is given up,
+-- and there is none where the committer hasn't ended and wasn't refused memory too often
+abbrev pub IsReadOff : Option Fault → ℕ → Result (Option ℕ) Fault → Option (Result ℕ CommitError) → Type 0
+IsReadOff ended refusals (Ok (Some t)) answer = answer ≡ Some (Ok t)
+IsReadOff ended refusals (Ok None) (Some (Ok t)) = ⊥
+IsReadOff ended refusals (Ok None) (Some (Err error)) = IsGivenUp ended refusals error
+IsReadOff ended refusals (Ok None) None = (ended ≡ None) × (refusals ≤ most_refusals)
+IsReadOff ended refusals (Err fault) answer = answer ≡ Some (Err (Open fault))
+
+-- the room that is there makes the session's finish, once, and its answer is read off that
+abbrev pub AnswersOnce : {D : Type 0} → {G : Ghosts D} → (D → Device) → Option (OpenedRoom D G) → Option (OpenedRoom D G) → ℕ → ℕ → Option (Result ℕ CommitError) → Type 0
+AnswersOnce state old new refusals session answer =
+    (reported : Result (Option ℕ) Fault) × InRoom (λ before after. Finishes state before after session reported) old new × IsReadOff (ended_of new) refusals reported answer
 
 -- how many transactions are open once one was begun, or not
 abbrev pub open_after : {A : Type 0} → ℕ → Result A Fault → ℕ
@@ -189,6 +198,12 @@ AnswersTo t answer result = MatchResult result (λ done. answer ≡ Ok t) (λ er
 -- it returns another timestamp
 abbrev pub AnswersAnother : ℕ → Result ℕ CommitError → Type 0
 AnswersAnother t answer = (reported : ℕ) × (answer ≡ Ok reported) × (reported ≢ t)
+
+-- so it is of the session's answer, if it has one: it says this of that commit, or it returns another timestamp
+abbrev pub IsReadFor : ℕ → Option (Result ℕ CommitError) → Option (Result ⊤ CommitError) → Type 0
+IsReadFor t None result = result ≡ None
+IsReadFor t (Some answer) (Some result) = AnswersTo t answer result
+IsReadFor t (Some answer) None = AnswersAnother t answer
 
 -- why one isn't drawn and stamped: its steps gave this reason, though no full window, which is waited for; or it stopped before them
 abbrev pub ReportsUnprepared : ℕ → CommitError → Type 0

@@ -1,10 +1,11 @@
 -- What a call makes of a room.
-use Rattle.std.specs.Prelude.{◌≡◌, ◌⊎◌, ℕ, ◌+◌, Bool, true, List, [], ◌∷◌, replicate, ⊤, Option, Some, None, Result, Ok, Err}
+use Rattle.std.specs.Prelude.{◌≡◌, ◌≢◌, ◌⊎◌, ℕ, ◌+◌, Bool, true, List, [], ◌∷◌, replicate, ⊤, Option, Some, None, Result, Ok, Err}
 use Rattle.base.specs.declared.fault.Fault.{Fault}
 use Rattle.base.specs.declared.fault.Fault.TheVariants.{SlotsOut}
 use Rattle.base.specs.declared.step.Step.{Step}
 use Rattle.base.specs.declared.step.Step.TheVariants.{Put, Delete, Draw, Stamp, Poll, End, Collect}
 use Rattle.base.specs.declared.step.Reply.{Reply}
+use Rattle.base.specs.declared.step.Reply.TheVariants.{More}
 use Rattle.base.specs.declared.key.Key.{Key}
 use Rattle.machine.specs.Machine.{State}
 use Rattle.base.specs.Stands.{has_timestamp}
@@ -55,10 +56,10 @@ RepeatsTimes state old new step count =
 abbrev pub CollectsAll : {D : Type 0} → {G : Ghosts D} → (D → Device) → Room D G → Room D G → Type 0
 CollectsAll state old new = (count : ℕ) × ((q : State) → Shows state old q → count ≡ q.layout.slots + 1) × RepeatsTimes state old new Collect count
 
--- The put is made; or it found no slot, the collector visited all its places, and the put is made after that
+-- The put is made, and doesn't want for a slot; or it found none, the collector visited all its places, and the put is made after that
 abbrev pub PutsCollecting : {D : Type 0} → {G : Ghosts D} → (D → Device) → Room D G → Room D G → ℕ → Key → List ℕ → Result ⊤ Fault → Type 0
 PutsCollecting {D} {G} state old new session key row result =
-    Obeys state old new (Put session key row) done_of result
+    (Obeys state old new (Put session key row) done_of result × (result ≢ Err SlotsOut))
     ⊎ ((refused collected : Room D G) × Obeys state old refused (Put session key row) done_of (Err SlotsOut) × CollectsAll state refused collected × Obeys state collected new (Put session key row) done_of result)
 
 -- the row is put so, or what is under the key is deleted
@@ -73,10 +74,15 @@ abbrev pub all_stamped : Result ⊤ Fault → Result Bool Fault
 all_stamped (Ok done) = Ok true
 all_stamped (Err fault) = Err fault
 
--- The session stamps, and the last stamp reports that all keys are stamped, or why it was refused
+-- the room makes this step some times, and each time it is answered so
+abbrev pub RepeatsAnswered : {D : Type 0} → {G : Ghosts D} → (D → Device) → Room D G → Room D G → Step → Reply → Type 0
+RepeatsAnswered state old new step reply =
+    (count : ℕ) × ((q : State) → Shows state old q → (states : List State) × RunsTo state old new (replicate count step) (replicate count reply) q states)
+
+-- The session stamps as long as that leaves more keys, and the last stamp reports that all keys are stamped, or why it was refused
 abbrev pub StampsAll : {D : Type 0} → {G : Ghosts D} → (D → Device) → Room D G → Room D G → ℕ → Result ⊤ Fault → Type 0
 StampsAll {D} {G} state old new session result =
-    (mid : Room D G) × Repeats state old mid (Stamp session) × Obeys state mid new (Stamp session) stamped_of (all_stamped result)
+    (mid : Room D G) × RepeatsAnswered state old mid (Stamp session) More × Obeys state mid new (Stamp session) stamped_of (all_stamped result)
 
 -- The session drew this timestamp, and then
 abbrev pub DrawsThen : {D : Type 0} → {G : Ghosts D} → (D → Device) → Room D G → ℕ → Option ℕ → (Room D G → Type 0) → Type 0

@@ -1,5 +1,7 @@
 -- What a turn of a worker leaves under the lock.
-use Rattle.std.specs.Prelude.{◌≡◌, ◌≢◌, ◌+◌, ◌-◌, ◌^◌, ℕ, min, Some}
+use Rattle.std.specs.Prelude.{◌≡◌, ◌≢◌, ◌+◌, ◌-◌, ◌^◌, ℕ, List, length, min, Some}
+use Rattle.std.specs.List.{sum_by}
+use Rattle.base.specs.Commits.{Commit}
 use Rattle.base.specs.declared.fault.Fault.{Fault}
 use Rattle.base.specs.declared.fault.Fault.TheVariants.{OutOfMemory}
 use Rattle.base.specs.declared.step.Step.TheVariants.{Commit as CommitTick}
@@ -30,16 +32,31 @@ refusals_after refusals (Refused OutOfMemory) = min (refusals + 1) (2 ^ 64 - 1)
 refusals_after refusals (Refused fault) = refusals
 refusals_after refusals _ = 0
 
+-- how many rows these commits have written or deleted
+abbrev pub rows_written : List Commit → ℕ
+rows_written commits = sum_by (λ commit. length commit.writes) commits
+
+-- how many were covered then, since the collector's last round
+abbrev pub covered_after : ℕ → Reply → ℕ
+covered_after covered (Covered batch) = min (covered + rows_written batch.commits) (2 ^ 64 - 1)
+covered_after covered _ = covered
+
+-- how many are after a turn of the collector, which ends a round or doesn't
+abbrev pub covered_since : ℕ → Turn → ℕ
+covered_since covered Finished = 0
+covered_since covered _ = covered
+
 -- the tick wasn't refused, or for want of memory, which passes
 abbrev pub GoesOn : Reply → Type 0
 GoesOn reply = (fault : Fault) → reply ≡ Refused fault → fault ≡ OutOfMemory
 
 -- The room makes one tick of the committer, and nothing else. Where it is refused, that is kept as the reason why the committer has ended, and
--- nothing else is ever taken for it; want of memory doesn't end the committer, and is counted. The turn comes to what the tick was answered
+-- nothing else is ever taken for it; want of memory doesn't end the committer, and is counted, as are the rows that it covered. The turn comes to what the tick was answered
 pub record TicksOnce {D : Type 0} {G : Ghosts D} (state : D → Device) (old new : Desk D G) (result : Turn) : Type 0 where
   pub reply : Reply
   pub ticks : InRoom (λ before after. Leads state before after CommitTick reply) old.room new.room
   pub ended : (fault : Fault) → reply ≡ Refused fault → fault ≢ OutOfMemory → ended_of new.room ≡ Some fault
   pub goes_on : GoesOn reply → ended_of new.room ≡ ended_of old.room
   pub counted : new.refusals ≡ refusals_after old.refusals reply
+  pub covered : new.covered ≡ covered_after old.covered reply
   pub turn : result ≡ turn_of reply

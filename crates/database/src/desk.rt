@@ -64,14 +64,15 @@ impl<D: Pmem + Drop> Desk<D> {
     ghost use Rattle.std.specs.Prelude.{◌≡◌, ◌⊎◌, ◌<◌, ◌≤◌, ◌-◌, ◌↔◌, ℕ, Option, None, Some, Result, IsTrue, is_some, IfSome, IfNone};
     ghost use Rattle.machine.specs.Machine.{State};
     ghost use Rattle.base.specs.declared.fault.Fault.{Fault};
+    ghost use Rattle.database.specs.declared.error.CommitError.{CommitError};
     ghost use Rattle.room.specs.Room.{Shows};
     ghost use Rattle.base.specs.declared.fault.Fault.TheVariants.{TimestampsOut};
     ghost use Rattle.base.specs.declared.step.Step.TheVariants.{Begin, Abort};
     ghost use Rattle.database.specs.Replies.{began_of, done_of};
     ghost use Rattle.std.specs.Option.{ForSome};
     ghost use Rattle.database.specs.Runs.{HasEnded};
-    ghost use Rattle.database.specs.Obeys.{Obeys, InRoom, AnswersStep, Finishes, ended_of};
-    ghost use Rattle.database.specs.Committing.{BeginsWith, AnswersBegunWith, IsAnswered, IsAnsweredAt, IsGivenUp, HasLackedMemory, IsLeftWaiting, IsWithoutAnswer, IsSettledUpTo, IsReadOff, most_refusals, open_after};
+    ghost use Rattle.database.specs.Obeys.{Obeys, InRoom, AnswersStep, ended_of};
+    ghost use Rattle.database.specs.Committing.{BeginsWith, AnswersBegunWith, IsAnswered, IsAnsweredAt, IsGivenUp, HasLackedMemory, IsLeftWaiting, IsWithoutAnswer, IsSettledUpTo, AnswersOnce, IsReadFor, most_refusals, open_after};
 
     /// Opens a transaction. The number of its session.
     pub fn begin(&mut self) -> Result<u8, Fault>
@@ -133,7 +134,7 @@ impl<D: Pmem + Drop> Desk<D> {
 
     /// The answer to the session's commit, once there is one.
     pub fn answer(&mut self, session: u8) -> Option<Result<Ts, CommitError>>
-        ensures finish { IsTrue (is_some self.old.room) → (told : Result (Option ℕ) Fault) × InRoom (λ old new. Finishes D.state old new session told) self.old.room self.new.room × IsReadOff told result }
+        ensures finish { IsTrue (is_some self.old.room) → AnswersOnce D.state self.old.room self.new.room self.new.refusals session result }
         ensures ended { ended_of self.new.room ≡ ended_of self.old.room }
         ensures some { IfSome result (IsAnswered session) }
         ensures none { IsTrue (is_some self.old.room) → IfNone result (IsLeftWaiting session (ended_of self.new.room) self.new.refusals) }
@@ -153,7 +154,7 @@ impl<D: Pmem + Drop> Desk<D> {
 
     /// The answer to the session's commit with this timestamp, once there is one.
     pub fn answer_to(&mut self, session: u8, timestamp: Ts) -> Option<Result<(), CommitError>>
-        ensures finish { IsTrue (is_some self.old.room) → (told : Result (Option ℕ) Fault) × InRoom (λ old new. Finishes D.state old new session told) self.old.room self.new.room }
+        ensures finish { IsTrue (is_some self.old.room) → (answer : Option (Result ℕ CommitError)) × AnswersOnce D.state self.old.room self.new.room self.new.refusals session answer × IsReadFor timestamp answer result }
         ensures ended { ended_of self.new.room ≡ ended_of self.old.room }
         ensures some { IfSome result (IsAnsweredAt session timestamp) }
         ensures none { IsTrue (is_some self.old.room) → IfNone result (IsWithoutAnswer session timestamp (ended_of self.new.room) self.new.refusals) }
@@ -177,7 +178,7 @@ impl<D: Pmem + Drop> Desk<D> {
 
     // Why a commit that isn't covered is waited for no longer.
     fn given_up(&self) -> Option<CommitError>
-        ensures some { IfSome result (IsGivenUp (ended_of self.now.room)) }
+        ensures some { IfSome result (IsGivenUp (ended_of self.now.room) self.now.refusals) }
         ensures none { IfNone result ((ended_of self.now.room ≡ None) × (self.now.refusals ≤ most_refusals)) }
     {
         match self.ended() {

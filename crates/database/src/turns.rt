@@ -1,8 +1,8 @@
-ghost use Rattle.std.specs.Prelude.{◌≡◌, IsTrue, is_some};
+ghost use Rattle.std.specs.Prelude.{◌≡◌, ◌-◌, ◌^◌, min, IsTrue, is_some};
 ghost use Rattle.base.specs.declared.step.Step.TheVariants.{Collect};
 ghost use Rattle.database.specs.declared.turns.Turn.TheVariants.{Stopped};
 ghost use Rattle.database.specs.Obeys.{InRoom, Repeats, ended_of};
-ghost use Rattle.database.specs.Ticking.{TicksOnce};
+ghost use Rattle.database.specs.Ticking.{TicksOnce, rows_written, covered_since};
 
 use crate::desk::{Desk, Shared};
 use crate::opened::OpenedRoom;
@@ -58,7 +58,9 @@ fn tick<D: Pmem + Drop>(desk: &mut Desk<D>) -> Turn
 }
 
 // How many rows the commits of a batch have written or deleted.
-fn rows_of(batch: &Batch) -> u64 {
+fn rows_of(batch: &Batch) -> u64
+    ensures { result ≡ min (rows_written batch.now.commits) (2 ^ 64 - 1) }
+{
     let mut rows = 0_u64;
     for commit in batch.commits() {
         rows = rows.saturating_add(commit.writes().len() as u64);
@@ -69,6 +71,7 @@ fn rows_of(batch: &Batch) -> u64 {
 /// Visits of the collector, up to the end of a round.
 pub fn collect<D: Pmem + Drop>(desk: &mut Desk<D>) -> Turn
     ensures visits { IsTrue (is_some desk.old.room) → InRoom (λ old new. Repeats D.state old new Collect) desk.old.room desk.new.room }
+    ensures covered { desk.new.covered ≡ covered_since desk.old.covered result }
     ensures ended { ended_of desk.new.room ≡ ended_of desk.old.room }
 {
     if !desk.is_round_due() {
@@ -101,13 +104,13 @@ fn visit_some<D: Pmem + Drop>(room: &mut OpenedRoom<D>) -> Turn
 }
 
 impl<D: Pmem> Desk<D> {
-    ghost use Rattle.std.specs.Prelude.{◌≡◌, ◌≢◌, ◌≤◌};
+    ghost use Rattle.std.specs.Prelude.{◌≡◌, ◌≢◌};
     ghost use Rattle.base.specs.declared.fault.Fault.{Fault};
     ghost use Rattle.base.specs.declared.fault.Fault.TheVariants.{OutOfMemory};
     ghost use Rattle.base.specs.declared.step.Reply.TheVariants.{Refused};
     ghost use Rattle.database.specs.declared.turns.Turn.TheVariants.{Stopped};
     ghost use Rattle.database.specs.Committing.{HasLackedMemory};
-    ghost use Rattle.database.specs.Ticking.{turn_of, refusals_after};
+    ghost use Rattle.database.specs.Ticking.{turn_of, refusals_after, covered_after};
 
     // What a tick comes to that isn't refused.
     fn after_tick(&mut self, reply: &Reply) -> Turn
@@ -116,7 +119,7 @@ impl<D: Pmem> Desk<D> {
         ensures room { self.new.room ≡ self.old.room }
         ensures turn { result ≡ turn_of reply.now }
         ensures refusals { self.new.refusals ≡ refusals_after self.old.refusals reply.now }
-        ensures covered { self.old.covered ≤ self.new.covered }
+        ensures covered { self.new.covered ≡ covered_after self.old.covered reply.now }
     {
         self.refusals = 0;
         match reply {
@@ -137,7 +140,7 @@ impl<D: Pmem> Desk<D> {
         ensures stopped { result ≡ Stopped → fault ≢ OutOfMemory }
         ensures turn { result ≡ turn_of (Refused fault) }
         ensures refusals { self.new.refusals ≡ refusals_after self.old.refusals (Refused fault) }
-        ensures covered { self.new.covered ≡ self.old.covered }
+        ensures covered { self.new.covered ≡ covered_after self.old.covered (Refused fault) }
     {
         match fault {
             Fault::OutOfMemory => {

@@ -4,7 +4,7 @@ use Rattle.base.specs.declared.step.Step.TheVariants.{Commit}
 use Rattle.base.specs.declared.step.Reply.TheVariants.{Refused}
 use Rattle.room.specs.Room.{Leads}
 use Rattle.database.specs.Obeys.{ended_of}
-use Rattle.database.specs.Ticking.{turn_of, refusals_after}
+use Rattle.database.specs.Ticking.{turn_of, refusals_after, covered_after}
 use Rattle.database.proofs.Errors.{has-lacked}
 use Rattle.database.proofs.turns.tick.Goals as goal
 
@@ -22,6 +22,7 @@ returns-in-Refused-clause-once g c there = record {
   ended = λ fault same other. ap ended_of c.after_refusal.ensures.room ∙ c.tick-reply.ensures.ended fault same other;
   goes_on = λ goes. ap ended_of c.after_refusal.ensures.room ∙ (c.tick-reply.ensures.goes_on goes ∙ sym (ap ended_of c.in-Some.is));
   counted = c.after_refusal.ensures.refusals ∙ ap (refusals_after c.args.desk.now.refusals) (sym c.in-Refused.is);
+  covered = c.after_refusal.ensures.covered ∙ ap (covered_after c.args.desk.now.covered) (sym c.in-Refused.is);
   turn = c.after_refusal.ensures.turn ∙ ap turn_of (sym c.in-Refused.is);
 }
 
@@ -32,6 +33,7 @@ returns-clause-once g c there = record {
   ended = λ fault is other. absurd (c.in_default-reply.not-Refused fault is);
   goes_on = λ goes. ap ended_of c.after_tick.ensures.room ∙ (c.tick-reply.ensures.goes_on goes ∙ sym (ap ended_of c.in-Some.is));
   counted = c.after_tick.ensures.refusals;
+  covered = c.after_tick.ensures.covered;
   turn = c.after_tick.ensures.turn;
 }
 

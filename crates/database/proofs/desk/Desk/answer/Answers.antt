@@ -13,9 +13,9 @@ returns-in-Ok-Some-clause-some g c =
 
 pub returns-in-Some-given_up-clause-some : goal.returns-in-Some-given_up-clause-some
 returns-in-Some-given_up-clause-some g c =
-    stops-after g.D.Pmem.state c.in-Some.room.room c.finish.new.room.room c.args.session c.in-Some-given_up.error c.in-Some.room.run
+    stops-after g.D.Pmem.state c.in-Some.room.room c.finish.new.room.room c.args.session c.args.self.now.refusals c.in-Some-given_up.error c.in-Some.room.run
     (subst (λ o. Finishes g.D.Pmem.state c.in-Some.room.room c.finish.new.room.room c.args.session (Ok o)) c.in-Ok-None.field-0-is c.in-Ok-None.ensures.steps)
-    (subst (λ e. IsGivenUp e c.in-Some-given_up.error) c.finish.ensures.ended c.in-Some-given_up.ensures.some)
+    (subst (λ e. IsGivenUp e c.args.self.now.refusals c.in-Some-given_up.error) c.finish.ensures.ended c.in-Some-given_up.ensures.some)
 
 pub returns-in-None-clause-none : goal.returns-in-None-clause-none
 returns-in-None-clause-none g c there = (
@@ -36,11 +36,11 @@ returns-in-Ok-Some-clause-finish g c there =
 
 pub returns-in-Some-given_up-clause-finish : goal.returns-in-Some-given_up-clause-finish
 returns-in-Some-given_up-clause-finish g c there =
-    (Ok None, (c.in-Some.room, c.finish.new.room, c.in-Some.is, refl, subst (λ o. Finishes g.D.Pmem.state c.in-Some.room.room c.finish.new.room.room c.args.session (Ok o)) c.in-Ok-None.field-0-is c.in-Ok-None.ensures.steps), λ t is. absurd (cc is))
+    (Ok None, (c.in-Some.room, c.finish.new.room, c.in-Some.is, refl, subst (λ o. Finishes g.D.Pmem.state c.in-Some.room.room c.finish.new.room.room c.args.session (Ok o)) c.in-Ok-None.field-0-is c.in-Ok-None.ensures.steps), c.in-Some-given_up.ensures.some)
 
 pub returns-in-None-clause-finish : goal.returns-in-None-clause-finish
 returns-in-None-clause-finish g c there =
-    (Ok None, (c.in-Some.room, c.finish.new.room, c.in-Some.is, refl, subst (λ o. Finishes g.D.Pmem.state c.in-Some.room.room c.finish.new.room.room c.args.session (Ok o)) c.in-Ok-None.field-0-is c.in-Ok-None.ensures.steps), λ t is. absurd (cc is))
+    (Ok None, (c.in-Some.room, c.finish.new.room, c.in-Some.is, refl, subst (λ o. Finishes g.D.Pmem.state c.in-Some.room.room c.finish.new.room.room c.args.session (Ok o)) c.in-Ok-None.field-0-is c.in-Ok-None.ensures.steps), (search rules, search rules))
 
 pub returns-in-Err-clause-finish : goal.returns-in-Err-clause-finish
 returns-in-Err-clause-finish g c there =
