@@ -2,7 +2,7 @@
 use Rattle.std.proofs.Common.{◌≡◌, ◌∙◌, refl, sym, ap, subst}
 use Rattle.std.proofs.Math.Logic.{∥∥₁_map}
 use Rattle.std.specs.Option.{ForSome}
-use Rattle.std.specs.Prelude.{Option, Some, None, IfSome}
+use Rattle.std.specs.Prelude.{Option, Some, None}
 use Rattle.base.specs.declared.fault.Fault.TheVariants.{OutOfMemory}
 use Rattle.base.specs.declared.step.Step.{Step}
 use Rattle.base.specs.declared.step.Note.{Note}
@@ -46,19 +46,6 @@ memory-covers image reply is batch covers = absurd (not_both batch (sym is ∙ c
   where
     not_both : (b : Batch) → ◌≡◌ {A = Reply} (Refused OutOfMemory) (Covered b) → ⊥
     not_both b e = cc
-
--- what a tick was answered
-pub turn-is : (image : Image) (step : Step) (made : Option (Reply × Option Receipt)) → IfSome made (λ m. IfSome m.1 (λ r. (r.step ≡ step) × (r.note ≡ note_of m.0)))
-    → IfSome made (λ m. (batch : Batch) → m.0 ≡ Covered batch → HasCovered image batch) → ForSome made (IsTurn image)
-turn-is image step None receipts covered turn is = absurd (cc is)
-turn-is image step (Some (reply, receipt)) receipts covered turn is = subst (IsTurn image) (same is) (record { note = note_is receipt receipts; covered = covered })
-  where
-    note_is : (o : Option Receipt) → IfSome o (λ r. (r.step ≡ step) × (r.note ≡ note_of reply)) → IfSome o (λ r. r.note ≡ note_of reply)
-    note_is None h = tt
-    note_is (Some r) h = h.1
-
-    same : ◌≡◌ {A = Option (Reply × Option Receipt)} (Some (reply, receipt)) (Some turn) → (reply, receipt) ≡ turn
-    same e = cc e
 
 note-kept : (image : Image) (made : Option (Reply × Option Receipt)) (reply : Reply) (kept : Option Receipt) (receipt : Receipt) → ForSome made (IsTurn image) → made ≡ Some (reply, kept) → kept ≡ Some receipt → receipt.note ≡ note_of reply
 note-kept image made reply kept receipt turn is has = some_is (λ (r : Receipt). r.note ≡ note_of reply) kept receipt (turn (reply, kept) is).note has

@@ -1,5 +1,6 @@
 -- Calls of several steps.
-use Rattle.std.specs.Prelude.{◌≡◌, ◌≢◌, ◌⊎◌, ℕ, ◌≤◌, List, [], ◌∷◌, ◌++◌, length, Option, Some, None, All}
+use Rattle.std.specs.Prelude.{◌≡◌, ◌≢◌, ◌⊎◌, ℕ, ◌≤◌, List, [], ◌∷◌, ◌++◌, length, Option, Some, None, Result, Ok, Err, All}
+use Rattle.std.specs.Option.{option_or}
 use Rattle.base.specs.declared.fault.Fault.{Fault}
 use Rattle.base.specs.declared.fault.Fault.TheVariants.{NoSession, OutOfMemory}
 use Rattle.base.specs.declared.step.Step.TheVariants.{Draw, Stamp, Poll, End}
@@ -44,6 +45,27 @@ AreUnended added = All (λ r. (n : ℕ) → r.step ≡ End n → r.note ≢ Done
 abbrev pub DeclinesCall : (Fault → Type 0) → Phase → List Receipt → Fault → Type 0
 DeclinesCall Ended Idle added fault = (fault ≡ NoSession) × (added ≡ [])
 DeclinesCall Ended _ added fault = ReportsEnd Ended added fault × AreUnended added
+
+-- ---- refusals
+
+-- the fault that a note refuses with
+abbrev pub refused_with : Note → Option Fault
+refused_with (Refused fault) = Some fault
+refused_with _ = None
+
+-- the first refusal among them
+abbrev pub first_refusal : List Receipt → Option Fault
+first_refusal [] = None
+first_refusal (r ∷ rest) = option_or (refused_with r.note) (first_refusal rest)
+
+-- none of them was refused, or the first refusal is with this fault
+abbrev pub HasNoOther : List Receipt → Fault → Type 0
+HasNoOther added fault = (first_refusal added ≡ None) ⊎ (first_refusal added ≡ Some fault)
+
+-- at Ok no step was refused; and where one was, the call fails with its fault
+abbrev pub ReportsRefusal : {X : Type 0} → List Receipt → Result X Fault → Type 0
+ReportsRefusal added (Ok x) = first_refusal added ≡ None
+ReportsRefusal added (Err fault) = HasNoOther added fault
 
 -- ---- a prepare
 

@@ -1,5 +1,5 @@
 -- What is due for the workers after a step, and who is to be notified.
-use Rattle.std.specs.Prelude.{◌≡◌, ◌≢◌, ℕ, ◌+◌, ◌*◌, ◌-◌, ◌/◌, ◌^◌, ◌<◌, min, max, Bool, true, false, IsTrue, IsFalse, List, [], length}
+use Rattle.std.specs.Prelude.{ℕ, ◌+◌, ◌*◌, ◌-◌, ◌/◌, ◌^◌, nat_le, nat_lt, min, max, Bool, true, false, not, ◌&&◌, ◌||◌, if◌then◌else◌, List, [], ◌∷◌, length}
 use Rattle.base.specs.Records.{Record}
 use Rattle.base.specs.declared.gap.Gap.{Gap}
 use Rattle.base.specs.declared.fault.Fault.TheVariants.{Device as DeviceFault, Failed, OutOfMemory, SlotsOut, TimestampsOut, WindowFull}
@@ -18,13 +18,6 @@ tick_after due (Refused DeviceFault) = true
 tick_after due (Refused Failed) = true
 tick_after due _ = due
 
--- the collector is to make a visit: a slot was wanted and none was free, or the device failed
-abbrev pub wants_visit : Reply → Bool
-wants_visit (Refused SlotsOut) = true
-wants_visit (Refused DeviceFault) = true
-wants_visit (Refused Failed) = true
-wants_visit _ = false
-
 -- whoever waits for a commit is to look again: something was covered, or nothing may be any more
 abbrev pub wakes_waiting : Reply → Bool
 wakes_waiting (Covered batch) = true
@@ -34,30 +27,22 @@ wakes_waiting (Refused DeviceFault) = true
 wakes_waiting (Refused Failed) = true
 wakes_waiting _ = false
 
--- who was to be notified is still to be
-pub record KeepsNews (old new : News) : Type 0 where
-  pub committer : IsTrue old.committer → IsTrue new.committer
-  pub collector : IsTrue old.collector → IsTrue new.collector
-  pub waiting : IsTrue old.waiting → IsTrue new.waiting
+-- ---- a record that no stamp makes due
 
--- nobody is to be notified
-abbrev pub IsDelivered : News → Type 0
-IsDelivered news = (news.committer ≡ false) × (news.collector ≡ false) × (news.waiting ≡ false)
+abbrev pub has_gaps : List Gap → Bool
+has_gaps [] = false
+has_gaps (gap ∷ gaps) = true
 
--- ---- what a step leaves due
+-- a draw left less than half a window of the reserved timestamps, or a sweep ended, whose gaps are to be dropped
+abbrev pub wants_record_of : Reply → ℕ → List Gap → ℕ → ℕ → Bool
+wants_record_of (Drawn timestamp) dirty gaps next window = nat_lt (2 * (dirty - next)) window
+wants_record_of SweepEnd dirty gaps next window = has_gaps gaps
+wants_record_of _ dirty gaps next window = false
 
--- a tick and a visit are due where the reply makes them so, and a visit stays due until a sweep ends
-pub record MakesDue (old new : Due) (reply : Reply) : Type 0 where
-  pub tick : IsTrue (tick_after old.tick reply) → IsTrue new.tick
-  pub visit : IsTrue (wants_visit reply) → IsTrue new.visit
-  pub within : IsTrue old.visit → IsFalse new.visit → reply ≡ SweepEnd
+abbrev pub wants_record : Reply → Record → ℕ → ℕ → Bool
+wants_record reply ruling next window = wants_record_of reply ruling.dirty ruling.gaps next window
 
--- who sleeps is to be notified of what is due then, whoever waits for a commit of what was covered, or that nothing may be, and nobody is forgotten
-pub record NotifiesDue (old new : Due) (reply : Reply) : Type 0 where
-  pub committer : IsFalse old.tick → IsTrue new.tick → IsTrue new.news.committer
-  pub collector : IsFalse old.visit → IsTrue new.visit → IsTrue new.news.collector
-  pub waiting : IsTrue (wakes_waiting reply) → IsTrue new.news.waiting
-  pub kept : KeepsNews old.news new.news
+-- ---- rounds of the collector
 
 -- how many commits were covered then, of which enough make a round due
 abbrev pub covered_after : ℕ → Reply → ℕ
@@ -69,7 +54,7 @@ abbrev pub wanted_after : Bool → Reply → Bool
 wanted_after wanted (Refused SlotsOut) = true
 wanted_after wanted _ = wanted
 
--- the device fails, or has failed
+-- the device fails, or has failed: the collector is to see that
 abbrev pub fails : Reply → Bool
 fails (Refused DeviceFault) = true
 fails (Refused Failed) = true
@@ -79,11 +64,51 @@ fails _ = false
 abbrev pub fourth_of : ℕ → ℕ
 fourth_of slots = max (slots / 4) 1
 
--- a record is due though no commit was stamped: a draw left less than half a window of the reserved timestamps, or a sweep ended, whose gaps are to be dropped
-abbrev pub WantsRecordOf : Reply → ℕ → List Gap → ℕ → ℕ → Type 0
-WantsRecordOf (Drawn timestamp) dirty gaps next window = 2 * (dirty - next) < window
-WantsRecordOf SweepEnd dirty gaps next window = gaps ≢ []
-WantsRecordOf _ dirty gaps next window = ⊥
+abbrev pub ends_sweep : Reply → Bool
+ends_sweep SweepEnd = true
+ends_sweep _ = false
 
-abbrev pub WantsRecord : Reply → Record → ℕ → ℕ → Type 0
-WantsRecord reply ruling next window = WantsRecordOf reply ruling.dirty ruling.gaps next window
+-- the round that was due goes on
+abbrev pub goes_on : Due → Reply → Bool
+goes_on old reply = old.visit && not (ends_sweep reply)
+
+-- there is reason for a round: a slot is wanted, enough commits were covered, or the device failed
+abbrev pub has_reason : ℕ → Due → Reply → Bool
+has_reason enough old reply = wanted_after old.is_slot_wanted reply || (nat_le enough (covered_after old.covered reply) || fails reply)
+
+-- a round falls due: there is reason for one, and none goes on
+abbrev pub falls_due : ℕ → Due → Reply → Bool
+falls_due enough old reply = not (goes_on old reply) && has_reason enough old reply
+
+-- ---- what a step leaves due
+
+-- who sleeps is to be notified of what is due since, and whoever waits, of what concerns it; who was to be is still to be
+abbrev pub news_after : Due → Reply → Bool → ℕ → News
+news_after old reply wants enough = record {
+  committer = old.news.committer || (not old.tick && (tick_after old.tick reply || wants));
+  collector = old.news.collector || falls_due enough old reply;
+  waiting = old.news.waiting || wakes_waiting reply;
+}
+
+-- Where a record is wanted or isn't, and so many covered commits are enough for a round: a tick is due that the reply or the record
+-- makes so; a visit, where a round goes on or falls due. What makes a further round due is counted from when one fell due
+abbrev pub due_after : Due → Reply → Bool → ℕ → Due
+due_after old reply wants enough = record {
+  tick = tick_after old.tick reply || wants;
+  visit = goes_on old reply || falls_due enough old reply;
+  covered = if falls_due enough old reply then 0 else covered_after old.covered reply;
+  is_slot_wanted = not (falls_due enough old reply) && wanted_after old.is_slot_wanted reply;
+  news = news_after old reply wants enough;
+}
+
+-- nobody is to be notified
+abbrev pub nobody : News
+nobody = record { committer = false; collector = false; waiting = false }
+
+-- the same is due, and all were notified
+abbrev pub delivered : Due → Due
+delivered due = record due { news = nobody }
+
+-- at an engine's start: a room that is lent may have gaps to sweep, and a record may be due
+abbrev pub due_first : Due
+due_first = record { tick = true; visit = true; covered = 0; is_slot_wanted = false; news = nobody }

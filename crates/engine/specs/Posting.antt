@@ -41,6 +41,10 @@ abbrev pub with_batch : Shown → Option Batch → Published
 with_batch board None = whole board
 with_batch board (Some batch) = changed (whole board) (Add batch)
 
+-- the board once all is published, and the batch, if there is one, and sixteen stamps stay readable
+abbrev pub posted : Shown → Option Batch → Shown
+posted old batch = record { list = pruned (with_batch old batch); waits = [] }
+
 -- ---- a try
 
 -- what a try to publish a batch does, or, without one, a try to publish what waits
@@ -57,7 +61,7 @@ Tries old new None Unfit = ⊥
 -- What a try that prunes then comes to. At Done all is published, and pruned. For want of memory nothing is lost: the batch comes back
 -- and the board is as before, or it waits there. A batch that may not come next changes nothing
 abbrev pub Posts : Shown → Shown → Option Batch → Posting → Type 0
-Posts old new batch Done = new ≡ record { list = pruned (with_batch old batch); waits = [] }
+Posts old new batch Done = new ≡ posted old batch
 Posts old new batch (Again (Some left)) = (batch ≡ Some left) × (new ≡ old)
 Posts old new batch (Again None) = (whole new ≡ with_batch old batch) ⊎ (whole new ≡ pruned (with_batch old batch))
 Posts old new batch Unfit = MatchOption batch ⊥ (λ b. Fits (whole old) b → ⊥) × (new ≡ old)
@@ -68,6 +72,11 @@ Posts old new batch Unfit = MatchOption batch ⊥ (λ b. Fits (whole old) b → 
 abbrev pub IsLeftOf : {J : Type 0} → Batch → Left J → Type 0
 IsLeftOf batch (OfBatch left) = left ≡ batch
 IsLeftOf batch (Announced due) = EndsIn due batch
+
+-- the batch, where it isn't on the board yet
+abbrev pub batch_of : {J : Type 0} → Left J → Option Batch
+batch_of (OfBatch batch) = Some batch
+batch_of (Announced due) = None
 
 -- ---- a worker's turn
 

@@ -41,6 +41,7 @@ pub fn take_room<D: Pmem + Drop, J: Origin, B: Drop>(
     ensures kept { IfNone result (desk.new.audited ≡ desk.old.audited) }
     ensures taken { IfSome result (λ _. desk.new.audited ≡ None) }
     ensures rest { (desk.new.closing ≡ desk.old.closing) × (desk.new.handed ≡ desk.old.handed) × (desk.new.halted ≡ desk.old.halted) × (desk.new.refusals ≡ desk.old.refusals) }
+    ensures due { (desk.new.due ≡ desk.old.due) × (desk.new.asleep ≡ desk.old.asleep) }
 {
     let Some(audited) = &desk.audited else {
         return None;

@@ -64,7 +64,7 @@ pub struct Desk<D: Pmem, J: Origin> {
 }
 
 impl<D: Pmem + Drop, J: Origin> Desk<D, J> {
-    ghost use Rattle.std.specs.Prelude.{◌≡◌, ◌≤◌, ◌↔◌, ◌+◌, ◌⊎◌, ◌^◌, IsTrue, IsFalse, true, false, nat_lt, is_some, None, IfSome, IfNone, IfErr, OnErr, MatchOption, MatchResult};
+    ghost use Rattle.std.specs.Prelude.{◌≡◌, ◌≤◌, ◌↔◌, ◌+◌, ◌⊎◌, ◌^◌, IsTrue, true, false, nat_lt, is_some, None, IfSome, IfNone, IfErr, OnErr, MatchOption, MatchResult};
     ghost use Rattle.base.specs.Batches.{Batch};
     ghost use Rattle.base.specs.declared.fault.Fault.TheVariants.{OutOfMemory};
     ghost use Rattle.base.specs.declared.step.Reply.TheVariants.{Covered};
@@ -73,7 +73,7 @@ impl<D: Pmem + Drop, J: Origin> Desk<D, J> {
     ghost use Rattle.room.specs.Room.{Shows};
     ghost use Rattle.engine.specs.Origins.{HasCovered};
     ghost use Rattle.engine.specs.declared.desk.Duty.TheVariants.{Commit, Collect};
-    ghost use Rattle.engine.specs.Due.{IsDelivered, MakesDue, NotifiesDue, WantsRecord, covered_after, fourth_of, tick_after, wants_visit};
+    ghost use Rattle.engine.specs.Due.{delivered, due_after, due_first, fourth_of, wants_record};
     ghost use Rattle.engine.specs.Lending.{HasMade, MakesOnly, has_failed, is_covered, halted_after, refusals_after, why_not, waited};
 
     /// No room yet.
@@ -82,7 +82,7 @@ impl<D: Pmem + Drop, J: Origin> Desk<D, J> {
         ensures handed { result.handed ≡ 0 }
         ensures open { result.closing ≡ false }
         ensures calm { (result.refusals ≡ 0) × (result.halted ≡ None) × (result.asleep ≡ false) }
-        ensures due { (result.due.tick ≡ true) × (result.due.visit ≡ true) }
+        ensures due { result.due ≡ due_first }
     {
         Desk {
             audited: None,
@@ -162,12 +162,8 @@ impl<D: Pmem + Drop, J: Origin> Desk<D, J> {
 
     /// Notes what a step was answered, and what it made due.
     pub fn note(&mut self, reply: &Reply)
-        ensures due { IfSome self.old.audited (λ audited. MakesDue self.old.due self.new.due reply.now) }
-        ensures news { IfSome self.old.audited (λ audited. NotifiesDue self.old.due self.new.due reply.now) }
-        ensures record { IfSome self.old.audited (λ audited. (q : State) → Shows D.state audited.room q → WantsRecord reply.now q.ruling q.next q.layout.window → IsTrue self.new.due.tick) }
-        ensures needed { IfSome self.old.audited (λ audited. (q : State) → Shows D.state audited.room q → IsTrue self.new.due.tick → IsTrue (tick_after self.old.due.tick reply.now) ⊎ WantsRecord reply.now q.ruling q.next q.layout.window) }
-        ensures round { IfSome self.old.audited (λ audited. (q : State) → Shows D.state audited.room q → fourth_of q.layout.slots ≤ self.new.due.covered → IsTrue self.new.due.visit) }
-        ensures reason { IfSome self.old.audited (λ audited. (q : State) → Shows D.state audited.room q → IsFalse self.old.due.visit → IsTrue self.new.due.visit → IsTrue (wants_visit reply.now) ⊎ (IsTrue self.old.due.is_slot_wanted ⊎ (fourth_of q.layout.slots ≤ covered_after self.old.due.covered reply.now))) }
+        ensures due { MatchOption self.old.audited (self.new.due ≡ self.old.due)
+            (λ audited. (q : State) → Shows D.state audited.room q → self.new.due ≡ due_after self.old.due reply.now (wants_record reply.now q.ruling q.next q.layout.window) (fourth_of q.layout.slots)) }
         ensures asleep { self.new.asleep ≡ self.old.asleep }
         ensures room { self.new.audited ≡ self.old.audited }
         ensures handed { self.new.handed ≡ self.old.handed }
@@ -201,9 +197,7 @@ impl<D: Pmem + Drop, J: Origin> Desk<D, J> {
     /// Whom to notify of what was noted since the last call.
     pub fn take_news(&mut self) -> News
         ensures news { result ≡ self.old.due.news }
-        ensures delivered { IsDelivered self.new.due.news }
-        ensures due { (self.new.due.tick ≡ self.old.due.tick) × (self.new.due.visit ≡ self.old.due.visit) }
-        ensures counts { (self.new.due.covered ≡ self.old.due.covered) × (self.new.due.is_slot_wanted ≡ self.old.due.is_slot_wanted) }
+        ensures delivered { self.new.due ≡ delivered self.old.due }
         ensures asleep { self.new.asleep ≡ self.old.asleep }
         ensures room { self.new.audited ≡ self.old.audited }
         ensures handed { self.new.handed ≡ self.old.handed }
@@ -252,10 +246,10 @@ impl<D: Pmem + Drop, J: Origin> Desk<D, J> {
     }
 }
 
-ghost use Rattle.std.specs.Prelude.{◌≡◌, ◌↔◌, IfSome, IsTrue};
+ghost use Rattle.std.specs.Prelude.{◌≡◌, IfSome};
 ghost use Rattle.base.specs.declared.step.Step.TheVariants.{Commit};
 ghost use Rattle.base.specs.declared.step.Note.TheVariants.{Refused};
-ghost use Rattle.engine.specs.Due.{WantsRecordOf};
+ghost use Rattle.engine.specs.Due.{wants_record_of};
 ghost use Rattle.engine.specs.Lending.{first_of, has_failed, is_covered_in, halting, refusals_after};
 
 // Whether the record covers the timestamp, where that was drawn since the opening.
@@ -308,7 +302,7 @@ fn refusals_after(refusals: u64, step: &Step, kept: bool) -> u64
 
 // Whether a record is due after the step though it stamped nothing: few timestamps are left, or swept gaps are to be dropped.
 fn makes_record_due(reply: &Reply, status: &Status, window: u64) -> bool
-    ensures { IsTrue result ↔ WantsRecordOf reply.now status.now.dirty status.now.gaps status.now.next window }
+    ensures { result ≡ wants_record_of reply.now status.now.dirty status.now.gaps status.now.next window }
 {
     match reply {
         Reply::Drawn(_) => {

@@ -1,9 +1,9 @@
 //! What the workers have to do, so that they sleep while there is nothing. A tick that found nothing finds nothing again until
 //! another step was made: a draw that leaves few timestamps reserved, or finds none, a last stamp, the end of a sweep. A round
 //! finds something once commits were covered, or where a slot is wanted.
-ghost use Rattle.std.specs.Prelude.{◌≡◌, ◌⊎◌, ◌≤◌, ◌&&◌, ◌||◌, not, if◌then◌else◌, IsTrue, IsFalse, true, false};
-ghost use Rattle.base.specs.declared.step.Reply.TheVariants.{Refused, SweepEnd};
-ghost use Rattle.engine.specs.Due.{covered_after, fails, tick_after, wanted_after, wants_visit, wakes_waiting, KeepsNews, IsDelivered};
+ghost use Rattle.std.specs.Prelude.{◌≡◌, ◌&&◌, ◌||◌, not, if◌then◌else◌, nat_le, true, false};
+ghost use Rattle.base.specs.declared.step.Reply.TheVariants.{Refused};
+ghost use Rattle.engine.specs.Due.{covered_after, delivered, due_after, due_first, fails, goes_on, nobody, tick_after, wakes_waiting, wanted_after};
 
 use base::fault::Fault;
 use base::step::Reply;
@@ -33,7 +33,7 @@ pub struct News {
 
 impl News {
     fn none() -> News
-        ensures { IsDelivered result }
+        ensures { result ≡ nobody }
     {
         News {
             committer: false,
@@ -46,9 +46,7 @@ impl News {
 impl Due {
     /// Both: a room that is lent may have gaps to sweep, and a record may be due.
     pub fn new() -> Due
-        ensures tick { result.tick ≡ true }
-        ensures visit { result.visit ≡ true }
-        ensures delivered { IsDelivered result.news }
+        ensures { result ≡ due_first }
     {
         Due {
             tick: true,
@@ -74,9 +72,7 @@ impl Due {
     /// Whom to notify of what was noted since the last call.
     pub fn take_news(&mut self) -> News
         ensures news { result ≡ self.old.news }
-        ensures delivered { IsDelivered self.new.news }
-        ensures due { (self.new.tick ≡ self.old.tick) × (self.new.visit ≡ self.old.visit) }
-        ensures counts { (self.new.covered ≡ self.old.covered) × (self.new.is_slot_wanted ≡ self.old.is_slot_wanted) }
+        ensures delivered { self.new ≡ delivered self.old }
     {
         let news = self.news;
         self.news = News::none();
@@ -85,18 +81,31 @@ impl Due {
 
     /// Notes what a step was answered. A round is due once so many commits were covered.
     pub fn note(&mut self, reply: &Reply, quarter: u64)
+        ensures { self.new ≡ due_after self.old reply.now false quarter }
+    {
+        let has_failed = self.take_in(reply);
+        if self.has_reason(quarter, has_failed) {
+            self.want_visit();
+        }
+    }
+
+    // Whether there is reason for a round.
+    fn has_reason(&self, quarter: u64, has_failed: bool) -> bool
+        ensures { result ≡ (self.now.is_slot_wanted || (nat_le quarter self.now.covered || has_failed)) }
+    {
+        self.is_slot_wanted || quarter <= self.covered || has_failed
+    }
+
+    // Takes in what a step was answered, before a round may fall due. Whether the device has failed.
+    fn take_in(&mut self, reply: &Reply) -> bool
+        ensures failed { result ≡ fails reply.now }
         ensures tick { self.new.tick ≡ tick_after self.old.tick reply.now }
-        ensures visit { (IsTrue self.new.is_slot_wanted ⊎ (quarter ≤ self.new.covered)) → IsTrue self.new.visit }
-        ensures wanted { IsTrue (wants_visit reply.now) → IsTrue self.new.visit }
-        ensures within { IsTrue self.old.visit → IsFalse self.new.visit → reply.now ≡ SweepEnd }
-        ensures needed { IsFalse self.old.visit → IsTrue self.new.visit → IsTrue (wants_visit reply.now) ⊎ (IsTrue self.old.is_slot_wanted ⊎ (quarter ≤ covered_after self.old.covered reply.now)) }
-        ensures counts_on { IsTrue self.old.visit → IsTrue self.new.visit → (reply.now ≡ SweepEnd → ⊥) → self.new.covered ≡ covered_after self.old.covered reply.now }
-        ensures wants_on { IsTrue self.old.visit → IsTrue self.new.visit → (reply.now ≡ SweepEnd → ⊥) → self.new.is_slot_wanted ≡ wanted_after self.old.is_slot_wanted reply.now }
-        ensures covered { (self.new.covered ≡ covered_after self.old.covered reply.now) ⊎ ((self.new.covered ≡ 0) × IsTrue self.new.visit) }
-        ensures committer { IsFalse self.old.tick → IsTrue self.new.tick → IsTrue self.new.news.committer }
-        ensures collector { IsFalse self.old.visit → IsTrue self.new.visit → IsTrue self.new.news.collector }
-        ensures waiting { IsTrue (wakes_waiting reply.now) → IsTrue self.new.news.waiting }
-        ensures news { KeepsNews self.old.news self.new.news }
+        ensures visit { self.new.visit ≡ goes_on self.old reply.now }
+        ensures covered { self.new.covered ≡ covered_after self.old.covered reply.now }
+        ensures wanted { self.new.is_slot_wanted ≡ wanted_after self.old.is_slot_wanted reply.now }
+        ensures committer { self.new.news.committer ≡ (self.old.news.committer || (not self.old.tick && tick_after self.old.tick reply.now)) }
+        ensures collector { self.new.news.collector ≡ self.old.news.collector }
+        ensures waiting { self.new.news.waiting ≡ (self.old.news.waiting || wakes_waiting reply.now) }
     {
         match reply {
             Reply::Idle => self.tick = false,
@@ -106,28 +115,22 @@ impl Due {
                 self.covered = self.covered.saturating_add(batch.commits().len() as u64);
                 self.news.waiting = true;
             }
-            Reply::Refused(fault) => self.note_refusal(*fault),
+            Reply::Refused(fault) => return self.take_in_refusal(*fault),
             _ => {}
         }
-        if self.is_slot_wanted || quarter <= self.covered {
-            self.want_visit();
-        }
+        false
     }
 
-    // Notes a refusal. Where the device fails the workers are refused too, and end.
-    fn note_refusal(&mut self, fault: Fault)
+    // Takes in a refusal. Where the device fails the workers are refused too, and end.
+    fn take_in_refusal(&mut self, fault: Fault) -> bool
+        ensures failed { result ≡ fails (Refused fault) }
         ensures tick { self.new.tick ≡ tick_after self.old.tick (Refused fault) }
-        ensures wanted { IsTrue (wants_visit (Refused fault)) → (IsTrue self.new.visit ⊎ IsTrue self.new.is_slot_wanted) }
-        ensures visit { IsTrue self.old.visit → IsTrue self.new.visit }
-        ensures needed { (IsTrue self.new.visit ⊎ IsTrue self.new.is_slot_wanted) → IsTrue (wants_visit (Refused fault)) ⊎ (IsTrue self.old.visit ⊎ IsTrue self.old.is_slot_wanted) }
-        ensures covered { (self.new.covered ≡ self.old.covered) ⊎ ((self.new.covered ≡ 0) × IsTrue self.new.visit) }
-        ensures visit_is { self.new.visit ≡ (self.old.visit || fails (Refused fault)) }
-        ensures covered_is { self.new.covered ≡ if not self.old.visit && fails (Refused fault) then 0 else self.old.covered }
-        ensures wanted_is { self.new.is_slot_wanted ≡ if not self.old.visit && fails (Refused fault) then false else wanted_after self.old.is_slot_wanted (Refused fault) }
-        ensures committer { IsFalse self.old.tick → IsTrue self.new.tick → IsTrue self.new.news.committer }
-        ensures collector { IsFalse self.old.visit → IsTrue self.new.visit → IsTrue self.new.news.collector }
-        ensures waiting { IsTrue (wakes_waiting (Refused fault)) → IsTrue self.new.news.waiting }
-        ensures news { KeepsNews self.old.news self.new.news }
+        ensures visit { self.new.visit ≡ self.old.visit }
+        ensures covered { self.new.covered ≡ self.old.covered }
+        ensures wanted { self.new.is_slot_wanted ≡ wanted_after self.old.is_slot_wanted (Refused fault) }
+        ensures committer { self.new.news.committer ≡ (self.old.news.committer || (not self.old.tick && tick_after self.old.tick (Refused fault))) }
+        ensures collector { self.new.news.collector ≡ self.old.news.collector }
+        ensures waiting { self.new.news.waiting ≡ (self.old.news.waiting || wakes_waiting (Refused fault)) }
     {
         match fault {
             Fault::WindowFull => self.want_tick(),
@@ -135,18 +138,19 @@ impl Due {
             Fault::TimestampsOut | Fault::OutOfMemory => self.news.waiting = true,
             Fault::Device | Fault::Failed => {
                 self.want_tick();
-                self.want_visit();
                 self.news.waiting = true;
+                return true;
             }
             _ => {}
         }
+        false
     }
 
     /// A tick of the committer is due.
     pub fn want_tick(&mut self)
         ensures tick { self.new.tick ≡ true }
-        ensures committer { IsFalse self.old.tick → IsTrue self.new.news.committer }
-        ensures news { KeepsNews self.old.news self.new.news }
+        ensures committer { self.new.news.committer ≡ (self.old.news.committer || not self.old.tick) }
+        ensures others { (self.new.news.collector ≡ self.old.news.collector) × (self.new.news.waiting ≡ self.old.news.waiting) }
         ensures visit { self.new.visit ≡ self.old.visit }
         ensures counts { (self.new.covered ≡ self.old.covered) × (self.new.is_slot_wanted ≡ self.old.is_slot_wanted) }
     {
@@ -159,10 +163,9 @@ impl Due {
     // A round of the collector is due, unless it is within one. What comes from now on makes a further one due.
     fn want_visit(&mut self)
         ensures visit { self.new.visit ≡ true }
-        ensures collector { IsFalse self.old.visit → IsTrue self.new.news.collector }
-        ensures news { KeepsNews self.old.news self.new.news }
+        ensures collector { self.new.news.collector ≡ (self.old.news.collector || not self.old.visit) }
+        ensures others { (self.new.news.committer ≡ self.old.news.committer) × (self.new.news.waiting ≡ self.old.news.waiting) }
         ensures tick { self.new.tick ≡ self.old.tick }
-        ensures waiting { self.new.news.waiting ≡ self.old.news.waiting }
         ensures covered { self.new.covered ≡ if self.old.visit then self.old.covered else 0 }
         ensures wanted { self.new.is_slot_wanted ≡ if self.old.visit then self.old.is_slot_wanted else false }
     {

@@ -29,14 +29,14 @@ pub enum Left<J: Naming> {
     Announced(Token<J>),
 }
 
-ghost use Rattle.std.specs.Prelude.{◌≡◌, ◌⊎◌, ◌≤◌, ◌<◌, ◌+◌, ◌-◌, IfSome, IfOk, IfErr, MatchOption, MatchResult, Ok};
+ghost use Rattle.std.specs.Prelude.{◌≡◌, ◌⊎◌, ◌≤◌, ◌<◌, ◌+◌, ◌-◌, IfSome, IfOk, IfErr, OnOk, MatchOption, MatchResult, Ok, Some, None};
 ghost use Rattle.base.specs.declared.fault.Fault.TheVariants.{OutOfMemory};
 ghost use Rattle.base.specs.Batches.{Batch as BatchOf};
 ghost use Rattle.base.specs.Published.{last_stamp};
 ghost use Rattle.board.specs.declared.change.Change.TheVariants.{Raise};
 ghost use Rattle.board.specs.Lists.{Begins, Fits};
 ghost use Rattle.board.specs.Shown.{whole, shown, waiting};
-ghost use Rattle.engine.specs.Posting.{EndsIn, IsLeftOf, IsShort, Posts, Tries};
+ghost use Rattle.engine.specs.Posting.{EndsIn, IsLeftOf, IsShort, Posts, Tries, batch_of, posted};
 
 /// Publishes the batch, and keeps sixteen stamps readable. For want of memory it rests and tries again, until the engine is being
 /// closed. `None` then, and where the batch doesn't go on from what was published.
@@ -76,6 +76,7 @@ fn post_left<R: Wait + Drop, J: Naming>(
     left: Left<J>,
 ) -> Result<Token<J>, Option<Left<J>>>
     ensures published { IfOk result (λ list. list ≡ board.new.list) }
+    ensures board { OnOk result (board.new ≡ posted board.old (batch_of left)) }
     ensures left { (batch : BatchOf) → IsLeftOf batch left → MatchResult result (λ list. EndsIn list batch × IsShort list) (λ rest. IfSome rest (IsLeftOf batch)) }
 {
     match left {
@@ -90,6 +91,7 @@ fn post_batch<R: Wait + Drop, J: Naming>(
     batch: Batch,
 ) -> Result<Token<J>, Option<Left<J>>>
     ensures published { IfOk result (λ list. (list ≡ board.new.list) × EndsIn list batch × IsShort list) }
+    ensures board { OnOk result (board.new ≡ posted board.old (Some batch)) }
     ensures left { IfErr result (λ rest. MatchOption rest ((Fits (whole board.old) batch → ⊥) × (board.new ≡ board.old)) (IsLeftOf batch)) }
 {
     match publish_and_prune(board, Some(batch)) {
@@ -108,6 +110,7 @@ fn post_announced<R: Wait + Drop, J: Naming>(
     due: Token<J>,
 ) -> Result<Token<J>, Option<Left<J>>>
     ensures published { IfOk result (λ list. (list ≡ board.new.list) × Begins due list × (last_stamp list ≡ last_stamp due) × IsShort list) }
+    ensures board { OnOk result (board.new ≡ posted board.old None) }
     ensures left { IfErr result (λ rest. IfSome rest (λ left. (batch : BatchOf) → EndsIn due batch → IsLeftOf batch left)) }
 {
     match publish_and_prune(board, None) {

@@ -26,10 +26,12 @@ pub struct Shared<D: Pmem, J: Origin, B: Drop> {
 }
 
 impl<D: Pmem + Drop, J: Origin, B: Drop> Shared<D, J, B> {
-    ghost use Rattle.std.specs.Prelude.{◌≡◌, ◌⊎◌, IfErr, IfSome};
+    ghost use Rattle.std.specs.Prelude.{◌≡◌, ◌⊎◌, IfErr, MatchOption};
     ghost use Rattle.std.specs.Sync.Mutex.{mutex_guard_value};
     ghost use Rattle.base.specs.declared.fault.Fault.TheVariants.{OutOfMemory};
-    ghost use Rattle.engine.specs.Due.{IsDelivered, MakesDue};
+    ghost use Rattle.machine.specs.Machine.{State};
+    ghost use Rattle.room.specs.Room.{Shows};
+    ghost use Rattle.engine.specs.Due.{delivered, due_after, fourth_of, wants_record};
     ghost use Rattle.engine.specs.Lending.{HasMade};
     ghost use Rattle.engine.specs.Origins.{HasHalted};
 
@@ -117,8 +119,8 @@ impl<D: Pmem + Drop, J: Origin, B: Drop> Shared<D, J, B> {
 
     /// Notes what a step was answered, and wakes whom it concerns.
     pub fn notify(&self, desk: &mut Desk<D, J>, reply: &Reply)
-        ensures due { IfSome desk.old.audited (λ audited. MakesDue desk.old.due desk.new.due reply.now) }
-        ensures delivered { IsDelivered desk.new.due.news }
+        ensures due { MatchOption desk.old.audited (desk.new.due ≡ delivered desk.old.due)
+            (λ audited. (q : State) → Shows D.state audited.room q → desk.new.due ≡ delivered (due_after desk.old.due reply.now (wants_record reply.now q.ruling q.next q.layout.window) (fourth_of q.layout.slots))) }
         ensures asleep { desk.new.asleep ≡ desk.old.asleep }
         ensures room { desk.new.audited ≡ desk.old.audited }
         ensures handed { desk.new.handed ≡ desk.old.handed }

@@ -19,12 +19,13 @@ impl<D: Pmem + Drop, J: Origin, B: Drop> Session<D, J, B> {
     ghost use Rattle.engine.specs.Phases.{number_of, timestamp_of, phase_after, phase_after_step, added_since, prepared};
     ghost use Rattle.engine.specs.Origins.{HasHalted};
     ghost use Rattle.engine.specs.Receipts.{Asks, Refuses};
-    ghost use Rattle.engine.specs.Calls.{Called, ReportsLast, ReportsFault, ReportsEnd, DeclinesCall, AskPrepare, ReportsPrepare, DeclinesPrepare, note_of_draw, AskCommit, ReportsCommit, ArePolls, note_of_commit};
+    ghost use Rattle.engine.specs.Calls.{Called, ReportsLast, ReportsFault, ReportsEnd, DeclinesCall, AskPrepare, ReportsPrepare, DeclinesPrepare, note_of_draw, AskCommit, ReportsCommit, ArePolls, note_of_commit, ReportsRefusal};
 
     /// Draws a timestamp and stamps all keys, or goes on from where an earlier call left that. `None` if nothing was written. Where
     /// the committer has ended, nothing is drawn any more, and it fails with the fault that ended that.
     pub fn prepare<R: Wait>(&mut self, rt: &R) -> Result<Option<Ts>, Fault>
         ensures steps { Called self.old.receipts.items self.new.receipts.items (λ added. AskPrepare self.old.phase added × MatchResult result (ReportsPrepare self.old.phase added) (DeclinesPrepare (HasHalted J.image) self.old.phase added)) }
+        ensures refusal { ReportsRefusal (added_since self.old.receipts.items self.new.receipts.items) result }
         ensures ok { IfOk result (λ answer. self.new.phase ≡ prepared (number_of self.old.phase) answer) }
         ensures phase { self.new.phase ≡ phase_after self.old.phase (added_since self.old.receipts.items self.new.receipts.items) }
     {
@@ -56,6 +57,7 @@ impl<D: Pmem + Drop, J: Origin, B: Drop> Session<D, J, B> {
     /// ends first, it fails with the fault that ended that, and with OutOfMemory where that is refused memory again and again.
     pub fn commit<R: Wait>(&mut self, rt: &R) -> Result<Option<Ts>, Fault>
         ensures steps { Called self.old.receipts.items self.new.receipts.items (λ added. AskCommit self.old.phase added × MatchResult result (ReportsCommit self.old.phase added) (DeclinesCall (HasHalted J.image) self.old.phase added)) }
+        ensures refusal { ReportsRefusal (added_since self.old.receipts.items self.new.receipts.items) result }
         ensures ok { OnOk result (self.new.phase ≡ Idle) }
         ensures phase { self.new.phase ≡ phase_after self.old.phase (added_since self.old.receipts.items self.new.receipts.items) }
     {
@@ -93,6 +95,7 @@ impl<D: Pmem + Drop, J: Origin, B: Drop> Session<D, J, B> {
     // Stamps the keys that aren't yet.
     fn stamp_all<R: Wait>(&mut self, rt: &R, number: u8) -> Result<(), Fault>
         ensures steps { Called self.old.receipts.items self.new.receipts.items (λ added. All (λ r. r.step ≡ Stamp number) added × MatchResult result (λ _. ReportsLast added AllStamped) (ReportsFault added)) }
+        ensures refusal { ReportsRefusal (added_since self.old.receipts.items self.new.receipts.items) result }
         ensures stamped { OnOk result (self.new.phase ≡ Stamped number (timestamp_of self.old.phase)) }
     {
         for _ in rt.forever() {
@@ -114,6 +117,7 @@ impl<D: Pmem + Drop, J: Origin, B: Drop> Session<D, J, B> {
         timestamp: Option<Ts>,
     ) -> Result<Option<Ts>, Fault>
         ensures steps { Called self.old.receipts.items self.new.receipts.items (λ added. ArePolls number added × MatchResult result (λ answer. ReportsLast added (note_of_commit answer)) (ReportsEnd (HasHalted J.image) added)) }
+        ensures refusal { ReportsRefusal (added_since self.old.receipts.items self.new.receipts.items) result }
     {
         for _ in rt.forever() {
             if let Err(fault) = self.wait_once(rt, timestamp) {

@@ -1,0 +1,64 @@
+-- What is due once a reply was noted.
+use Rattle.std.proofs.Common.{◌≡◌, ◌∙◌, ℕ, Bool, true, false, not, ◌&&◌, ◌||◌, if◌then◌else◌, List, refl, sym, ap, subst, arith}
+use Rattle.std.specs.Prelude.{MatchOption, Option, Some}
+use Rattle.base.specs.declared.gap.Gap.{Gap}
+use Rattle.base.specs.declared.step.Reply.{Reply}
+use Rattle.machine.specs.Machine.{State}
+use Rattle.room.specs.declared.status.Status.{Status}
+use Rattle.room.specs.Room.{ShowsStatus}
+use Rattle.engine.specs.declared.due.Due.{Due}
+use Rattle.engine.specs.Due.{covered_after, due_after, goes_on, has_reason, tick_after, wakes_waiting, wanted_after, wants_record, wants_record_of}
+
+-- what was taken in of the reply
+pub record IsTakenIn (old mid : Due) (reply : Reply) : Type 0 where
+  pub tick : mid.tick ≡ tick_after old.tick reply
+  pub visit : mid.visit ≡ goes_on old reply
+  pub covered : mid.covered ≡ covered_after old.covered reply
+  pub wanted : mid.is_slot_wanted ≡ wanted_after old.is_slot_wanted reply
+  pub committer : mid.news.committer ≡ (old.news.committer || (not old.tick && tick_after old.tick reply))
+  pub collector : mid.news.collector ≡ old.news.collector
+  pub waiting : mid.news.waiting ≡ (old.news.waiting || wakes_waiting reply)
+
+-- and a visit was wanted then
+pub record IsWanted (mid new : Due) : Type 0 where
+  pub visit : new.visit ≡ true
+  pub collector : new.news.collector ≡ (mid.news.collector || not mid.visit)
+  pub others : (new.news.committer ≡ mid.news.committer) × (new.news.waiting ≡ mid.news.waiting)
+  pub tick : new.tick ≡ mid.tick
+  pub covered : new.covered ≡ if mid.visit then mid.covered else 0
+  pub wanted : new.is_slot_wanted ≡ if mid.visit then mid.is_slot_wanted else false
+
+-- where there is reason for a round
+pub round-due : (old mid new : Due) (reply : Reply) (enough : ℕ) → IsTakenIn old mid reply → IsWanted mid new → has_reason enough old reply ≡ true → new ≡ due_after old reply false enough
+round-due old mid new reply enough taken wanted reason = by (goes_on old reply) refl
+  where
+    by : (b : Bool) → goes_on old reply ≡ b → new ≡ due_after old reply false enough
+    by true is = grind (arith, taken.tick, taken.visit, taken.covered, taken.wanted, taken.committer, taken.collector, taken.waiting, wanted.visit, wanted.collector, wanted.others, wanted.tick, wanted.covered, wanted.wanted)
+    by false is = grind (arith, taken.tick, taken.visit, taken.covered, taken.wanted, taken.committer, taken.collector, taken.waiting, wanted.visit, wanted.collector, wanted.others, wanted.tick, wanted.covered, wanted.wanted)
+
+-- a reply that makes a record due leaves a tick due or not, as it was
+wants-same : (reply : Reply) (dirty : ℕ) (gaps : List Gap) (next window : ℕ) → wants_record_of reply dirty gaps next window ≡ true → (due : Bool) → tick_after due reply ≡ due
+wants-same reply dirty gaps next window wants due = grind arith
+
+-- where a record is wanted
+pub record-due : (old mid new : Due) (reply : Reply) (enough quarter : ℕ) (status : Status) (q : State) (window : ℕ) → ShowsStatus q status → window ≡ q.layout.window → quarter ≡ enough
+    → wants_record_of reply status.dirty status.gaps status.next window ≡ true → mid ≡ due_after old reply false quarter
+    → new.tick ≡ true → new.news.committer ≡ (mid.news.committer || not mid.tick) → (new.news.collector ≡ mid.news.collector) × (new.news.waiting ≡ mid.news.waiting) → new.visit ≡ mid.visit
+    → (new.covered ≡ mid.covered) × (new.is_slot_wanted ≡ mid.is_slot_wanted) → new ≡ due_after old reply (wants_record reply q.ruling q.next q.layout.window) enough
+record-due old mid new reply enough quarter status q window s width same wants noted tick committer others visit counts =
+    subst (λ (b : Bool). new ≡ due_after old reply b enough) (sym here)
+    (subst (λ (n : ℕ). new ≡ due_after old reply true n) same (with-tick (wants-same reply status.dirty status.gaps status.next window wants old.tick)))
+  where
+    here : wants_record reply q.ruling q.next q.layout.window ≡ true
+    here =
+        sym (ap (λ (d : ℕ). wants_record_of reply d status.gaps status.next window) s.dirty
+        ∙ (ap (λ (gs : List Gap). wants_record_of reply q.ruling.dirty gs status.next window) s.gaps
+        ∙ (ap (λ (n : ℕ). wants_record_of reply q.ruling.dirty q.ruling.gaps n window) s.next ∙ ap (λ (n : ℕ). wants_record_of reply q.ruling.dirty q.ruling.gaps q.next n) width)))
+        ∙ wants
+
+    with-tick : tick_after old.tick reply ≡ old.tick → new ≡ due_after old reply true quarter
+    with-tick still = grind (arith, noted, tick, committer, others, visit, counts, still)
+
+-- of the room that is there
+pub match-some : {A : Type 0} (N : Type 0) (P : A → Type 0) (o : Option A) (x : A) → o ≡ Some x → P x → MatchOption o N P
+match-some {A} N P o x is p = subst (λ (a : Option A). MatchOption a N P) (sym is) p
