@@ -6,7 +6,7 @@ use Rattle.base.specs.declared.key.Key.{Key}
 use Rattle.base.specs.declared.step.Note.{Note}
 use Rattle.base.specs.declared.step.Note.TheVariants.{Committed, Done, Drawn as DrewAs, Refused}
 use Rattle.base.specs.declared.step.Step.{Step}
-use Rattle.base.specs.declared.step.Step.TheVariants.{Draw, End, Poll}
+use Rattle.base.specs.declared.step.Step.TheVariants.{Draw, End, Poll, Put}
 use Rattle.base.specs.Commits.{Commit, Lists, after}
 use Rattle.base.specs.Images.{Image, opening_fault}
 use Rattle.machine.specs.Machine.{State}
@@ -18,9 +18,10 @@ use Rattle.audited.specs.Audit.{IsAudited}
 use Rattle.audited.specs.declared.receipt.Receipt.{Receipt}
 use Rattle.engine.specs.Agreement.{Agrees}
 use Rattle.engine.specs.declared.phase.Phase.{Phase}
-use Rattle.engine.specs.declared.phase.Phase.TheVariants.{Drawn, Stamped}
+use Rattle.engine.specs.declared.phase.Phase.TheVariants.{Drawn, Idle, Stamped}
 use Rattle.engine.specs.Calls.{ReportsLast}
 use Rattle.engine.specs.Origins.{IsRunFrom}
+use Rattle.engine.specs.Phases.{phase_after}
 use Rattle.room.specs.declared.room.Room.{Room}
 use Rattle.room.specs.declared.status.Status.{Status}
 
@@ -87,10 +88,11 @@ abbrev pub acknowledged : List Receipt → ℕ
 acknowledged [] = 0
 acknowledged (r ∷ rest) = (if is_acknowledged r rest then 1 else 0) + acknowledged rest
 
--- Exactly so many commits were made: so many were acknowledged, and no timestamp was drawn beyond
+-- Exactly so many commits were made: so many were acknowledged, no timestamp was drawn beyond, and no transaction is open
 pub record Makes (commits : ℕ) (receipts : List Receipt) : Type 0 where
   pub acknowledges : acknowledged receipts ≡ commits
   pub drawn : draws receipts ≤ commits
+  pub closed : phase_after Idle receipts ≡ Idle
 
 -- whether the transaction has drawn a timestamp, as a number
 abbrev pub pending : Phase → ℕ
@@ -108,14 +110,18 @@ pub record MakesOne (phase : Phase) (old new : List Receipt) : Type 0 where
   pub acknowledges : acknowledged new ≡ acknowledged old + 1
   pub drawn : draws new + pending phase ≤ draws old + 1
 
+-- the last step put this row under this key
+abbrev pub EndsInPut : Key → List ℕ → List Receipt → Type 0
+EndsInPut key row receipts = (n : ℕ) × (before : List Receipt) × (put : Receipt) × (receipts ≡ before ++ put ∷ []) × (put.step ≡ Put n key row) × (put.note ≡ Done)
+
 -- the last receipt's step was refused with this fault, or it is what ended the committer
 abbrev pub IsRefusedWith : (Fault → Type 0) → List Receipt → Fault → Type 0
 IsRefusedWith Halted receipts fault = ReportsLast receipts (Refused fault) ⊎ Halted fault
 
--- the last steps are a poll, which reported that nothing was written, and one after it
+-- the last steps are a poll, which reported that nothing was written, and the end of its transaction, which was done
 abbrev pub ReportsNothing : List Receipt → Type 0
 ReportsNothing receipts =
-    (n : ℕ) × (before : List Receipt) × (poll last : Receipt) × (receipts ≡ (before ++ poll ∷ []) ++ last ∷ []) × (poll.step ≡ Poll n) × (poll.note ≡ Done)
+    (n : ℕ) × (before : List Receipt) × (poll end : Receipt) × (receipts ≡ (before ++ poll ∷ []) ++ end ∷ []) × (poll.step ≡ Poll n) × (poll.note ≡ Done) × (end.step ≡ End n) × (end.note ≡ Done)
 
 -- So it is, and a thread that meets the fault gives up; or a commit reported that nothing was written, which no step of a run does after a put
 pub record GivesUp (Halted : Fault → Type 0) (receipts : List Receipt) (fault : Fault) : Type 0 where

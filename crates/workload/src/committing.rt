@@ -1,10 +1,10 @@
-ghost use Rattle.std.specs.Prelude.{◌≡◌, ◌≢◌, ◌⊎◌, [], true, false, All, IfErr, IfOk, MatchBool, OnOk};
+ghost use Rattle.std.specs.Prelude.{◌≡◌, ◌≢◌, ◌⊎◌, [], true, false, All, IfErr, IfOk, IsTrue, MatchBool, OnOk};
 ghost use Rattle.base.specs.declared.fault.Fault.TheVariants.{OutOfMemory, WrongState};
 ghost use Rattle.base.specs.declared.step.Note.TheVariants.{Refused};
 ghost use Rattle.engine.specs.declared.phase.Phase.TheVariants.{Idle};
 ghost use Rattle.engine.specs.Calls.{ReportsLast};
 ghost use Rattle.engine.specs.Origins.{HasHalted};
-ghost use Rattle.workload.specs.Load.{GivesUp, IsRefusedWith, Makes, MakesNone, MakesOne, ReportsNothing, Works, may_pass};
+ghost use Rattle.workload.specs.Load.{EndsInPut, GivesUp, IsRefusedWith, Makes, MakesNone, MakesOne, ReportsNothing, Works, may_pass};
 ghost use Rattle.workload.specs.Tasks.{AllWork, AreFresh};
 
 use crate::task::Task;
@@ -88,6 +88,7 @@ fn make_commit<T: Wait, D: Pmem + Drop, J: Origin, B: Drop>(
     row: Row,
 ) -> Result<(), Fault>
     ensures ok { OnOk result (MakesOne session.old.phase session.old.receipts.items session.new.receipts.items) }
+    ensures closed { OnOk result (session.new.phase ≡ Idle) }
     ensures err { IfErr result (GivesUp (HasHalted J.image) session.new.receipts.items) }
 {
     for _ in rt.forever() {
@@ -113,6 +114,7 @@ fn attempt<T: Wait, D: Pmem + Drop, J: Origin, B: Drop>(
 ) -> Result<bool, Fault>
     ensures ok { IfOk result (λ made. MatchBool made (MakesOne session.old.phase session.old.receipts.items session.new.receipts.items)
         (MakesNone session.old.phase session.old.receipts.items session.new.phase session.new.receipts.items)) }
+    ensures closed { IfOk result (λ made. IsTrue made → session.new.phase ≡ Idle) }
     ensures err { IfErr result (GivesUp (HasHalted J.image) session.new.receipts.items) }
 {
     match try_commit(rt, session, key, row) {
@@ -132,6 +134,7 @@ fn try_commit<T: Wait, D: Pmem + Drop, J: Origin, B: Drop>(
     row: Row,
 ) -> Result<(), Fault>
     ensures ok { OnOk result (MakesOne session.old.phase session.old.receipts.items session.new.receipts.items) }
+    ensures closed { OnOk result (session.new.phase ≡ Idle) }
     ensures none { IfErr result (λ fault. may_pass fault ≡ true → MakesNone session.old.phase session.old.receipts.items session.new.phase session.new.receipts.items) }
     ensures err { IfErr result (λ fault. (fault ≡ OutOfMemory) ⊎ (((fault ≡ WrongState) × ReportsNothing session.new.receipts.items) ⊎ IsRefusedWith (HasHalted J.image) session.new.receipts.items fault)) }
 {
@@ -173,6 +176,7 @@ fn begin_with<T: Wait, D: Pmem + Drop, J: Origin, B: Drop>(
     row: Row,
 ) -> Result<(), Fault>
     requires { session.old.phase ≡ Idle }
+    ensures put { OnOk result (EndsInPut key row session.new.receipts.items) }
     ensures none { MakesNone session.old.phase session.old.receipts.items session.new.phase session.new.receipts.items }
     ensures is_open { OnOk result (session.new.phase ≢ Idle) }
     ensures err { IfErr result (λ fault. (fault ≡ OutOfMemory) ⊎ ReportsLast session.new.receipts.items (Refused fault)) }
