@@ -1,6 +1,6 @@
 -- How a line that is no command is met, passed on and reported.
 use Rattle.std.proofs.Common.{◌≡◌, ℕ, ◌+◌, ◌-◌, ◌^◌, false, List, [], ◌∷◌, ◌++◌, length, sym, ◌∙◌, ap, subst, append-nil}
-use Rattle.std.specs.Prelude.{Option, Some, None, is_some, option_map, option_and_then, Result, Ok, Err, IsErrAnd, IfErr, IfSome, All, min, ⊤}
+use Rattle.std.specs.Prelude.{Option, Some, None, is_some, Result, Ok, Err, IsErrAnd, IfErr, IfSome, All, min, ⊤}
 use Rattle.std.specs.Io.KnownBytes.{Appends}
 use Rattle.base.specs.Commits.{Commit}
 use Rattle.machine.specs.Machine.{State}
@@ -16,12 +16,11 @@ use Rattle.command_line.specs.Lines.{line_of}
 use Rattle.command_line.specs.Numbers.{Text}
 use Rattle.command_line.specs.Scripts.{IsWrongLine}
 use Rattle.command_line.specs.Texts.{text_of}
-use Rattle.command_line.specs.declared.command.Command.{Command}
 use Rattle.command_line.specs.declared.command.Survivor.{Survivor}
 use Rattle.command_line.specs.declared.orders.Order.{Order}
 use Rattle.command_line.specs.declared.orders.Order.TheVariants.{Format, Run, Check, Threads, Lives}
 use Rattle.command_line.specs.declared.printed.Printed.TheVariants as printed
-use Rattle.console.specs.BadLine.{BlamesNoLine, EndsAtBadLine, EndsAtLine, IfBadLine, IsLineOf, IsPassed, MeetsBadLine, PrintsBadLine, ReportsLine, kept_by, kept_in}
+use Rattle.console.specs.BadLine.{BlamesNoLine, EndsAtBadLine, EndsAtLine, IfBadLine, IsLineOf, IsPassed, MeetsBadLine, PrintsBadLine, ReportsLine, kept_in}
 use Rattle.console.specs.Input.{BeginsWith}
 use Rattle.console.specs.Kept.{Leads}
 use Rattle.console.specs.Lives.{opened_text}
@@ -32,13 +31,6 @@ use Rattle.console.proofs.Lives.{begun-of}
 use Rattle.console.proofs.Obeyed.{appends-more, appends-none}
 
 -- ---- what a line keeps
-
-pub kept-so : (line : Text) (command : Command) (keeps : Option Survivor) → line_of line ≡ Some (Some command) → keeps ≡ kept_by command → kept_in line ≡ Some keeps
-kept-so line command keeps is e =
-    ap (λ (read : Option (Option Command)). option_map (option_and_then kept_by) read) is ∙ ap (λ (k : Option Survivor). Some k) (sym e)
-
-pub skipped-so : (line : Text) → line_of line ≡ Some None → kept_in line ≡ Some None
-skipped-so line is = ap (λ (read : Option (Option Command)). option_map (option_and_then kept_by) read) is
 
 pub passed-so : (line : Text) (keeps : Option Survivor) → is_some keeps ≡ false → kept_in line ≡ Some keeps → IsPassed line
 passed-so line keeps none is = is ∙ ap (λ (k : Option Survivor). Some k) (is_some-none keeps none)

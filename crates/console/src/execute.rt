@@ -1,4 +1,4 @@
-ghost use Rattle.std.specs.Prelude.{◌≡◌, ◌⊎◌, ◌≤◌, ◌↔◌, ◌++◌, ◌∷◌, [], codes, decimal, IfErr, IfOk, IfSome, IsSome, IsTrue, None, OnOk, Some, is_some};
+ghost use Rattle.std.specs.Prelude.{◌≡◌, ◌≢◌, ◌⊎◌, ◌≤◌, ◌↔◌, ◌++◌, ◌∷◌, [], codes, decimal, IfErr, IfOk, IfSome, IsSome, IsTrue, None, OnOk, Some, is_some};
 ghost use Rattle.std.specs.Io.KnownBytes.{Appends};
 ghost use Rattle.base.specs.Layout.{total_words};
 ghost use Rattle.command_line.specs.ImageFile.{IsFileOf};
@@ -9,7 +9,10 @@ ghost use Rattle.console.specs.Kept.{HasLimits, IfCheck, IfLives, IfReadsNoInput
 ghost use Rattle.console.specs.Printed.{Prints};
 ghost use Rattle.console.specs.Scripts.{PrintsLives};
 ghost use Rattle.console.specs.Refusals.{AreKnown, EndsRefused, EndsWith, IfRefused, IsFaultOf, Refuses, WantsMemory, refusal_line, status_of};
+ghost use Rattle.console.specs.declared.stop.Stop.TheVariants.{Broken};
 ghost use Rattle.base.specs.declared.fault.Fault.TheVariants.{OutOfMemory};
+ghost use Rattle.std.specs.declared.io.ErrorKind.{ErrorKind as ErrorKindValue};
+ghost use Rattle.std.specs.declared.io.ErrorKind.TheVariants.{OutOfMemory as NoMemory};
 
 use crate::checking::check_file;
 use crate::ended::Ended;
@@ -149,6 +152,7 @@ fn report_stop<W: Write>(alloc: Global, stop: &Stop, output: &mut W) -> Ended
     ensures none { result.file ≡ None }
     ensures bad_line { IfSome result.stopped (IfBadLine (λ number. IsLineOf stop.now number × PrintsBadLine (W.contents output.old) (W.contents output.new) number)) }
     ensures refused { IfSome result.stopped (IfRefused (λ fault. IsFaultOf stop.now fault × Appends (W.contents output.old) (W.contents output.new) (refusal_line fault))) }
+    ensures broken { (reason : ErrorKindValue) → stop.now ≡ Broken reason → reason ≢ NoMemory → result.stopped ≡ Some (Broken reason) }
 {
     let printed = announce(alloc, stop, output);
     Ended {
@@ -162,6 +166,9 @@ fn report_stop<W: Write>(alloc: Global, stop: &Stop, output: &mut W) -> Ended
 fn announce<W: Write>(alloc: Global, stop: &Stop, output: &mut W) -> Stop
     ensures bad_line { IfBadLine (λ number. IsLineOf stop.now number × PrintsBadLine (W.contents output.old) (W.contents output.new) number) result }
     ensures refused { IfRefused (λ fault. IsFaultOf stop.now fault × Appends (W.contents output.old) (W.contents output.new) (refusal_line fault)) result }
+
+    // An input or an output that failed for another reason than want of memory is reported as failing.
+    ensures broken { (reason : ErrorKindValue) → stop.now ≡ Broken reason → reason ≢ NoMemory → result ≡ Broken reason }
 {
     match *stop {
         Stop::Refused(fault) => refuse(alloc, fault, output),
