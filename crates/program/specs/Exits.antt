@@ -1,7 +1,7 @@
 -- What the program's end says of the words that it was given.
-use Rattle.std.specs.Prelude.{◌≡◌, ℕ, ◌≤◌, true, List, ⊤}
+use Rattle.std.specs.Prelude.{◌≡◌, ◌⊎◌, ℕ, ◌≤◌, Bool, false, true, List, [], ⊤}
 use Rattle.command_line.specs.Numbers.{Text}
-use Rattle.command_line.specs.Words.{Gives}
+use Rattle.command_line.specs.Words.{Gives, GivesNothing}
 use Rattle.command_line.specs.declared.orders.Order.{Order}
 use Rattle.command_line.specs.declared.orders.Order.TheVariants.{Format, Run, Check, Lives, Threads}
 use Rattle.command_line.specs.declared.orders.WordFault.{WordFault}
@@ -26,6 +26,34 @@ NameFile words name = (order : Order) × Gives words order × (file_of order ≡
 -- the words give an order that writes this file
 abbrev pub NameWritten : List Text → Text → Type 0
 NameWritten words name = (order : Order) × Gives words order × (file_of order ≡ name) × (writes_file order ≡ true)
+
+-- the words give no order, or one that writes no file
+abbrev pub WriteNoFile : List Text → Type 0
+WriteNoFile words = GivesNothing words ⊎ ((order : Order) × Gives words order × (writes_file order ≡ false))
+
+-- the order obeys lines: a run those of the input, and lives those of a script
+abbrev pub obeys_lines : Order → Bool
+obeys_lines (Format name wide slots places window) = false
+obeys_lines (Run name) = true
+obeys_lines (Check name) = false
+obeys_lines (Lives name) = true
+obeys_lines (Threads name sessions commits) = false
+
+-- the words are none, which obey the input, or give an order that obeys lines
+abbrev pub ObeyLines : List Text → Type 0
+ObeyLines words = (words ≡ []) ⊎ ((order : Order) × Gives words order × (obeys_lines order ≡ true))
+
+-- the order is a run, whose lines are those of the input
+abbrev pub reads_input : Order → Bool
+reads_input (Format name wide slots places window) = false
+reads_input (Run name) = true
+reads_input (Check name) = false
+reads_input (Lives name) = false
+reads_input (Threads name sessions commits) = false
+
+-- the words are none, which obey the input, or give a run
+abbrev pub ReadInput : List Text → Type 0
+ReadInput words = (words ≡ []) ⊎ ((order : Order) × Gives words order × (reads_input order ≡ true))
 
 -- the exit status where this is reported: 2 of bad words, 1 where a file, the input or the output failed
 abbrev pub HasStatus : Diagnostic → ℕ → Type 0

@@ -10,7 +10,12 @@ pub struct Heard<'a, T> {
 }
 
 impl<'a, T> Heard<'a, T> {
-    pub fn new(stream: &'a mut T) -> Heard<'a, T> {
+    ghost use Rattle.std.specs.Prelude.{◌≡◌};
+
+    pub fn new(stream: &'a mut T) -> Heard<'a, T>
+        ensures same { result.stream.ghost_name ≡ stream.entry.ghost_name }
+        ensures stream { result.stream.now ≡ stream.old }
+    {
         Heard {
             stream,
             failure: None,

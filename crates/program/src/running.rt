@@ -1,11 +1,12 @@
-ghost use Rattle.std.specs.Prelude.{◌≡◌, ◌≢◌, [], true, None, IfSome};
+ghost use Rattle.std.specs.Prelude.{◌≡◌, ◌≢◌, ◌⊎◌, [], false, true, None, IfSome};
 ghost use Rattle.std.specs.Io.KnownBytes.{Appends};
 ghost use Rattle.command_line.specs.Help.{GetsHelp, MayGetHelp};
 ghost use Rattle.command_line.specs.Lines.{texts};
 ghost use Rattle.command_line.specs.Words.{GivesNothing};
-ghost use Rattle.console.specs.Kept.{writes_file};
+ghost use Rattle.console.specs.Kept.{IfReadsNoInput, writes_file};
 ghost use Rattle.console.specs.Refusals.{status_of};
-ghost use Rattle.program.specs.Exits.{HasStatus, IfBadWords, IfFileFault, IsBadWords, IsHelp, NameFile, NameWritten, file_of};
+ghost use Rattle.program.specs.Exits.{HasStatus, IfBadWords, IfFileFault, IsBadWords, IsHelp, NameFile, NameWritten, ObeyLines, ReadInput, WriteNoFile, file_of, obeys_lines};
+ghost use Rattle.program.specs.declared.running.Diagnostic.TheVariants.{Nothing as NothingPrinted};
 
 use crate::files::{Target, find, name_of};
 use crate::heard::Heard;
@@ -68,8 +69,17 @@ pub fn run_words<
     ensures file { IfFileFault (NameFile (texts words.now)) result.diagnostic }
     ensures unwritten { IfSome result.unwritten (λ name. NameWritten (texts words.now) name.now) }
 
+    // Where neither a file nor the input nor the output is reported as failing, a run that fails names the file that it was to write.
+    ensures named { result.status ≢ 0 → result.diagnostic ≡ NothingPrinted → result.unwritten ≡ None → WriteNoFile (texts words.now) }
+
+    // Only a line that is no command ends words that aren't bad with 2.
+    ensures lines { result.status ≡ 2 → result.diagnostic ≡ NothingPrinted → ObeyLines (texts words.now) }
+
     // Words that give an order, and no words, are never bad. Bad ones touch neither input nor output, and don't ask for help alone.
     ensures bad_words { IfBadWords ((texts words.now ≢ []) × GivesNothing (texts words.now) × (GetsHelp (texts words.now) → ⊥) × (input.new ≡ input.old) × (output.new ≡ output.old)) result.diagnostic }
+
+    // No words, and those of a run, alone read the input.
+    ensures unread { (input.new ≡ input.old) ⊎ ReadInput (texts words.now) }
 
     // Words that give no order end with 0 only where help was asked for.
     ensures help { texts words.now ≢ [] → GivesNothing (texts words.now) → result.status ≡ 0 → MayGetHelp (texts words.now) }
@@ -96,7 +106,7 @@ fn run_fresh<'a, H: Threads + Wait + Copy + Drop + Send + Sync + 'static, R: Rea
 {
     let file = match Geometry::new(4, 2, 8).and_then(|geometry| fresh_file(alloc, geometry)) {
         Ok(file) => file,
-        Err(fault) => return refuse(alloc, fault, output),
+        Err(fault) => return refuse(alloc, fault, None, output),
     };
     let order = Order::Run { file: "" };
     let mut input = Heard::new(input);
@@ -121,6 +131,9 @@ fn obey<
     ensures written { result.status ≡ 0 → result.unwritten ≡ None }
     ensures file { IfFileFault (λ name. file_of order.now ≡ name) result.diagnostic }
     ensures unwritten { IfSome result.unwritten (λ name. (file_of order.now ≡ name.now) × (writes_file order.now ≡ true)) }
+    ensures named { result.status ≢ 0 → result.diagnostic ≡ NothingPrinted → result.unwritten ≡ None → writes_file order.now ≡ false }
+    ensures lines { result.status ≡ 2 → result.diagnostic ≡ NothingPrinted → obeys_lines order.now ≡ true }
+    ensures unread { IfReadsNoInput order.now (input.new ≡ input.old) }
     ensures bad_words { IfBadWords ⊥ result.diagnostic }
 {
     let name = name_of(order);
@@ -128,8 +141,9 @@ fn obey<
         Ok(found) => found,
         Err(reason) => return fail(alloc, name, reason, output),
     };
+    let unwritten = found.target.is_some().then_some(name);
     let Ok(mut held) = LastLine::new(alloc, Heard::new(output)) else {
-        return refuse(alloc, Fault::OutOfMemory, output);
+        return refuse(alloc, Fault::OutOfMemory, unwritten, output);
     };
     let mut input = Heard::new(input);
     let Ended {
@@ -155,7 +169,7 @@ fn obey<
     Exit {
         status,
         diagnostic: diagnostic_of(stopped, failure),
-        unwritten: found.target.is_some().then_some(name),
+        unwritten,
     }
 }
 
@@ -170,6 +184,7 @@ fn put<'a, H: Files<File = File>, W: Write + Drop>(
 ) -> Exit<'a>
     ensures status { HasStatus result.diagnostic result.status }
     ensures written { result.status ≡ 0 → result.unwritten ≡ None }
+    ensures reason { result.status ≢ 0 → result.diagnostic ≢ NothingPrinted }
     ensures file { IfFileFault (λ at. at ≡ name.now) result.diagnostic }
     ensures unwritten { IfSome result.unwritten (λ at. at.now ≡ name.now) }
     ensures bad_words { IfBadWords ⊥ result.diagnostic }
@@ -193,6 +208,7 @@ fn put<'a, H: Files<File = File>, W: Write + Drop>(
 
 fn say<'a, W: Write + Drop>(held: LastLine<W>) -> Exit<'a>
     ensures status { HasStatus result.diagnostic result.status }
+    ensures reason { result.status ≢ 0 → result.diagnostic ≢ NothingPrinted }
     ensures unwritten { result.unwritten ≡ None }
     ensures file { IfFileFault (λ _. ⊥) result.diagnostic }
     ensures bad_words { IfBadWords ⊥ result.diagnostic }
@@ -226,10 +242,16 @@ fn diagnostic_of<'a>(stopped: Option<Stop>, failure: Option<io::Error>) -> Diagn
     }
 }
 
-fn refuse<'a, W: Write>(alloc: Global, fault: Fault, output: &mut W) -> Exit<'a>
+// Prints why the work wasn't begun. This file stays as it was.
+fn refuse<'a, W: Write>(
+    alloc: Global,
+    fault: Fault,
+    unwritten: Option<&'a str>,
+    output: &mut W,
+) -> Exit<'a>
     ensures status { HasStatus result.diagnostic result.status }
     ensures failed { result.status ≡ 1 }
-    ensures unwritten { result.unwritten ≡ None }
+    ensures unwritten { result.unwritten ≡ unwritten.entry }
     ensures file { IfFileFault (λ _. ⊥) result.diagnostic }
     ensures bad_words { IfBadWords ⊥ result.diagnostic }
 {
@@ -240,7 +262,7 @@ fn refuse<'a, W: Write>(alloc: Global, fault: Fault, output: &mut W) -> Exit<'a>
     Exit {
         status: FAILED,
         diagnostic,
-        unwritten: None,
+        unwritten,
     }
 }
 
@@ -248,6 +270,7 @@ fn refuse<'a, W: Write>(alloc: Global, fault: Fault, output: &mut W) -> Exit<'a>
 fn fail<'a, W: Write>(alloc: Global, file: &'a str, reason: io::Error, output: &mut W) -> Exit<'a>
     ensures status { HasStatus result.diagnostic result.status }
     ensures failed { result.status ≡ 1 }
+    ensures reason { result.diagnostic ≢ NothingPrinted }
     ensures unwritten { result.unwritten ≡ None }
     ensures file { IfFileFault (λ at. at ≡ file.now) result.diagnostic }
     ensures bad_words { IfBadWords ⊥ result.diagnostic }
@@ -263,6 +286,7 @@ fn fail<'a, W: Write>(alloc: Global, file: &'a str, reason: io::Error, output: &
 // Prints the help that was asked for, or reports what is wrong with the words.
 fn report_words<'a, W: Write>(fault: WordFault, output: &mut W) -> Exit<'a>
     ensures status { HasStatus result.diagnostic result.status }
+    ensures reason { result.status ≢ 0 → result.diagnostic ≢ NothingPrinted }
     ensures unwritten { result.unwritten ≡ None }
     ensures file { IfFileFault (λ _. ⊥) result.diagnostic }
     ensures bad_words { IfBadWords (IsBadWords fault × (output.new ≡ output.old)) result.diagnostic }
@@ -285,6 +309,7 @@ fn report_words<'a, W: Write>(fault: WordFault, output: &mut W) -> Exit<'a>
 
 fn show_help<'a, W: Write>(text: &str, output: &mut W) -> Exit<'a>
     ensures status { HasStatus result.diagnostic result.status }
+    ensures reason { result.status ≢ 0 → result.diagnostic ≢ NothingPrinted }
     ensures unwritten { result.unwritten ≡ None }
     ensures file { IfFileFault (λ _. ⊥) result.diagnostic }
     ensures bad_words { IfBadWords ⊥ result.diagnostic }
