@@ -1,14 +1,34 @@
 -- What a database is opened over.
 use Rattle.std.specs.Prelude.{◌≡◌, ◌≢◌, ◌⊎◌, None, Some}
+use Rattle.std.specs.declared.io.Error.{Error}
 use Rattle.base.specs.declared.fault.Fault.{Fault}
 use Rattle.base.specs.Images.{opening_fault}
 use Rattle.base.specs.Layout.{Layout, opened_layout}
 use Rattle.database.specs.Opening.{IsOpeningRefusal}
 use Rattle.log_area.specs.Rulings.{IsLaidOut, layout_damage}
 use Rattle.pmem.specs.Device.{Device}
+use Rattle.pmem_file.below.journal.specs.declared.journaled.JournaledImages.{JournaledImages}
+use Rattle.pmem_file.below.journal.specs.contracts.journaled.JournaledImagesImages.TheImpl as images
+use Rattle.pmem_file.specs.contracts.storage.FileStorage as storage_type
+use Rattle.pmem_file.specs.contracts.storage.FileSync as sync_type
+use Rattle.pmem_file.specs.contracts.storage.FileStorageStorage.TheImpl as storage
+use Rattle.pmem_file.specs.declared.journaled.JournaledPmem.{JournaledPmem}
+use Rattle.pmem_file.specs.declared.storage.FileStorage.{FileStorage}
+use Rattle.pmem_file.specs.declared.storage.FileSync.{FileSync}
+use Rattle.pmem_file.specs.Devices.{failure_of}
 use Rattle.pmem.specs.Words.{IsAtRest, image_of}
 use Rattle.recovery.specs.Fresh.{IsFormatRefusal}
 use Rattle.store.specs.declared.files.Refusal.{Refusal}
+
+-- a device whose image is kept in a file
+abbrev pub FileDevice : Type 0
+FileDevice =
+    JournaledPmem (JournaledImages FileStorage FileSync storage.ghosts) FileSync
+    (images.ghosts storage_type.the_row sync_type.the_row storage.ghosts images.no_dict images.no_dict)
+
+-- a write or a sync of such a file failed, for this cause
+abbrev pub HasLost : Error → Type 0
+HasLost cause = (device : FileDevice) × (failure_of device ≡ Some cause)
 
 -- The device is at rest, and its image has the layout that was asked for, but for version 1, which is opened as 2
 pub record IsFoundWith (layout : Layout) (device : Device) : Type 0 where
@@ -21,9 +41,13 @@ pub record IsFoundWith (layout : Layout) (device : Device) : Type 0 where
 abbrev pub OpensLayout : Layout → Type 0
 OpensLayout layout = (device : Device) × IsFoundWith layout device × (opening_fault (image_of device) ≡ None)
 
--- another layout is reported only where there is one
+-- a device at rest has this layout, and it isn't the one that was asked for
+abbrev pub HasOtherThan : Layout → Layout → Type 0
+HasOtherThan layout found = (opened_layout found ≢ opened_layout layout) × ((device : Device) × IsAtRest device × IsLaidOut found (image_of device))
+
+-- another layout is reported only where a device has it
 abbrev pub ReportsLayout : Layout → Refusal → Type 0
-ReportsLayout layout (Refusal.OtherLayout found) = opened_layout found ≢ opened_layout layout
+ReportsLayout layout (Refusal.OtherLayout found) = HasOtherThan layout found
 ReportsLayout layout _ = Unit {0}
 
 -- Why a device at rest isn't opened: it isn't formatted with this layout, for this fault; or its superblock is wrong, so; or it has the layout that
@@ -34,7 +58,8 @@ IsUnopened layout fault =
     ⊎ (((device : Device) × IsAtRest device × (layout_damage (image_of device) ≡ Some fault))
     ⊎ ((device now : Device) × IsFoundWith layout device × IsOpeningRefusal device now fault))
 
--- a fault is reported only where it is the reason
+-- a fault is reported only where it is the reason, and a file that failed only where one did
 abbrev pub ReportsFault : Layout → Refusal → Type 0
 ReportsFault layout (Refusal.Fault fault) = IsUnopened layout fault
+ReportsFault layout (Refusal.Lost cause) = HasLost cause
 ReportsFault layout _ = Unit {0}
