@@ -1,4 +1,4 @@
-// What each of the other stores is asked to do, and how it is told: the same work as crates/bench does, printed in its words.
+// What each of the other stores is asked to do: the same work as crates/bench does, printed in its words.
 #include <pthread.h>
 #include <stdatomic.h>
 #include <stdint.h>
