@@ -50,6 +50,18 @@ covered_since covered _ = covered
 abbrev pub GoesOn : Reply → Type 0
 GoesOn reply = (fault : Fault) → reply ≡ Refused fault → fault ≡ OutOfMemory
 
+-- Whatever isn't counted stays as it was: the commits that are waited for, the workers and whether they are to end, who leads, watches or syncs, and
+-- who is to be woken
+abbrev pub LeavesRest : {D : Type 0} → {G : Ghosts D} → Desk D G → Desk D G → Type 0
+LeavesRest old new =
+    (new.group ≡ old.group) × (new.working ≡ old.working) × (new.closing ≡ old.closing)
+    × (new.is_led ≡ old.is_led) × (new.is_watched ≡ old.is_watched) × (new.is_syncing ≡ old.is_syncing) × (new.syncs_apart ≡ old.syncs_apart)
+    × (new.is_answered ≡ old.is_answered) × (new.is_wanted ≡ old.is_wanted)
+
+-- so do all counts but that of the transactions that are open
+abbrev pub LeavesCounts : {D : Type 0} → {G : Ghosts D} → Desk D G → Desk D G → Type 0
+LeavesCounts old new = (new.covered ≡ old.covered) × (new.refusals ≡ old.refusals)
+
 -- The room makes one tick of the committer, and nothing else. Where it is refused, that is kept as the reason why the committer has ended, and
 -- nothing else is ever taken for it; want of memory doesn't end the committer, and is counted, as are the rows that it covered. The turn comes to what the tick was answered
 pub record TicksOnce {D : Type 0} {G : Ghosts D} (state : D → Device) (old new : Desk D G) (result : Turn) : Type 0 where
@@ -60,3 +72,5 @@ pub record TicksOnce {D : Type 0} {G : Ghosts D} (state : D → Device) (old new
   pub counted : new.refusals ≡ refusals_after old.refusals reply
   pub covered : new.covered ≡ covered_after old.covered reply
   pub turn : result ≡ turn_of reply
+  pub transactions : new.«open» ≡ old.«open»
+  pub rest : LeavesRest old new

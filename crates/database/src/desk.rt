@@ -72,6 +72,7 @@ impl<D: Pmem + Drop> Desk<D> {
     ghost use Rattle.std.specs.Option.{ForSome};
     ghost use Rattle.database.specs.Runs.{HasEnded};
     ghost use Rattle.database.specs.Obeys.{Obeys, InRoom, AnswersStep, ended_of};
+    ghost use Rattle.database.specs.Ticking.{LeavesRest, LeavesCounts};
     ghost use Rattle.database.specs.Committing.{BeginsWith, AnswersBegunWith, IsAnswered, IsAnsweredAt, IsGivenUp, HasLackedMemory, IsLeftWaiting, IsWithoutAnswer, IsSettledUpTo, AnswersOnce, IsReadFor, most_refusals, open_after};
 
     /// Opens a transaction. The number of its session.
@@ -81,6 +82,8 @@ impl<D: Pmem + Drop> Desk<D> {
         ensures made { AnswersStep Begin began_of result }
         ensures ended { ended_of self.new.room ≡ ended_of self.old.room }
         ensures open { self.new.open ≡ open_after self.old.open result }
+        ensures counts { LeavesCounts self.old self.new }
+        ensures rest { LeavesRest self.old self.new }
     {
         let Some(room) = &mut self.room else {
             unreachable!()
@@ -99,6 +102,8 @@ impl<D: Pmem + Drop> Desk<D> {
         ensures made { AnswersBegunWith writes.now result }
         ensures ended { ended_of self.new.room ≡ ended_of self.old.room }
         ensures open { self.new.open ≡ open_after self.old.open result }
+        ensures counts { LeavesCounts self.old self.new }
+        ensures rest { LeavesRest self.old self.new }
     {
         let Some(room) = &mut self.room else {
             unreachable!()
@@ -114,6 +119,8 @@ impl<D: Pmem + Drop> Desk<D> {
     pub fn leave(&mut self)
         ensures room { self.new.room ≡ self.old.room }
         ensures open { self.new.open ≡ self.old.open - 1 }
+        ensures counts { LeavesCounts self.old self.new }
+        ensures rest { LeavesRest self.old self.new }
     {
         self.open = self.open.saturating_sub(1);
     }
@@ -125,6 +132,8 @@ impl<D: Pmem + Drop> Desk<D> {
         ensures made { AnswersStep (Abort session) done_of result }
         ensures ended { ended_of self.new.room ≡ ended_of self.old.room }
         ensures open { self.new.open ≡ self.old.open }
+        ensures counts { LeavesCounts self.old self.new }
+        ensures rest { LeavesRest self.old self.new }
     {
         let Some(room) = &mut self.room else {
             unreachable!()
@@ -138,6 +147,9 @@ impl<D: Pmem + Drop> Desk<D> {
         ensures ended { ended_of self.new.room ≡ ended_of self.old.room }
         ensures some { IfSome result (IsAnswered session) }
         ensures none { IsTrue (is_some self.old.room) → IfNone result (IsLeftWaiting session (ended_of self.new.room) self.new.refusals) }
+        ensures open { self.new.open ≡ self.old.open }
+        ensures counts { LeavesCounts self.old self.new }
+        ensures rest { LeavesRest self.old self.new }
     {
         let Some(room) = &mut self.room else {
             return None;
@@ -158,6 +170,9 @@ impl<D: Pmem + Drop> Desk<D> {
         ensures ended { ended_of self.new.room ≡ ended_of self.old.room }
         ensures some { IfSome result (IsAnsweredAt session timestamp) }
         ensures none { IsTrue (is_some self.old.room) → IfNone result (IsWithoutAnswer session timestamp (ended_of self.new.room) self.new.refusals) }
+        ensures open { self.new.open ≡ self.old.open }
+        ensures counts { LeavesCounts self.old self.new }
+        ensures rest { LeavesRest self.old self.new }
     {
         match self.answer(session) {
             Some(answer) => answer_to(timestamp, answer),

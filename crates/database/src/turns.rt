@@ -2,7 +2,7 @@ ghost use Rattle.std.specs.Prelude.{◌≡◌, ◌-◌, ◌^◌, min, IsTrue, is
 ghost use Rattle.base.specs.declared.step.Step.TheVariants.{Collect};
 ghost use Rattle.database.specs.declared.turns.Turn.TheVariants.{Stopped};
 ghost use Rattle.database.specs.Obeys.{InRoom, Repeats, ended_of};
-ghost use Rattle.database.specs.Ticking.{TicksOnce, rows_written, covered_since};
+ghost use Rattle.database.specs.Ticking.{TicksOnce, LeavesRest, rows_written, covered_since};
 
 use crate::desk::{Desk, Shared};
 use crate::opened::OpenedRoom;
@@ -73,6 +73,8 @@ pub fn collect<D: Pmem + Drop>(desk: &mut Desk<D>) -> Turn
     ensures visits { IsTrue (is_some desk.old.room) → InRoom (λ old new. Repeats D.state old new Collect) desk.old.room desk.new.room }
     ensures covered { desk.new.covered ≡ covered_since desk.old.covered result }
     ensures ended { ended_of desk.new.room ≡ ended_of desk.old.room }
+    ensures counts { (desk.new.open ≡ desk.old.open) × (desk.new.refusals ≡ desk.old.refusals) }
+    ensures rest { LeavesRest desk.old desk.new }
 {
     if !desk.is_round_due() {
         return Turn::Idle;
@@ -110,7 +112,7 @@ impl<D: Pmem> Desk<D> {
     ghost use Rattle.base.specs.declared.step.Reply.TheVariants.{Refused};
     ghost use Rattle.database.specs.declared.turns.Turn.TheVariants.{Stopped};
     ghost use Rattle.database.specs.Committing.{HasLackedMemory};
-    ghost use Rattle.database.specs.Ticking.{turn_of, refusals_after, covered_after};
+    ghost use Rattle.database.specs.Ticking.{LeavesRest, turn_of, refusals_after, covered_after};
 
     // What a tick comes to that isn't refused.
     fn after_tick(&mut self, reply: &Reply) -> Turn
@@ -120,6 +122,8 @@ impl<D: Pmem> Desk<D> {
         ensures turn { result ≡ turn_of reply.now }
         ensures refusals { self.new.refusals ≡ refusals_after self.old.refusals reply.now }
         ensures covered { self.new.covered ≡ covered_after self.old.covered reply.now }
+        ensures open { self.new.open ≡ self.old.open }
+        ensures rest { LeavesRest self.old self.new }
     {
         self.refusals = 0;
         match reply {
@@ -141,6 +145,8 @@ impl<D: Pmem> Desk<D> {
         ensures turn { result ≡ turn_of (Refused fault) }
         ensures refusals { self.new.refusals ≡ refusals_after self.old.refusals (Refused fault) }
         ensures covered { self.new.covered ≡ covered_after self.old.covered (Refused fault) }
+        ensures open { self.new.open ≡ self.old.open }
+        ensures rest { LeavesRest self.old self.new }
     {
         match fault {
             Fault::OutOfMemory => {

@@ -24,6 +24,8 @@ returns-in-Refused-clause-once g c there = record {
   counted = c.after_refusal.ensures.refusals ∙ ap (refusals_after c.args.desk.now.refusals) (sym c.in-Refused.is);
   covered = c.after_refusal.ensures.covered ∙ ap (covered_after c.args.desk.now.covered) (sym c.in-Refused.is);
   turn = c.after_refusal.ensures.turn ∙ ap turn_of (sym c.in-Refused.is);
+  transactions = c.after_refusal.ensures.«open»;
+  rest = c.after_refusal.ensures.rest;
 }
 
 pub returns-clause-once : goal.returns-clause-once
@@ -35,6 +37,8 @@ returns-clause-once g c there = record {
   counted = c.after_tick.ensures.refusals;
   covered = c.after_tick.ensures.covered;
   turn = c.after_tick.ensures.turn;
+  transactions = c.after_tick.ensures.«open»;
+  rest = c.after_tick.ensures.rest;
 }
 
 pub returns-in-Refused-clause-stopped : goal.returns-in-Refused-clause-stopped
