@@ -50,6 +50,7 @@ impl<D: Pmem + Drop, J: Origin, B: Drop> Session<D, J, B> {
         ensures err { IfErr result (λ fault. ((self.old.phase ≡ Idle) × Refuses self.old.receipts.items self.new.receipts.items Begin fault)
             ⊎ ((self.old.phase ≢ Idle) × (fault ≡ WrongState) × (self.new.receipts.items ≡ self.old.receipts.items))) }
         ensures phase { IfErr result (λ fault. self.new.phase ≡ self.old.phase) }
+        ensures published { self.new.published ≡ self.old.published }
     {
         if !matches!(self.phase, Phase::Idle) {
             return Err(Fault::WrongState);
@@ -66,6 +67,7 @@ impl<D: Pmem + Drop, J: Origin, B: Drop> Session<D, J, B> {
         ensures ok { IfOk result (λ row. Answers self.old.phase self.old.receipts.items self.new.receipts.items (Get (number_of self.old.phase) key) (RowNote row)) }
         ensures err { IfErr result (λ fault. Declines self.old.phase self.old.receipts.items self.new.receipts.items (Get (number_of self.old.phase) key) fault) }
         ensures phase { self.new.phase ≡ self.old.phase }
+        ensures published { self.new.published ≡ self.old.published }
     {
         let session = self.number()?;
         match self.make(rt, Step::Get { session, key })? {
@@ -86,6 +88,7 @@ impl<D: Pmem + Drop, J: Origin, B: Drop> Session<D, J, B> {
         ensures ok { IfOk result (λ rows. Answers self.old.phase self.old.receipts.items self.new.receipts.items (Scan (number_of self.old.phase) table lo hi) (Rows rows.items)) }
         ensures err { IfErr result (λ fault. Declines self.old.phase self.old.receipts.items self.new.receipts.items (Scan (number_of self.old.phase) table lo hi) fault) }
         ensures phase { self.new.phase ≡ self.old.phase }
+        ensures published { self.new.published ≡ self.old.published }
     {
         let session = self.number()?;
         let scan = Step::Scan {
@@ -106,6 +109,7 @@ impl<D: Pmem + Drop, J: Origin, B: Drop> Session<D, J, B> {
         ensures ok { IfOk result (λ _. Answers self.old.phase self.old.receipts.items self.new.receipts.items (Put (number_of self.old.phase) key row) Done) }
         ensures err { IfErr result (λ fault. Declines self.old.phase self.old.receipts.items self.new.receipts.items (Put (number_of self.old.phase) key row) fault) }
         ensures phase { self.new.phase ≡ self.old.phase }
+        ensures published { self.new.published ≡ self.old.published }
     {
         let session = self.number()?;
         match self.make(rt, Step::Put { session, key, row })? {
@@ -120,6 +124,7 @@ impl<D: Pmem + Drop, J: Origin, B: Drop> Session<D, J, B> {
         ensures ok { IfOk result (λ _. Answers self.old.phase self.old.receipts.items self.new.receipts.items (Delete (number_of self.old.phase) key) Done) }
         ensures err { IfErr result (λ fault. Declines self.old.phase self.old.receipts.items self.new.receipts.items (Delete (number_of self.old.phase) key) fault) }
         ensures phase { self.new.phase ≡ self.old.phase }
+        ensures published { self.new.published ≡ self.old.published }
     {
         let session = self.number()?;
         match self.make(rt, Step::Delete { session, key })? {
@@ -134,6 +139,7 @@ impl<D: Pmem + Drop, J: Origin, B: Drop> Session<D, J, B> {
         ensures ok { IfOk result (λ _. Answers self.old.phase self.old.receipts.items self.new.receipts.items (Abort (number_of self.old.phase)) Done × (self.new.phase ≡ Idle)) }
         ensures err { IfErr result (λ fault. Declines self.old.phase self.old.receipts.items self.new.receipts.items (Abort (number_of self.old.phase)) fault) }
         ensures phase { IfErr result (λ fault. self.new.phase ≡ self.old.phase) }
+        ensures published { self.new.published ≡ self.old.published }
     {
         let session = self.number()?;
         match self.make(rt, Step::Abort { session })? {
@@ -148,6 +154,7 @@ impl<D: Pmem + Drop, J: Origin, B: Drop> Session<D, J, B> {
         ensures ok { IfOk result (λ reply. Answers self.old.phase self.old.receipts.items self.new.receipts.items (Poll (number_of self.old.phase)) (note_of_poll reply)) }
         ensures err { IfErr result (λ fault. Declines self.old.phase self.old.receipts.items self.new.receipts.items (Poll (number_of self.old.phase)) fault) }
         ensures phase { self.new.phase ≡ self.old.phase }
+        ensures published { self.new.published ≡ self.old.published }
     {
         let session = self.number()?;
         match self.make(rt, Step::Poll { session })? {
@@ -207,6 +214,7 @@ impl<D: Pmem + Drop, J: Origin, B: Drop> Session<D, J, B> {
         ensures fits { IfOk result (λ reply. IsTrue (fits step (note_of reply))) }
         ensures err { IfErr result (λ fault. (self.new.receipts.items ≡ self.old.receipts.items) × (fault ≡ OutOfMemory)) }
         ensures same { OnErr result (self.new.phase ≡ self.old.phase) }
+        ensures published { self.new.published ≡ self.old.published }
     {
         if self.receipts.reserve(1).is_err() {
             return Err(Fault::OutOfMemory);

@@ -28,6 +28,7 @@ impl<D: Pmem + Drop, J: Origin, B: Drop> Session<D, J, B> {
         ensures refusal { ReportsRefusal (added_since self.old.receipts.items self.new.receipts.items) result }
         ensures ok { IfOk result (λ answer. self.new.phase ≡ prepared (number_of self.old.phase) answer) }
         ensures phase { self.new.phase ≡ phase_after self.old.phase (added_since self.old.receipts.items self.new.receipts.items) }
+        ensures published { self.new.published ≡ self.old.published }
     {
         match self.phase {
             Phase::Idle => Err(Fault::NoSession),
@@ -60,6 +61,7 @@ impl<D: Pmem + Drop, J: Origin, B: Drop> Session<D, J, B> {
         ensures refusal { ReportsRefusal (added_since self.old.receipts.items self.new.receipts.items) result }
         ensures ok { OnOk result (self.new.phase ≡ Idle) }
         ensures phase { self.new.phase ≡ phase_after self.old.phase (added_since self.old.receipts.items self.new.receipts.items) }
+        ensures published { self.new.published ≡ self.old.published }
     {
         let number = match self.phase.number() {
             Some(number) => number,
@@ -83,6 +85,7 @@ impl<D: Pmem + Drop, J: Origin, B: Drop> Session<D, J, B> {
         ensures ok { IfOk result (λ answer. Asks self.old.receipts.items self.new.receipts.items (Draw number) (note_of_draw answer)) }
         ensures phase { IfOk result (λ answer. self.new.phase ≡ phase_after_step self.old.phase (Draw number) (note_of_draw answer)) }
         ensures err { IfErr result (λ fault. Refuses self.old.receipts.items self.new.receipts.items (Draw number) fault) }
+        ensures published { self.new.published ≡ self.old.published }
     {
         match self.make(rt, Step::Draw { session: number })? {
             Reply::Drawn(timestamp) => Ok(Some(timestamp)),
@@ -97,6 +100,7 @@ impl<D: Pmem + Drop, J: Origin, B: Drop> Session<D, J, B> {
         ensures steps { Called self.old.receipts.items self.new.receipts.items (λ added. All (λ r. r.step ≡ Stamp number) added × MatchResult result (λ _. ReportsLast added AllStamped) (ReportsFault added)) }
         ensures refusal { ReportsRefusal (added_since self.old.receipts.items self.new.receipts.items) result }
         ensures stamped { OnOk result (self.new.phase ≡ Stamped number (timestamp_of self.old.phase)) }
+        ensures published { self.new.published ≡ self.old.published }
     {
         for _ in rt.forever() {
             match self.make(rt, Step::Stamp { session: number })? {
@@ -118,6 +122,7 @@ impl<D: Pmem + Drop, J: Origin, B: Drop> Session<D, J, B> {
     ) -> Result<Option<Ts>, Fault>
         ensures steps { Called self.old.receipts.items self.new.receipts.items (λ added. ArePolls number added × MatchResult result (λ answer. ReportsLast added (note_of_commit answer)) (ReportsEnd (HasHalted J.image) added)) }
         ensures refusal { ReportsRefusal (added_since self.old.receipts.items self.new.receipts.items) result }
+        ensures published { self.new.published ≡ self.old.published }
     {
         for _ in rt.forever() {
             if let Err(fault) = self.wait_once(rt, timestamp) {
@@ -148,6 +153,7 @@ impl<D: Pmem + Drop, J: Origin, B: Drop> Session<D, J, B> {
     fn end<R: Wait>(&mut self, rt: &R, number: u8) -> Result<(), Fault>
         ensures ok { IfOk result (λ _. Asks self.old.receipts.items self.new.receipts.items (End number) Done × (self.new.phase ≡ Idle)) }
         ensures err { IfErr result (λ fault. Refuses self.old.receipts.items self.new.receipts.items (End number) fault) }
+        ensures published { self.new.published ≡ self.old.published }
     {
         match self.make(rt, Step::End { session: number })? {
             Reply::Done => Ok(()),

@@ -15,6 +15,7 @@ loop-preserved g c = record {
   steps = Called-more _ _ _ _ _ _ _ c.loop.invariant.steps c.in_ok-make.ensures.ok (λ added r all step note. All-push (λ (s : Receipt). s.step ≡ Stamp c.args.number) added r all step);
   clean = more-clean _ _ _ _ _ c.loop.invariant.clean c.in_ok-make.ensures.ok (ap (λ (reply : Reply). refused_with (note_of reply)) c.in-More.is);
   phase = c.in_ok-make.ensures.moved ∙ (ap (λ (reply : Reply). phase_after_step c.loop.self.phase (Stamp c.args.number) (note_of reply)) c.in-More.is ∙ c.loop.invariant.phase);
+  published = c.in_ok-make.ensures.published ∙ c.loop.invariant.published;
 }
 
 pub returns-in-Stamped-clause-steps : goal.returns-in-Stamped-clause-steps

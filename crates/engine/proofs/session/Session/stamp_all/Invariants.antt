@@ -10,4 +10,5 @@ invariant-loop g l = record {
   steps : Called l.fn.self.receipts.items l.self.receipts.items (λ added. All (λ r. r.step ≡ Stamp l.number) added);
   clean : IsClean l.fn.self.receipts.items l.self.receipts.items;
   phase : l.self.phase ≡ l.fn.self.phase;
+  published : l.self.published ≡ l.fn.self.published;
 }

@@ -17,6 +17,7 @@ loop-preserved g c = record {
     All-push (λ (s : Receipt). s.note ≡ Waiting) added r polls.1 (note ∙ ap note_of c.in-Waiting.is),
   ));
   clean = more-clean _ _ _ _ _ c.loop.invariant.clean c.in_ok-make.ensures.ok (ap (λ (reply : Reply). refused_with (note_of reply)) c.in-Waiting.is);
+  published = c.in_ok-make.ensures.published ∙ c.loop.invariant.published;
 }
 
 pub returns-in-Committed-clause-steps : goal.returns-in-Committed-clause-steps
