@@ -1,10 +1,10 @@
 -- The exchange that adds a change keeps the rule.
-use Rattle.std.proofs.Common.{◌≡◌, ℕ, ◌+◌, ◌<◌, ◌==◌, Bool, true, false, List, [], ◌∷◌, ◌++◌, length, refl, ap, sym, subst, arith, inl, length-append, None}
+use Rattle.std.proofs.Common.{◌≡◌, ℕ, ◌+◌, ◌==◌, Bool, true, false, List, [], ◌∷◌, ◌++◌, length, refl, ap, sym, arith, inl, length-append, None}
 use Rattle.std.proofs.lemmas.List.{append-nil}
 use Rattle.std.proofs.lemmas.Bool.Decides.{nat_tests}
 use mathlib.Core.List.{IsPrefix}
 use prog.Atomic.{either}
-use Rattle.logbook.specs.Pages.{Cell, cell, keeps, no_nib, step, Moves, Goes}
+use Rattle.logbook.specs.Pages.{keeps, no_nib, step, Moves, Goes}
 use Rattle.board.specs.declared.change.Change.{Change}
 use Rattle.board.specs.Rules.{IsKept, Adds}
 use Rattle.board.proofs.Fronts.{prefix_whole}
@@ -30,21 +30,9 @@ adds_goes log v e old len pre true is =
       inl (refl, refl),
       rw is (ap (λ w. w ++ e ∷ []) (sym same)),
     )
-adds_goes log v e old len pre false is =
-    let all : log ++ [] ≡ log = append-nil log in
-    let n : either (length log == old) (old + 1) (length log) ≡ length (log ++ []) = rw is (ap length (sym all)) in (
-      keeps,
-      [],
-      None,
-      tt,
-      record { words = ap (λ (k : ℕ). (k, true) ∷ (0, true) ∷ []) n },
-      inl (refl, refl),
-      rw is tt,
-    )
+adds_goes log v e old len pre false is = grind (arith, append-nil log)
 
 -- whatever the book is, the exchange adds the change to all that was seen, or finds another count
 pub adds_moves : (v : List Change) (e : Change) (old : ℕ) → length v ≡ old
     → Moves IsKept shown moved 0 (v, (no_nib, None)) (λ n. either (n == old) (old + 1) n) (Adds (step 0 old (old + 1) e) (v, (no_nib, None)))
-adds_moves v e old len cs log kept pre away =
-    let P : List Cell → Type 0 = λ c. (0 < length c) × ((cell c 0).1 ≡ true) × Goes IsKept shown moved 0 (v, (no_nib, None)) (λ n. either (n == old) (old + 1) n) (Adds (step 0 old (old + 1) e) (v, (no_nib, None))) c log in
-    subst P (sym kept.words) (omega arith, refl, adds_goes log v e old len pre (length log == old) refl)
+adds_moves v e old len cs log kept pre away = grind (arith, adds_goes log v e old len pre (length log == old) refl)

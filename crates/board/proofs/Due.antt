@@ -55,10 +55,7 @@ rest_of (x ∷ xs) rest (suc i) d less = ap (λ (ys : List ℕ). x ∷ ys) (rest
 -- and so are rising numbers
 range_split : (a k j m n : ℕ) → a + k ≡ j → n ≡ k + 1 + m → range_with_len a n ≡ range_with_len a k ++ j ∷ range_with_len (j + 1) m
 range_split a k j m zero at is = absurd (omega (arith, is))
-range_split a zero j m (suc n) at is =
-    let same : a ≡ j = omega (arith, at) in
-    let count : n ≡ m = omega (arith, is) in
-    ap (λ (k : ℕ). a ∷ range_with_len (a + 1) k) count ∙ ap (λ (k : ℕ). k ∷ range_with_len (k + 1) m) same
+range_split a zero j m (suc n) at is = grind (arith)
 range_split a (suc k) j m (suc n) at is = ap (λ (xs : List ℕ). a ∷ xs) (range_split (a + 1) k j m n (omega (arith, at)) (omega (arith, is)))
 
 pub range_rest : (met : List ℕ) (a k j n : ℕ) → a + k ≡ j → k < n → met ++ range_with_len a n ≡ (met ++ range_with_len a k) ++ j ∷ range_with_len (j + 1) (n - k - 1)

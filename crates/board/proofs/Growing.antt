@@ -33,11 +33,7 @@ counted-push persisted longs [] batch h covers = (covers, tt)
 counted-push persisted longs (b ∷ batches) batch h covers = (h.0, counted-push b.persisted b.longs batches batch h.1 covers)
 
 pub fits : (list : Published) (batch : Batch) → IsPublished list → Fits list batch → IsPublished (changed list (Add batch))
-fits list batch h f = record {
-  follow = follow-push list.stamp list.batches batch h.follow f.from f.stamp;
-  counted = counted-push list.persisted list.longs list.batches batch h.counted f.covers;
-  floor = omega (arith, last_from-push list.stamp list.batches batch, h.floor, f.from, f.stamp);
-}
+fits list batch h f = grind (arith, follow-push, counted-push, last_from-push)
 
 pub raised : (list : Published) (stamp : ℕ) → IsPublished list → stamp ≤ last_stamp list → IsPublished (changed list (Raise stamp))
 raised list stamp h le = record { follow = h.follow; counted = h.counted; floor = omega (arith, h.floor, le) }
@@ -82,10 +78,7 @@ raises list waits stamp le h = raised (fold changed list waits) stamp h (le_tran
 -- the change that may follow the board's whole list may follow its history
 pub may_follow : (log waits front : List Change) (board : Shown) (change : Change) → 0 < length log → front ≡ log ++ waits → record { list = list_of log; waits = waits } ≡ board
     → IsPublished (list_of front) → 0 < length front → (IsPublished (whole board) → IsPublished (changed (whole board) change)) → IsPublished (list_of (front ++ change ∷ []))
-may_follow log waits front board change some is view published begun may =
-    let same : list_of front ≡ whole board = ap list_of is ∙ (list_on log waits some ∙ ap whole view) in
-    let next : list_of (front ++ change ∷ []) ≡ changed (whole board) change = list_next front change begun ∙ ap (λ l. changed l change) same in
-    subst IsPublished (sym next) (may (subst IsPublished same published))
+may_follow log waits front board change some is view published begun may = grind (arith, list_on, list_next)
 
 -- what a result without an error has
 pub done : {E P : Type 0} (Q : Type 0) (r : Result (Unit {0}) E) → is_err r ≡ false → MatchResult r (λ _. P) (λ _. Q) → P

@@ -17,25 +17,16 @@ use Rattle.board.proofs.Places.{version_unwritten}
 -- the row after commits is that of the version which they leave
 after_version : (key : Key) (v : Option (Option (List ℕ))) (row : Option (List ℕ)) (commits : List Commit) → after_commits key (unwrap_or v row) commits ≡ unwrap_or (version_after key v commits) row
 after_version key v row [] = refl
-after_version key v row (c ∷ cs) = ap (λ (r : Option (List ℕ)). after_commits key r cs) (one (lookup_key c.writes key)) ∙ after_version key (option_or (lookup_key c.writes key) v) row cs
-  where
-    one : (w : Option (Option (List ℕ))) → unwrap_or w (unwrap_or v row) ≡ unwrap_or (option_or w v) row
-    one None = refl
-    one (Some x) = refl
+after_version key v row (c ∷ cs) = grind (arith, after_version key (option_or (lookup_key c.writes key) v) row cs)
 
 -- batches that follow a stamp leave nothing up to it, and nothing above their last
 pub none_under : (stamp : ℕ) (batches : List Batch) (key : Key) (at : ℕ) → Follow stamp batches → at ≤ stamp → version_at batches key at ≡ None
 none_under stamp [] key at h le = refl
-none_under stamp (b ∷ batches) key at h le =
-    let other : nat_eq b.stamp at ≡ false = grind (arith, nat_tests, h.1, le) in
-    rw other (none_under b.stamp batches key at h.2 (omega (arith, h.1, le)))
+none_under stamp (b ∷ batches) key at h le = grind (arith, nat_tests, none_under b.stamp batches key at h.2)
 
 pub none_over : (stamp : ℕ) (batches : List Batch) (key : Key) (at : ℕ) → Follow stamp batches → last_from stamp batches < at → version_at batches key at ≡ None
 none_over stamp [] key at h lt = refl
-none_over stamp (b ∷ batches) key at h lt =
-    let up : b.stamp ≤ last_from b.stamp batches = last_rises b.stamp batches h.2 in
-    let other : nat_eq b.stamp at ≡ false = grind (arith, nat_tests, up, lt) in
-    rw other (none_over b.stamp batches key at h.2 lt)
+none_over stamp (b ∷ batches) key at h lt = grind (arith, last_rises, nat_tests, none_over b.stamp batches key at h.2 lt)
 
 -- where nothing is left up to the stamp, the row stays
 row_stays : (stamp : ℕ) (batches : List Batch) (key : Key) (at : ℕ) (row : Option (List ℕ)) → Follow stamp batches → ((s : ℕ) → s ≤ at → version_at batches key s ≡ None) → after_batches key at row batches ≡ row
@@ -99,37 +90,17 @@ follow_push stamp (b ∷ batches) batch h from own = (h.0, h.1, follow_push b.st
 version_push : (stamp : ℕ) (batches : List Batch) (batch : Batch) (key : Key) (at : ℕ) → Follow stamp batches → last_from stamp batches < batch.stamp
     → version_at (batches ++ batch ∷ []) key at ≡ (if nat_eq batch.stamp at then version_after key None batch.commits else version_at batches key at)
 version_push stamp [] batch key at h lt = refl
-version_push stamp (b ∷ batches) batch key at h lt = pick (version_push b.stamp batches batch key at h.2 lt) (nat_eq b.stamp at) refl
-  where
-    pick : version_at (batches ++ batch ∷ []) key at ≡ (if nat_eq batch.stamp at then version_after key None batch.commits else version_at batches key at) → (t : Bool) → nat_eq b.stamp at ≡ t
-        → (if t then version_after key None b.commits else version_at (batches ++ batch ∷ []) key at) ≡ (if nat_eq batch.stamp at then version_after key None batch.commits else (if t then version_after key None b.commits else version_at batches key at))
-    pick rest true e =
-        let up : b.stamp ≤ last_from b.stamp batches = last_rises b.stamp batches h.2 in
-        let other : nat_eq batch.stamp at ≡ false = grind (arith, nat_tests, e, up, lt) in rw other refl
-    pick rest false e = rest
+version_push stamp (b ∷ batches) batch key at h lt = grind (arith, version_push b.stamp batches batch key at h.2 lt, last_rises, nat_tests)
 
 -- with the versions of one more batch
 pub indexed_push : (stamp : ℕ) (es fs : List (Place × Option (List ℕ))) (batches : List Batch) (batch : Batch) → Indexed stamp es batches → batch.from ≡ last_from stamp batches → batch.stamp ≡ last_from stamp batches + 1
     → ((k : Key) (s : ℕ) → lookup_version fs k s ≡ (if nat_eq batch.stamp s then version_after k None batch.commits else lookup_version es k s)) → Indexed stamp fs (batches ++ batch ∷ [])
-indexed_push stamp es fs batches batch h from own entered = record {
-  follow = follow_push stamp batches batch h.follow from own;
-  same = λ key at.
-      entered key at ∙ (ap (λ (v : Option (Option (List ℕ))). if nat_eq batch.stamp at then version_after key None batch.commits else v) (h.same key at)
-      ∙ sym (version_push stamp batches batch key at h.follow (omega (arith, own))));
-}
+indexed_push stamp es fs batches batch h from own entered = grind (arith, follow_push, version_push)
 
 -- and without those of the first one
 pub indexed_rest : (stamp : ℕ) (es fs : List (Place × Option (List ℕ))) (batch : Batch) (batches : List Batch) → Indexed stamp es (batch ∷ batches)
     → ((k : Key) (s : ℕ) → lookup_version fs k s ≡ (if is_written k batch.commits && nat_eq batch.stamp s then None else lookup_version es k s)) → Indexed batch.stamp fs batches
-indexed_rest stamp es fs batch batches h gone = record { follow = h.follow.2; same = λ key at. gone key at ∙ pick key at (nat_eq batch.stamp at) (is_written key batch.commits) refl refl (h.same key at) }
-  where
-    pick : (key : Key) (at : ℕ) (t w : Bool) → nat_eq batch.stamp at ≡ t → is_written key batch.commits ≡ w
-        → lookup_version es key at ≡ (if t then version_after key None batch.commits else version_at batches key at)
-        → (if w && t then None else lookup_version es key at) ≡ version_at batches key at
-    pick key at true true e f is = sym (none_under batch.stamp batches key at h.follow.2 (grind (arith, nat_tests, e)))
-    pick key at true false e f is = is ∙ (version_unwritten key None batch.commits f ∙ sym (none_under batch.stamp batches key at h.follow.2 (grind (arith, nat_tests, e))))
-    pick key at false true e f is = is
-    pick key at false false e f is = is
+indexed_rest stamp es fs batch batches h gone = grind (arith, none_under, nat_tests, version_unwritten)
 
 pub indexed_removed : (stamp : ℕ) (es fs : List (Place × Option (List ℕ))) (batch : Batch) (batches : List Batch) (first : Batch) → slice_get batches 0 ≡ Some first → batch ≡ get_or batches 0 batch → Indexed stamp es batches
     → ((k : Key) (s : ℕ) → lookup_version fs k s ≡ (if is_written k batch.commits && nat_eq batch.stamp s then None else lookup_version es k s)) → Indexed batch.stamp fs (drop 1 batches)

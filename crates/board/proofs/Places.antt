@@ -12,10 +12,9 @@ use Rattle.std.specs.declared.ops.Bound.{Bound}
 use Rattle.std.specs.declared.ops.Bound.TheVariants.{Included}
 use Rattle.std.proofs.lemmas.Map.Keys.{le_from_not_gt}
 use Rattle.std.specs.Map.{lookup}
-use Rattle.std.proofs.lemmas.Cmp.{nat_eq_equiv}
 use Rattle.base.specs.declared.key.Key.{Key}
 use Rattle.base.specs.Keys.{key_eq, lookup_key}
-use Rattle.base.specs.Commits.{Commit, writes_key}
+use Rattle.base.specs.Commits.{Commit}
 use Rattle.base.proofs.Keys.{key_eq-swap}
 use Rattle.base.proofs.KeyOrder.{is_at-key, is_eq-then, is_eq-nat, key_cmp}
 use Rattle.board.specs.declared.versions.Place.{Place}
@@ -34,11 +33,7 @@ is_at-place p q = is_eq-then (key_cmp p.key q.key) (nat_cmp p.stamp q.stamp) ∙
 -- a map finds the first entry at the place
 pub found_version : (es : List (Place × Option (List ℕ))) (p : Place) → lookup (is_at (place_cmp p)) es ≡ lookup_version es p.key p.stamp
 found_version [] p = refl
-found_version (e ∷ es) p =
-    let here : is_at (place_cmp p) e.0 ≡ (key_eq e.0.key p.key && nat_eq e.0.stamp p.stamp) =
-    is_at-place p e.0 ∙ (λ i. key_eq-swap p.key e.0.key i && nat_eq_equiv.symm p.stamp e.0.stamp i) in
-    ap (λ (b : Bool). if b then Some e.1 else lookup (is_at (place_cmp p)) es) here
-    ∙ ap (λ (r : Option (Option (List ℕ))). if key_eq e.0.key p.key && nat_eq e.0.stamp p.stamp then Some e.1 else r) (found_version es p)
+found_version (e ∷ es) p = grind (arith, is_at-place, key_eq-swap, found_version es p)
 
 -- what is found after a change at one place
 pub version_changed : (es fs : List (Place × Option (List ℕ))) (p : Place) (w : Option (Option (List ℕ)))
@@ -63,10 +58,7 @@ drop_at xs i x is lt = drop-cons xs i x lt ∙ (ap (λ y. y ∷ drop (suc i) xs)
 pub entered_next : (ws : List (Key × Option (List ℕ))) (i j : ℕ) (x : Key × Option (List ℕ)) (k : Key) (there : Bool) (old now next : Option (Option (List ℕ))) → x ≡ get_or ws i x → i < length ws → j ≡ i + 1
     → now ≡ (if there then option_or (lookup_key (drop j ws) k) old else old) → next ≡ (if key_eq x.0 k && there then Some x.1 else now)
     → next ≡ (if there then option_or (lookup_key (drop i ws) k) old else old)
-entered_next ws i j x k there old now next is lt n before after =
-    after ∙ (ap (λ v. if key_eq x.0 k && there then Some x.1 else v) before
-    ∙ (entered_one (key_eq x.0 k) there x.1 (lookup_key (drop j ws) k) old
-    ∙ ap (λ (xs : List (Key × Option (List ℕ))). if there then option_or (lookup_key xs k) old else old) (sym (drop_at ws i x is lt ∙ ap (λ (m : ℕ). x ∷ drop m ws) (sym n)))))
+entered_next ws i j x k there old now next is lt n before after = grind (arith, entered_one, drop_at)
 
 -- one more write, or commit, is forgotten
 forgotten_one : (here there rest : Bool) (now : Option (Option (List ℕ)))
@@ -84,45 +76,25 @@ is_some-pick false x rest = refl
 pub forgotten_write : (ws : List (Key × Option (List ℕ))) (i : ℕ) (x : Key × Option (List ℕ)) (k : Key) (there : Bool) (now next : Option (Option (List ℕ))) → x ≡ get_or ws i x → i < length ws
     → next ≡ (if key_eq x.0 k && there then None else now)
     → (if is_some (lookup_key (drop (i + 1) ws) k) && there then None else next) ≡ (if is_some (lookup_key (drop i ws) k) && there then None else now)
-forgotten_write ws i x k there now next is lt after =
-    let rest : Option (Option (List ℕ)) = lookup_key (drop (i + 1) ws) k in
-    ap (λ v. if is_some rest && there then None else v) after
-    ∙ (forgotten_one (key_eq x.0 k) there (is_some rest) now
-    ∙ (ap (λ (b : Bool). if b && there then None else now) (sym (is_some-pick (key_eq x.0 k) x.1 rest))
-    ∙ ap (λ (xs : List (Key × Option (List ℕ))). if is_some (lookup_key xs k) && there then None else now) (sym (drop_at ws i x is lt))))
+forgotten_write ws i x k there now next is lt after = grind (arith, forgotten_one, is_some-pick, drop_at)
 
 pub forgotten_commit : (cs : List Commit) (i : ℕ) (c : Commit) (k : Key) (there : Bool) (now next : Option (Option (List ℕ))) → c ≡ get_or cs i c → i < length cs
     → next ≡ (if is_some (lookup_key c.writes k) && there then None else now)
     → (if is_written k (drop (i + 1) cs) && there then None else next) ≡ (if is_written k (drop i cs) && there then None else now)
-forgotten_commit cs i c k there now next is lt after =
-    ap (λ v. if is_written k (drop (i + 1) cs) && there then None else v) after
-    ∙ (forgotten_one (writes_key k c) there (is_written k (drop (i + 1) cs)) now
-    ∙ ap (λ (xs : List Commit). if is_written k xs && there then None else now) (sym (drop_at cs i c is lt)))
+forgotten_commit cs i c k there now next is lt after = grind (arith, forgotten_one, drop_at)
 
 -- at another stamp, or where nothing is written, the version stays
 pub unentered : (a s : ℕ) (w old : Option (Option (List ℕ))) → (a ≡ s → w ≡ None) → (if nat_eq a s then option_or w old else old) ≡ old
-unentered a s w old none = pick (nat_eq a s) refl
-  where
-    pick : (there : Bool) → nat_eq a s ≡ there → (if there then option_or w old else old) ≡ old
-    pick true e = rw (none (grind (arith, nat_tests, e))) refl
-    pick false e = refl
+unentered a s w old none = grind (arith, nat_tests)
 
 -- commits that don't write a key leave its version
 pub version_unwritten : (k : Key) (v : Option (Option (List ℕ))) (commits : List Commit) → is_written k commits ≡ false → version_after k v commits ≡ v
 version_unwritten k v [] h = refl
-version_unwritten k v (c ∷ cs) h = pick (lookup_key c.writes k) refl (version_unwritten k v cs)
-  where
-    pick : (w : Option (Option (List ℕ))) → lookup_key c.writes k ≡ w → (is_written k cs ≡ false → version_after k v cs ≡ v) → version_after k v (c ∷ cs) ≡ v
-    pick (Some w) e rest = absurd (cc (subst (λ (w : Option (Option (List ℕ))). (is_some w || is_written k cs) ≡ false) e h))
-    pick None e rest = rw e (rest (subst (λ (w : Option (Option (List ℕ))). (is_some w || is_written k cs) ≡ false) e h))
+version_unwritten k v (c ∷ cs) h = grind (arith, version_unwritten k v cs)
 
 pub unentered_commits : (a s : ℕ) (k : Key) (old : Option (Option (List ℕ))) (commits : List Commit) (i : ℕ) → (a ≡ s → is_written k commits ≡ false)
     → (if nat_eq a s then version_after k old (take i commits) else old) ≡ old
-unentered_commits a s k old commits i none = pick (nat_eq a s) refl
-  where
-    pick : (there : Bool) → nat_eq a s ≡ there → (if there then version_after k old (take i commits) else old) ≡ old
-    pick true e = version_unwritten k old (take i commits) (unwritten_first k commits i (none (grind (arith, nat_tests, e))))
-    pick false e = refl
+unentered_commits a s k old commits i none = grind (arith, version_unwritten, unwritten_first, nat_tests)
 
 not_gt : (a b : ℕ) → a ≤ b → is_gt (nat_cmp a b) ≡ false
 not_gt a b le = grind (arith, nat_tests)
@@ -147,14 +119,7 @@ key_self key = ap (λ (o : Ordering). ordering_then o (nat_cmp key.key key.key))
 
 -- keys of which neither comes after the other are one
 one_key : (a b : Key) → is_gt (key_cmp a b) ≡ false → is_gt (key_cmp b a) ≡ false → a ≡ b
-one_key a b h g =
-    let ab = first_part (nat_cmp a.table b.table) (nat_cmp a.key b.key) h in
-    let ba = first_part (nat_cmp b.table a.table) (nat_cmp b.key a.key) g in
-    let table : a.table ≡ b.table = omega (arith, le_from_not_gt a.table b.table ab, le_from_not_gt b.table a.table ba) in
-    let up = second_part (nat_cmp a.table b.table) (nat_cmp a.key b.key) (equal a.table b.table table) h in
-    let down = second_part (nat_cmp b.table a.table) (nat_cmp b.key a.key) (equal b.table a.table (sym table)) g in
-    let key : a.key ≡ b.key = omega (arith, le_from_not_gt a.key b.key up, le_from_not_gt b.key a.key down) in
-    λ i. record { table = table i; key = key i }
+one_key a b h g = grind (arith, first_part, le_from_not_gt, second_part, equal)
 
 -- places of one key are ordered by their stamps
 same_key : (key : Key) (a b : ℕ) → place_cmp (record { key = key; stamp = a }) (record { key = key; stamp = b }) ≡ nat_cmp a b

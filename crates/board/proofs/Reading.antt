@@ -12,13 +12,7 @@ use Rattle.board.proofs.Staying.{rows_stay, stamps_stay}
 
 -- an answer with a row is the list's, at a stamp that the list has
 answered : (list : Published) (stamp : ℕ) (key : Key) (row : Option (List ℕ)) → Ok row ≡ answer list stamp key → (stamp ≤ last_stamp list) × (row ≡ row_at list stamp key)
-answered list stamp key row h = pick (nat_lt stamp list.floor) (nat_lt (last_stamp list) stamp) refl h
-  where
-    pick : (low high : Bool) → nat_lt (last_stamp list) stamp ≡ high → Ok row ≡ (if low then Err TooOld else (if high then Err NotYet else Ok (row_at list stamp key)))
-        → (stamp ≤ last_stamp list) × (row ≡ row_at list stamp key)
-    pick true high e is = absurd (cc is)
-    pick false true e is = absurd (cc is)
-    pick false false e is = (grind (arith, nat_tests, e), cc is)
+answered list stamp key row h = grind (arith, nat_tests)
 
 pub answers_agree : AnswersAgree
 answers_agree before seen later last stamp key row other first on second =
@@ -35,14 +29,7 @@ high_of (Ok pair) = pair.1
 high_of (Err fault) = 0
 
 pub time_rises : TimeRises
-time_rises before seen later last low high floor top first on second =
-    let whole = begins_on seen later last on second.begins in
-    let up = stamps_stay seen last second.published whole in
-    let low_is : low ≡ seen.floor = ap low_of first.replied in
-    let high_is : high ≡ last_stamp seen = ap high_of first.replied in
-    let floor_is : floor ≡ last.floor = ap low_of second.replied in
-    let top_is : top ≡ last_stamp last = ap high_of second.replied in
-    (omega (arith, low_is, floor_is, whole.floor), omega (arith, high_is, top_is, up))
+time_rises before seen later last low high floor top first on second = grind (arith, begins_on seen later last on second.begins, stamps_stay seen last second.published (begins_on seen later last on second.begins))
 
 pub learnt_is_read : LearntIsRead
 learnt_is_read told before after key reply learnt answered_so = ⊎_elim saw (λ none. inr (inr none.replied)) answered_so

@@ -55,8 +55,4 @@ meets-apart one two apart =
 
 -- a session in both
 pub meets-at : (one two : SessionSet) (n : ℕ) → has one n ≡ true → has two n ≡ true → meets one two ≡ true
-meets-at one two n here there =
-    ap not (nonzero (bit_and one.bits two.bits) n (ap (λ (x : ℕ). nat_eq x 1) (bit_at_and one.bits two.bits n ∙ both (bit_at one.bits n) (bit_at two.bits n) (eqb-true (bit_at one.bits n) 1 here) (eqb-true (bit_at two.bits n) 1 there))))
-  where
-    both : (x y : ℕ) → x ≡ 1 → y ≡ 1 → min x y ≡ 1
-    both x y is is' = omega (arith, is, is')
+meets-at one two n here there = grind (arith, nonzero, bit_at_and one.bits two.bits n, eqb-true (bit_at one.bits n) 1 here, eqb-true (bit_at two.bits n) 1 there)

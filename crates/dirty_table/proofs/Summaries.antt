@@ -1,5 +1,5 @@
 -- A summary of words: which of them aren't 0.
-use Rattle.std.proofs.Common.{◌≡◌, ◌≢◌, inl, inr, ℕ, ◌+◌, ◌-◌, ◌*◌, ◌/◌, ◌%◌, ◌^◌, ◌<◌, ◌≤◌, Bool, true, false, ◌||◌, ◌&&◌, not, nat_eq, List, length, get_or, replicate, refl, sym, ◌∙◌, ap, subst, arith}
+use Rattle.std.proofs.Common.{◌≡◌, ◌≢◌, ℕ, ◌+◌, ◌*◌, ◌/◌, ◌%◌, ◌^◌, ◌<◌, ◌≤◌, true, false, ◌||◌, ◌&&◌, not, nat_eq, List, length, get_or, replicate, sym, ◌∙◌, ap, subst, arith}
 use Rattle.std.specs.Int.{bit_at}
 use Rattle.std.proofs.lemmas.Bool.{cases_eq, cases_lt, eqb-true, eqb-false}
 use Rattle.std.proofs.lemmas.List.{get_or_past, get_or-replicate, length-replicate}
@@ -27,37 +27,11 @@ module _ (words summary now summary' : List ℕ) (line : ℕ) (summed : IsSummed
 
   -- with a line, its word is in the summary
   pub summed-with : is_in now line ≡ true → ((i : ℕ) → is_in summary' i ≡ (nat_eq i (line / 64) || is_in summary i)) → IsSummed now summary'
-  summed-with here now_is = record {
-    sums = λ at. now_is at ∙ by at (nat_eq at (line / 64)) refl;
-    enough = enough;
-    few = omega (arith, size, summed.few);
-    small = omega (arith, size', summed.small);
-  }
-    where
-      by : (at : ℕ) (b : Bool) → nat_eq at (line / 64) ≡ b → (b || is_in summary at) ≡ not (nat_eq (get_or now at 0) 0)
-      by at true e = sym (ap (λ (a : ℕ). not (nat_eq (get_or now a 0) 0)) (eqb-true at (line / 64) e) ∙ ap not (nonzero (get_or now (line / 64) 0) (line % 64) here))
-      by at false e = kept at (eqb-false at (line / 64) e)
+  summed-with here now_is = grind (arith, enough, eqb-true, nonzero, kept, eqb-false)
 
   -- a word that has become 0 isn't
   pub summed-without : get_or now (line / 64) 0 ≡ 0 → ((i : ℕ) → is_in summary' i ≡ (is_in summary i && not (nat_eq i (line / 64)))) → IsSummed now summary'
-  summed-without none without = record {
-    sums = λ at. without at ∙ by at (nat_eq at (line / 64)) refl;
-    enough = enough;
-    few = omega (arith, size, summed.few);
-    small = omega (arith, size', summed.small);
-  }
-    where
-      and-false : (x : Bool) → (x && false) ≡ false
-      and-false true = refl
-      and-false false = refl
-
-      and-true : (x : Bool) → (x && true) ≡ x
-      and-true true = refl
-      and-true false = refl
-
-      by : (at : ℕ) (b : Bool) → nat_eq at (line / 64) ≡ b → (is_in summary at && not b) ≡ not (nat_eq (get_or now at 0) 0)
-      by at true e = and-false (is_in summary at) ∙ sym (zero-word (get_or now at 0) (ap (λ (a : ℕ). get_or now a 0) (eqb-true at (line / 64) e) ∙ none))
-      by at false e = and-true (is_in summary at) ∙ kept at (eqb-false at (line / 64) e)
+  summed-without none without = grind (arith, enough, zero-word, eqb-true, kept, eqb-false)
 
 -- one that hasn't stays
 pub summed-still : (words summary now : List ℕ) (line : ℕ) → IsSummed words summary → length now ≡ length words → ((at : ℕ) → at ≢ line / 64 → get_or now at 0 ≡ get_or words at 0) → get_or now (line / 64) 0 ≤ get_or words (line / 64) 0
@@ -70,24 +44,13 @@ summed-same words summary words' summary' same same' summed = subst (λ (ws : Li
 -- ---- words of 0
 
 zeros-word : (count at : ℕ) → ◌≡◌ {A = ℕ} (get_or (replicate count 0) at 0) 0
-zeros-word count at = elim (cases_lt at count) [
-  | inl lt ↦ get_or-replicate count at 0 0 lt
-  | inr ge ↦ get_or_past (replicate count 0) at 0 (omega (arith, ge, length-replicate {A = ℕ} count 0))
-]
+zeros-word count at = grind (arith, cases_lt, get_or-replicate, get_or_past, length-replicate)
 
 pub zeros-clear : (count : ℕ) (words : List ℕ) → words ≡ replicate count 0 → (i : ℕ) → is_in words i ≡ false
 zeros-clear count words is i = zero-bit (get_or words (i / 64) 0) (i % 64) (ap (λ (ws : List ℕ). get_or ws (i / 64) 0) is ∙ zeros-word count (i / 64))
 
 pub summed-zeros : (count count' : ℕ) (words summary : List ℕ) → words ≡ replicate count 0 → summary ≡ replicate count' 0 → count ≤ 64 * count' → count < 2 ^ 57 → count' < 2 ^ 57 → IsSummed words summary
-summed-zeros count count' words summary is is' le few few' =
-    let size : length words ≡ count = ap (λ (ws : List ℕ). length ws) is ∙ length-replicate {A = ℕ} count 0 in
-    let size' : length summary ≡ count' = ap (λ (ws : List ℕ). length ws) is' ∙ length-replicate {A = ℕ} count' 0 in
-    record {
-      sums = λ at. zeros-clear count' summary is' at ∙ sym (zero-word (get_or words at 0) (ap (λ (ws : List ℕ). get_or ws at 0) is ∙ zeros-word count at));
-      enough = omega (arith, size, size', le);
-      few = omega (arith, size, few);
-      small = omega (arith, size', few');
-    }
+summed-zeros count count' words summary is is' le few few' = grind (arith, length-replicate, zeros-clear, zero-word, zeros-word, enough)
 
 -- ---- the lowest line
 
@@ -101,21 +64,10 @@ module _ (words summary : List ℕ) (summed : IsSummed words summary) where
   some-word at here none = absurd (cc (sym here ∙ summed.sums at ∙ zero-word (get_or words at 0) none))
 
   pub word-within : (at : ℕ) → is_in summary at ≡ true → at < length words
-  word-within at here = elim (cases_lt at (length words)) [
-    | inl lt ↦ lt
-    | inr ge ↦ absurd (some-word at here (get_or_past words at 0 ge))
-  ]
+  word-within at here = grind (arith, cases_lt, some-word, get_or_past)
 
   pub in-words : (from at bit : ℕ) → IsLowest summary from at → IsLowestBit (get_or words at 0) 0 bit → IsLowest words (64 * from) (64 * at + bit)
-  in-words from at bit first found = record {
-    low = omega (arith, first.low);
-    within = let lt = word-within at first.here in omega (arith, lt, found.within);
-    here = at-word words at (64 * at + bit) bit found.within refl ∙ found.here;
-    before = λ i ge lt. elim (cases_lt (i / 64) at) [
-      | inl earlier ↦ zero-bit (get_or words (i / 64) 0) (i % 64) (clear-word (i / 64) (first.before (i / 64) (omega (arith, ge)) earlier))
-      | inr later ↦ at-word words at i (i - 64 * at) (omega (arith, lt, later, found.within)) (omega (arith, later)) ∙ found.before (i - 64 * at) (omega arith) (omega (arith, lt, later))
-    ];
-  }
+  in-words from at bit first found = grind (arith, word-within, at-word, cases_lt, zero-bit, clear-word)
 
   pub never-empty : (from at : ℕ) → IsLowest summary from at → ((i : ℕ) → 0 ≤ i → has_bit (get_or words at 0) i ≡ false) → ⊥
   never-empty from at first none = some-word at first.here (no-bits (get_or words at 0) (λ i. none i (omega arith)))

@@ -1,5 +1,5 @@
 -- Tables of the sessions that touch each line: what a change makes of them, and what a walk over them meets.
-use Rattle.std.proofs.Common.{◌≡◌, ◌≢◌, inl, inr, ℕ, zero, suc, ◌+◌, ◌<◌, ◌≤◌, Bool, true, false, cond, ◌&&◌, not, nat_eq, nat_le, nat_lt, List, ◌∷◌, length, get_or, set, length-set, refl, sym, ◌∙◌, ap, arith}
+use Rattle.std.proofs.Common.{◌≡◌, inl, inr, ℕ, zero, suc, ◌+◌, ◌<◌, ◌≤◌, Bool, true, false, cond, ◌&&◌, not, nat_eq, nat_le, List, ◌∷◌, length, get_or, set, length-set, refl, sym, ◌∙◌, ap, arith}
 use Rattle.std.specs.Prelude.{Option, Some, None, IfSome, IfNone}
 use Rattle.std.specs.List.{list_any, filter, find, range_with_len}
 use Rattle.std.proofs.lemmas.Bool.{cases_eq, cases_lt, and_parts, and_from, le-leb, lt-ltb, eqb-true, eqb-false, eq-eqb}
@@ -79,29 +79,10 @@ module _ (sessions : SessionSet) (old now : List SessionSet) (from : ℕ) (forgo
   neither n k ge none = none ∙ ap (λ (b : Bool). b && not (has sessions n)) (sym none ∙ forgot.rest n k ge)
 
   pub forgot-on : (line : ℕ) (after : List SessionSet) → IsNextTouched now from line → ((n k : ℕ) → is_touched after n k ≡ (is_touched now n k && not (nat_eq k line && has sessions n))) → length after ≡ length now → Forgot sessions old after (line + 1)
-  forgot-on line after next is size = record {
-    below = λ n k lt. is n k ∙ below n k lt (nat_eq k line) refl;
-    rest = λ n k ge. is n k ∙ ap (λ (b : Bool). is_touched now n k && not (b && has sessions n)) (above k ge) ∙ and-true (is_touched now n k) ∙ forgot.rest n k (omega (arith, ge, next.low));
-    size = size ∙ forgot.size;
-  }
-    where
-      above : (k : ℕ) → line + 1 ≤ k → nat_eq k line ≡ false
-      above k ge = grind (arith, nat_tests)
-
-      below : (n k : ℕ) → k < line + 1 → (b : Bool) → nat_eq k line ≡ b → (is_touched now n k && not (b && has sessions n)) ≡ (is_touched old n k && not (has sessions n))
-      below n k lt true e = let same : k ≡ line = eqb-true k line e in ap (λ (b : Bool). b && not (has sessions n)) (forgot.rest n k (omega (arith, same, next.low)))
-      below n k lt false e =
-          let apart : k ≢ line = eqb-false k line e in
-          and-true (is_touched now n k) ∙ elim (cases_lt k from) [
-            | inl earlier ↦ forgot.below n k earlier
-            | inr later ↦ neither n k later (next.before k later (omega (arith, lt, apart)) n)
-          ]
+  forgot-on line after next is size = grind (arith, and-true, nat_tests, eqb-true, eqb-false, cases_lt, neither)
 
   pub forgot-all : IsUntouchedFrom now from → Forgets sessions old now
-  forgot-all none = record {
-    touched = λ n k. elim (cases_lt k from) [ inl earlier ↦ forgot.below n k earlier | inr later ↦ neither n k later (none k later n) ];
-    size = forgot.size;
-  }
+  forgot-all none = grind (arith, cases_lt, neither)
 
 -- ---- the lines of some sessions
 
@@ -111,23 +92,7 @@ module _ (p : ℕ → Bool) where
 
   find-passing : (from line n a : ℕ) → a ≤ line → line < a + n → from ≤ line → p line ≡ true → ((k : ℕ) → from ≤ k → k < line → p k ≡ false) → find (nat_le from) (filter p (range_with_len a n)) ≡ Some line
   find-passing from line zero a le lt low here before = absurd (omega (arith, le, lt))
-  find-passing from line (suc n) a le lt low here before = by (p a) refl (λ le' lt'. find-passing from line n (a + 1) le' lt' low here before)
-    where
-      rest : List ℕ
-      rest = filter p (range_with_len (a + 1) n)
-
-      by : (b : Bool) → p a ≡ b → (a + 1 ≤ line → line < (a + 1) + n → find (nat_le from) rest ≡ Some line) → find (nat_le from) (cond b (a ∷ rest) rest) ≡ Some line
-      by true e next = elim (cases_lt a from) [
-        | inl below ↦ ap (λ (b : Bool). cond b (Some a) (find (nat_le from) rest)) (under from a below) ∙ next (omega (arith, below, low)) (omega (arith, lt))
-        | inr above ↦ ap (λ (b : Bool). cond b (Some a) (find (nat_le from) rest)) (le-leb from a above) ∙ elim (cases_lt a line) [
-          | inl earlier ↦ absurd (cc (sym e ∙ before a above earlier))
-          | inr later ↦ let same : a ≡ line = omega (arith, later, le) in ap (λ (x : ℕ). Some x) same
-        ]
-      ]
-      by false e next = elim (cases_eq a line) [
-        | inl same ↦ absurd (cc (sym here ∙ ap p (sym same) ∙ e))
-        | inr apart ↦ next (omega (arith, apart, le)) (omega (arith, lt))
-      ]
+  find-passing from line (suc n) a le lt low here before = grind (arith, find-passing from line n (a + 1), before, cases_lt, under, le-leb, cases_eq)
 
   find-none : (from n a : ℕ) → ((k : ℕ) → from ≤ k → p k ≡ false) → find (nat_le from) (filter p (range_with_len a n)) ≡ None
   find-none from zero a none = refl
@@ -135,14 +100,7 @@ module _ (p : ℕ → Bool) where
 
   rising-after : (low n a : ℕ) → low < a → are_rising (low ∷ filter p (range_with_len a n)) ≡ true
   rising-after low zero a lt = refl
-  rising-after low (suc n) a lt = by (p a) (rising-after a n (a + 1) (omega arith)) (rising-after low n (a + 1) (omega (arith, lt)))
-    where
-      rest : List ℕ
-      rest = filter p (range_with_len (a + 1) n)
-
-      by : (b : Bool) → are_rising (a ∷ rest) ≡ true → are_rising (low ∷ rest) ≡ true → are_rising (low ∷ cond b (a ∷ rest) rest) ≡ true
-      by true from_here past = and_from (nat_lt low a) (are_rising (a ∷ rest)) (lt-ltb low a lt) from_here
-      by false from_here past = past
+  rising-after low (suc n) a lt = grind (arith, rising-after a n (a + 1), rising-after low n (a + 1), and_from, lt-ltb)
 
   rising-passing : (n a : ℕ) → are_rising (filter p (range_with_len a n)) ≡ true
   rising-passing zero a = refl

@@ -109,18 +109,10 @@ module _ (words : List ℕ) (k : ℕ) (within : k / 64 < length words) where
   clear-others i lt apart = bit_at_clear_other w64 word (k % 64) (omega arith) i lt apart
 
   pub inserted : (i : ℕ) → is_in (set words (k / 64) with_bit) i ≡ (nat_eq i k || is_in words i)
-  inserted i = by (nat_eq i k) refl
-    where
-      by : (b : Bool) → nat_eq i k ≡ b → is_in (set words (k / 64) with_bit) i ≡ (b || is_in words i)
-      by true e = ap (is_in (set words (k / 64) with_bit)) (eqb-true i k e) ∙ at-place words k with_bit true within set-here set-others
-      by false e = elsewhere words k with_bit true within set-here set-others i (eqb-false i k e)
+  inserted i = grind (arith, eqb-true, at-place, set-here, set-others, elsewhere, eqb-false)
 
   pub removed : (i : ℕ) → is_in (set words (k / 64) without_bit) i ≡ (is_in words i && not (nat_eq i k))
-  removed i = by (nat_eq i k) refl
-    where
-      by : (b : Bool) → nat_eq i k ≡ b → is_in (set words (k / 64) without_bit) i ≡ (is_in words i && not b)
-      by true e = ap (is_in (set words (k / 64) without_bit)) (eqb-true i k e) ∙ at-place words k without_bit false within clear-here clear-others ∙ and-false (is_in words i)
-      by false e = elsewhere words k without_bit false within clear-here clear-others i (eqb-false i k e) ∙ and-true (is_in words i)
+  removed i = grind (arith, eqb-true, at-place, clear-here, clear-others, and-false, elsewhere, eqb-false, and-true)
 
   pub other-words : (w at : ℕ) → at ≢ k / 64 → get_or (set words (k / 64) w) at 0 ≡ get_or words at 0
   other-words w at apart = get_or-set_other words (k / 64) at w 0 apart
@@ -132,10 +124,7 @@ module _ (words : List ℕ) (k : ℕ) (within : k / 64 < length words) where
 -- ---- the walk over words
 
 pub at-word : (words : List ℕ) (at i bit : ℕ) → bit < 64 → i ≡ 64 * at + bit → is_in words i ≡ has_bit (get_or words at 0) bit
-at-word words at i bit lt is =
-    let place : i / 64 ≡ at = omega (arith, is, lt) in
-    let rest : i % 64 ≡ bit = omega (arith, is, lt) in
-    ap (λ (a : ℕ). has_bit (get_or words a 0) (i % 64)) place ∙ ap (λ (b : ℕ). has_bit (get_or words at 0) b) rest
+at-word words at i bit lt is = grind (arith)
 
 pub past-words : (words : List ℕ) (i : ℕ) → length words ≤ i / 64 → is_in words i ≡ false
 past-words words i past = zero-bit (get_or words (i / 64) 0) (i % 64) (get_or_past words (i / 64) 0 past)
@@ -151,7 +140,4 @@ looks-first words from = record { fits = omega arith; place = omega arith; none 
 
 module _ (words : List ℕ) (from at low : ℕ) (looks : Looks words from at low) where
   pub looks-past : length words ≤ at → IsClearFrom words from
-  looks-past past i ge = elim (cases_lt i (64 * at + low)) [
-    | inl earlier ↦ looks.none i ge earlier
-    | inr later ↦ past-words words i (omega (arith, past, later))
-  ]
+  looks-past past i ge = grind (arith, cases_lt, past-words)

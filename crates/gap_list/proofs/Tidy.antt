@@ -17,19 +17,14 @@ both-from_one a b f g = grind (arith, nat_tests)
 
 pub up-from_one : (gaps : List Gap) → list_all is_from_one gaps ≡ true → are_up gaps ≡ true
 up-from_one [] all = refl
-up-from_one (gap ∷ gaps) all =
-    let parts = and_parts _ _ all in
-    and_from _ _ (and_parts _ _ parts.0).1 (up-from_one gaps parts.1)
+up-from_one (gap ∷ gaps) all = grind (arith, and_parts, and_from, up-from_one gaps)
 
 -- none of the list's gaps is empty
 pub gap_list-up : (gaps : List Gap) → is_gap_list gaps ≡ true → are_up gaps ≡ true
 gap_list-up gaps tidy = up-from_one gaps (and_parts _ _ (and_parts _ _ tidy).0).0
 
 pub with_gap-tidy : (added : Gap) (gaps : List Gap) → 1 ≤ added.first → added.first ≤ added.last → is_gap_list gaps ≡ true → length (with_gap added gaps) ≤ 8 → is_gap_list (with_gap added gaps) ≡ true
-with_gap-tidy added gaps from goes tidy few =
-    let parts = and_parts _ _ (and_parts _ _ tidy).0 in
-    let here : is_from_one added ≡ true = and_from _ _ (le-leb 1 added.first from) (le-leb added.first added.last goes) in
-    and_from _ _ (and_from _ _ (with_gap-all is_from_one both-from_one added gaps here parts.0) (with_gap-are_apart added gaps goes (up-from_one gaps parts.0) parts.1)) (le-leb (length (with_gap added gaps)) 8 few)
+with_gap-tidy added gaps from goes tidy few = grind (arith, and_parts, and_from, le-leb, with_gap-all, both-from_one, with_gap-are_apart, up-from_one)
 
 -- the gaps of a record that may rule are such a list
 pub well_formed-tidy : (version : ℕ) (r : Record) → is_well_formed version r ≡ true → is_gap_list r.gaps ≡ true

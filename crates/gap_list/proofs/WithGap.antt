@@ -64,10 +64,7 @@ with_gap-all test joins added (gap ∷ gaps) here all =
     by false false more rest = rest
 
 pub with_gap-up : (added : Gap) (gaps : List Gap) → added.first ≤ added.last → are_up gaps ≡ true → are_up (with_gap added gaps) ≡ true
-with_gap-up added gaps goes up = with_gap-all is_up joins added gaps (le-leb added.first added.last goes) up
-  where
-    joins : (a b : Gap) → is_up a ≡ true → is_up b ≡ true → is_up (both a b) ≡ true
-    joins a b f g = grind (arith, nat_tests)
+with_gap-up added gaps goes up = grind (arith, with_gap-all, le-leb, nat_tests)
 
 pub with_gap-are_apart : (added : Gap) (gaps : List Gap) → added.first ≤ added.last → are_up gaps ≡ true → are_apart gaps ≡ true → are_apart (with_gap added gaps) ≡ true
 with_gap-are_apart added [] goes up a = refl

@@ -1,5 +1,5 @@
 -- Lines are appended to the journal of a file.
-use Rattle.std.proofs.Common.{◌≡◌, ◌⊎◌, inl, inr, ℕ, zero, suc, ◌+◌, ◌-◌, ◌<◌, ◌≤◌, Bool, true, ◌==◌, List, [], ◌∷◌, ◌++◌, length, map, take, drop, get_or, refl, sym, ◌∙◌, ap, subst, arith}
+use Rattle.std.proofs.Common.{◌≡◌, ◌⊎◌, inl, inr, ℕ, ◌+◌, ◌-◌, ◌<◌, ◌≤◌, Bool, true, ◌==◌, List, [], ◌∷◌, ◌++◌, length, map, take, drop, get_or, refl, sym, ◌∙◌, ap, subst, arith}
 use Rattle.std.proofs.Math.Logic.{∥∥₁_map}
 use Rattle.std.proofs.lemmas.Bool.{cases_lt}
 use Rattle.std.proofs.lemmas.List.{length-take, length-drop, length-append, get_or-take, get_or-drop, get_or_past, get_or_append_left, get_or-append-add, ext_get_or, append_assoc, take-append-drop, map-append}
@@ -58,12 +58,7 @@ pub rest_size : (words room position : ℕ) (found : List ℕ) → length found 
 rest_size words room position found size = omega (arith, length-drop position (journal_in words room found), journal_size words room found size)
 
 pub behind_at : (words room position at : ℕ) (file begun behind : List ℕ) → IsBehind words room position file begun behind → position + at < room → get_or behind at 0 ≡ get_or file (words + position + at) 0
-behind_at words room position at file begun behind is lt =
-    sym (get_or-append-add begun behind at 0)
-    ∙ along (begun ++ behind) (length begun + at) (position + at) (omega (arith, is.begun_size))
-    ∙ ap (λ (l : List ℕ). get_or l (position + at) 0) (sym is.written)
-    ∙ journal_word words room file (position + at) lt
-    ∙ along file (words + (position + at)) (words + position + at) (omega arith)
+behind_at words room position at file begun behind is lt = grind (arith, get_or-append-add, along, journal_word)
 
 pub split : (words room position : ℕ) (file found begun behind : List ℕ) → IsBehind words room position file begun behind → length found ≡ words + room + 8
     → ((word : ℕ) → words ≤ word → word < words + position → get_or found word 0 ≡ get_or file word 0) → journal_in words room found ≡ begun ++ rest_of words room position found
@@ -111,12 +106,7 @@ mixture old new words room position file found begun behind news is holds puts h
 
 pub rests-behind : (may_hold : ℕ → ℕ → Type 0) (words room : ℕ) (pass : Bool) (position : ℕ) (durable : List ℕ) (r : Rests may_hold words room pass position durable)
     → IsBehind words room position r.known.file (journal pass (map payloads_of_lines r.entries)) r.behind
-rests-behind may_hold words room pass position durable r = record {
-  size = r.known.size;
-  written = r.written;
-  begun_size = r.position_is;
-  all_size = omega (arith, ap (λ (l : List ℕ). length l) r.written, journal_size words room r.known.file r.known.size, length-append (journal pass (map payloads_of_lines r.entries)) r.behind, r.position_is);
-}
+rests-behind may_hold words room pass position durable r = grind (arith, journal_size words room r.known.file r.known.size, length-append (journal pass (map payloads_of_lines r.entries)) r.behind)
 
 -- what the durable words are, by the file
 pub durable_is : (may_hold : ℕ → ℕ → Type 0) (words room : ℕ) (pass : Bool) (position : ℕ) (durable : List ℕ) (r : Rests may_hold words room pass position durable) (word : ℕ) → word < words
@@ -202,13 +192,7 @@ pub pasted_within : (file : List ℕ) (start : ℕ) (news : List ℕ) → start 
 pasted_within file start news fits at lt = pasted_from file start news fits at ∙ get_or_append_left news (drop (start + length news) file) 0 at lt
 
 pub pasted_after : (file : List ℕ) (start : ℕ) (news : List ℕ) → start + length news ≤ length file → (word : ℕ) → start + length news ≤ word → get_or (pasted file start news) word 0 ≡ get_or file word 0
-pasted_after file start news fits word le =
-    let at : ℕ = word - (start + length news) in
-    along (pasted file start news) word (start + (length news + at)) (omega (arith, le))
-    ∙ pasted_from file start news fits (length news + at)
-    ∙ get_or-append-add news (drop (start + length news) file) at 0
-    ∙ get_or-drop (start + length news) file at 0
-    ∙ along file (start + length news + at) word (omega (arith, le))
+pasted_after file start news fits word le = grind (arith, along, pasted_from file start news fits (length news + (word - (start + length news))), get_or-append-add news (drop (start + length news) file) (word - (start + length news)) 0, get_or-drop (start + length news) file (word - (start + length news)) 0)
 
 pub append-kept : (old new : ℕ → ℕ → Type 0) (words room : ℕ) (pass : Bool) (position : ℕ) (durable next : List ℕ) (changed : List Line) → Rests old words room pass position durable → AreLines changed
     → position + length (entry pass (payloads_of_lines changed)) ≤ room → length next ≡ words → ((word : ℕ) → word < words → put_over changed word (get_or durable word 0) ≡ get_or next word 0)
@@ -320,16 +304,8 @@ stands-among before now room durable all image stood = inl (equal_out image dura
 -- ---- a file that was read
 
 two : (v : ℕ) → v < 2 → v ≡ pass_word (pass_of v)
-two zero lt = refl
-two (suc zero) lt = refl
-two (suc (suc v)) lt = absurd (omega (arith, lt))
+two a lt = grind (arith)
 
 pub found-knows : (may_hold : ℕ → ℕ → Type 0) (words room : ℕ) (file durable : List ℕ) (pass : Bool) → length file ≡ words + room + 8 → HoldsOnly may_hold (length file) file → Opens words room file durable
     → get_or file (words + room + 3) 0 < 2 → pass ≡ pass_of (get_or file (words + room + 3) 0) → Knows may_hold words room pass durable
-found-knows may_hold words room file durable pass size holds opens in_pass is = record {
-  file = file;
-  size = size;
-  holds = λ word x lt h. holds word x (omega (arith, lt, size)) h;
-  opens = opens;
-  pass_is = λ on. two (get_or file (words + room + 3) 0) in_pass ∙ ap pass_word (sym is);
-}
+found-knows may_hold words room file durable pass size holds opens in_pass is = grind (arith, two)

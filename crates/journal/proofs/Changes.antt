@@ -1,5 +1,5 @@
 -- Lines that put what differs.
-use Rattle.std.proofs.Common.{◌≡◌, ◌⊎◌, inl, inr, ℕ, ◌+◌, ◌*◌, ◌/◌, ◌%◌, ◌<◌, ◌≤◌, ◌^◌, Bool, true, false, cond, ◌||◌, List, [], ◌∷◌, ◌++◌, length, get_or, ◌==◌, refl, sym, ◌∙◌, ap, subst, arith}
+use Rattle.std.proofs.Common.{◌≡◌, ◌⊎◌, inl, inr, ℕ, ◌+◌, ◌*◌, ◌/◌, ◌%◌, ◌<◌, ◌≤◌, ◌^◌, Bool, true, false, List, [], ◌∷◌, ◌++◌, length, get_or, refl, sym, ◌∙◌, ap, arith}
 use Rattle.std.specs.Prelude.{All}
 use Rattle.std.proofs.lemmas.Bool.{or_cases, or_left, or_right, eqb-true, false≢true}
 use Rattle.std.proofs.lemmas.List.{length-map, ext_get_or}
@@ -17,24 +17,7 @@ use Rattle.journal.proofs.Opened.{size}
 -- a word that lines are put over is one that they put, or as it was
 pub over_puts : (lines : List Line) (word v : ℕ) → IsPut lines word (put_over lines word v) ⊎ ((is_put_at lines (word / 8) ≡ false) × (put_over lines word v ≡ v))
 over_puts [] word v = inr (refl, refl)
-over_puts (line ∷ lines) word v = by_test (line.number == word / 8) refl (over_puts lines word (get_or line.words (word % 8) 0)) (over_puts lines word v)
-  where
-    by_test : (b : Bool) → (line.number == word / 8) ≡ b
-        → IsPut lines word (put_over lines word (get_or line.words (word % 8) 0)) ⊎ ((is_put_at lines (word / 8) ≡ false) × (put_over lines word (get_or line.words (word % 8) 0) ≡ get_or line.words (word % 8) 0))
-        → IsPut lines word (put_over lines word v) ⊎ ((is_put_at lines (word / 8) ≡ false) × (put_over lines word v ≡ v))
-        → IsPut (line ∷ lines) word (put_over (line ∷ lines) word v) ⊎ ((is_put_at (line ∷ lines) (word / 8) ≡ false) × (put_over (line ∷ lines) word v ≡ v))
-    by_test true here put left =
-        let is : put_over (line ∷ lines) word v ≡ put_over lines word (get_or line.words (word % 8) 0) = ap (λ (b : Bool). put_over lines word (cond b (get_or line.words (word % 8) 0) v)) here in
-        elim put [
-          | inl among ↦ inl (inr (subst (λ (y : ℕ). IsPut lines word y) (sym is) among))
-          | inr none ↦ inl (inl (eqb-true line.number (word / 8) here, is ∙ none.1))
-        ]
-    by_test false here put left =
-        let is : put_over (line ∷ lines) word v ≡ put_over lines word v = ap (λ (b : Bool). put_over lines word (cond b (get_or line.words (word % 8) 0) v)) here in
-        elim left [
-          | inl among ↦ inl (inr (subst (λ (y : ℕ). IsPut lines word y) (sym is) among))
-          | inr none ↦ inr (ap (λ (b : Bool). b || is_put_at lines (word / 8)) here ∙ none.0, is ∙ none.1)
-        ]
+over_puts (line ∷ lines) word v = grind (arith, over_puts lines word (get_or line.words (word % 8) 0), over_puts lines word v, eqb-true)
 
 -- so the lines of the numbers in which words differ make them of the durable ones
 pub found-changed : (lines : List Line) (durable words numbers : List ℕ) → AreFound lines durable words numbers → DiffersIn numbers words durable → AreChanged lines durable words
@@ -57,38 +40,16 @@ found-changed lines durable words numbers found differs = record {
 -- ---- one number more
 
 listed-cases : (numbers : List ℕ) (last number : ℕ) → is_listed (numbers ++ last ∷ []) number ≡ true → (is_listed numbers number ≡ true) ⊎ (last ≡ number)
-listed-cases [] last number is = elim (or_cases (last == number) false is) [
-  | inl here ↦ inr (eqb-true last number here)
-  | inr none ↦ absurd (false≢true none)
-]
-listed-cases (first ∷ numbers) last number is = elim (or_cases (first == number) (is_listed (numbers ++ last ∷ []) number) is) [
-  | inl here ↦ inl (or_left (first == number) (is_listed numbers number) here)
-  | inr there ↦ elim (listed-cases numbers last number there) [
-    | inl among ↦ inl (or_right (first == number) (is_listed numbers number) among)
-    | inr is_last ↦ inr is_last
-  ]
-]
+listed-cases [] last number is = grind (arith, or_cases, eqb-true, false≢true)
+listed-cases (first ∷ numbers) last number is = grind (arith, or_cases, or_left, listed-cases numbers last number, or_right)
 
 pub found-none : (durable words : List ℕ) → AreFound [] durable words []
-found-none durable words = record {
-  puts = λ word x put. absurd put;
-  has = λ word lt is. absurd (false≢true is);
-  lines_are = λ k d lt. absurd (omega (arith, lt));
-  within = λ k d lt. absurd (omega (arith, lt));
-}
+found-none durable words = grind (arith, false≢true)
 
 -- of a line that is durable, or is none of theirs, nothing is added
 pub found-stood : (lines : List Line) (durable words numbers : List ℕ) (number : ℕ) → AreFound lines durable words numbers
     → ((word : ℕ) → word < length words → word / 8 ≡ number → get_or durable word 0 ≡ get_or words word 0) → AreFound lines durable words (numbers ++ number ∷ [])
-found-stood lines durable words numbers number before same = record {
-  puts = before.puts;
-  has = λ word lt is. elim (listed-cases numbers number (word / 8) is) [
-    | inl among ↦ before.has word lt among
-    | inr last ↦ inr (same word lt (sym last))
-  ];
-  lines_are = before.lines_are;
-  within = before.within;
-}
+found-stood lines durable words numbers number before same = grind (arith, listed-cases)
 
 all_more : (P : Line → Type 0) (lines : List Line) (line : Line) → All P lines → P line → All P (lines ++ line ∷ [])
 all_more P lines line all here = All-append P lines (line ∷ []) all (All-cons P line [] here (λ k d lt. absurd (omega (arith, lt))))

@@ -1,5 +1,5 @@
 -- What is found of a file, and what a run of words makes of it.
-use Rattle.std.proofs.Common.{Result, Ok, Err, ◌≡◌, ◌≢◌, ◌⊎◌, inl, inr, ℕ, zero, suc, ◌+◌, ◌-◌, ◌/◌, ◌<◌, ◌≤◌, Bool, true, false, cond, ◌==◌, List, [], ◌++◌, length, drop, replicate, get_or, refl, sym, ◌∙◌, ap, subst, arith}
+use Rattle.std.proofs.Common.{Result, ◌≡◌, ◌≢◌, ◌⊎◌, inl, inr, ℕ, zero, suc, ◌+◌, ◌-◌, ◌/◌, ◌<◌, ◌≤◌, Bool, true, cond, ◌==◌, List, [], ◌++◌, length, drop, replicate, get_or, refl, sym, ◌∙◌, ap, subst, arith}
 use Rattle.std.specs.Prelude.{OnOk}
 use Rattle.std.proofs.Math.Logic.{∥∥₁_elim, ∥∥₁_prop}
 use Rattle.std.proofs.lemmas.Grind.{merely}
@@ -35,9 +35,7 @@ size_zeros : (n : ℕ) → length (replicate {A = ℕ} n 0) ≡ n
 size_zeros n = length-replicate {A = ℕ} n 0
 
 pub at_run : (news : List ℕ) (start word at : ℕ) → word ≡ start + at → get_or news (word - start) 0 ≡ get_or news at 0
-at_run news start word at is =
-    let same : word - start ≡ at = omega (arith, is) in
-    ap (λ (n : ℕ). get_or news n 0) same
+at_run news start word at is = grind (arith)
 
 pub along : (l : List ℕ) (a b : ℕ) → a ≡ b → get_or l a 0 ≡ get_or l b 0
 along l a b is = ap (λ (n : ℕ). get_or l n 0) is
@@ -60,21 +58,11 @@ same_journal words room file found size_file size_found same =
 
 pub same_lines : (words room : ℕ) (file found : List ℕ) → length file ≡ words + room + 8 → length found ≡ words + room + 8
     → ((at : ℕ) → words ≤ at → at < words + room + 8 → get_or found at 0 ≡ get_or file at 0) → lines_in words room found ≡ lines_in words room file
-same_lines words room file found size_file size_found same =
-    let first : get_or found (words + room) 0 ≡ get_or file (words + room) 0 = same (words + room) (omega arith) (omega arith) in
-    let fourth : get_or found (words + room + 3) 0 ≡ get_or file (words + room + 3) 0 = same (words + room + 3) (omega arith) (omega arith) in
-    let journal : journal_in words room found ≡ journal_in words room file = same_journal words room file found size_file size_found (λ at le lt. same at le (omega (arith, lt))) in
-    (λ i. cond (first i == magic) (lines_found (pass_of (fourth i)) (journal i)) [])
+same_lines words room file found size_file size_found same = grind (arith, same_journal)
 
 -- where the journal counts, by its pass
 pub lines-on : (words room : ℕ) (pass : Bool) (file : List ℕ) → is_on words room file ≡ true → get_or file (words + room + 3) 0 ≡ pass_word pass → lines_in words room file ≡ lines_found pass (journal_in words room file)
-lines-on words room pass file on is =
-    (λ i. cond (on i) (lines_found (pass_of (is i)) (journal_in words room file)) [])
-    ∙ ap (λ (p : Bool). lines_found p (journal_in words room file)) (back pass)
-  where
-    back : (p : Bool) → pass_of (pass_word p) ≡ p
-    back true = refl
-    back false = refl
+lines-on words room pass file on is = grind (arith)
 
 pub lines-off : (words room : ℕ) (file : List ℕ) → get_or file (words + room) 0 ≢ magic → lines_in words room file ≡ []
 lines-off words room file off = ap (λ (b : Bool). cond b (lines_found (pass_of (get_or file (words + room + 3) 0)) (journal_in words room file)) []) (ne_eqb (get_or file (words + room) 0) magic off)
@@ -88,10 +76,7 @@ found_word may_hold count file found holds is word lt = holds word (get_or found
 
 -- the image is in place, and nothing lies over it
 pub opens-off : (words room : ℕ) (file durable : List ℕ) → length durable ≡ words → ((word : ℕ) → word < words → get_or file word 0 ≡ get_or durable word 0) → lines_in words room file ≡ [] → Opens words room file durable
-opens-off words room file durable size place none = record {
-  size = size;
-  each = λ word lt. sym (place word lt) ∙ ap (λ (l : List Line). put_over l word (get_or file word 0)) (sym none);
-}
+opens-off words room file durable size place none = grind (arith)
 
 -- what each found file stands for
 pub found_opens : (may_hold : ℕ → ℕ → Type 0) (words room : ℕ) (durable : List ℕ) → ((file : List ℕ) → IsFound may_hold (words + room + 8) file → Opens words room file durable) → FoundOpens may_hold words room durable
@@ -125,10 +110,7 @@ only-stands may_hold words room file image opens only = opened-stands may_hold w
 -- what is found is as it was, but for a run
 pub found_beside : (old new : ℕ → ℕ → Type 0) (count start : ℕ) (news file found : List ℕ) → HoldsOnly old count file → Puts old new start news → IsFound new count found
     → (word : ℕ) → word < count → (get_or found word 0 ≡ get_or file word 0) ⊎ IsInRun start news word (get_or found word 0)
-found_beside old new count start news file found holds puts is word lt = elim (puts word (get_or found word 0) (is.each word lt)) [
-  | inl was ↦ inl (holds word (get_or found word 0) lt was)
-  | inr put ↦ inr put
-]
+found_beside old new count start news file found holds puts is word lt = grind (arith)
 
 pub place-opens : (old new : ℕ → ℕ → Type 0) (words room : ℕ) (pass : Bool) (durable : List ℕ) → Knows old words room pass durable → Puts old new 0 durable → FoundOpens new words room durable
 place-opens old new words room pass durable known puts = found_opens new words room durable (λ found is.
@@ -221,14 +203,7 @@ off-opens old new words room pass durable here puts = found_opens new words room
 
 pub off-kept : (old new : ℕ → ℕ → Type 0) (words room : ℕ) (pass : Bool) (durable : List ℕ) → IsInPlace old words room pass durable → Puts old new (words + room) (tail_of 0 words room pass)
     → Keeps new (words + room) (tail_of 0 words room pass) → IsOff new words room durable
-off-kept old new words room pass durable here puts keeps = record {
-  size = here.known.opens.size;
-  place = λ word x lt h. elim (puts word x h) [
-    | inl held ↦ here.known.holds word x (omega (arith, lt)) held ∙ here.place word lt
-    | inr put ↦ absurd (omega (arith, put.0, lt))
-  ];
-  off = λ x h. keeps (words + room) x (omega arith) (omega arith) h ∙ at_run (tail_of 0 words room pass) (words + room) (words + room) 0 (omega arith);
-}
+off-kept old new words room pass durable here puts keeps = grind (arith, at_run)
 
 -- ---- nothing is left in it
 
@@ -256,19 +231,7 @@ clear-opens old new words room durable here puts = found_opens new words room du
     (lines-off words room found (λ e. zero-magic (sym off ∙ e))))
 
 pub clear-kept : (old new : ℕ → ℕ → Type 0) (words room : ℕ) (durable : List ℕ) → IsOff old words room durable → Puts old new words (clear words room) → Keeps new words (clear words room) → IsClear new words room durable
-clear-kept old new words room durable here puts keeps = record {
-  size = here.size;
-  holds = λ word x lt h. elim (cases_lt word words) [
-    | inl below ↦ elim (puts word x h) [
-      | inl held ↦ here.place word x below held ∙ sym (get_or_append_left durable (clear words room) 0 word (omega (arith, below, here.size)))
-      | inr put ↦ absurd (omega (arith, put.0, below))
-    ]
-    | inr above ↦
-        keeps word x above (omega (arith, lt, clear_size words room)) h
-        ∙ sym (get_or-append-add durable (clear words room) (word - words) 0)
-        ∙ along (durable ++ clear words room) (length durable + (word - words)) word (omega (arith, above, here.size))
-  ];
-}
+clear-kept old new words room durable here puts keeps = grind (arith, cases_lt, get_or_append_left, clear_size, get_or-append-add, along)
 
 -- ---- the journal counts
 
@@ -375,8 +338,7 @@ on-kept old new words room durable here puts keeps =
 -- ---- through what is merely known
 
 pub on_ok : {T E : Type 0} {P Q : Type 0} (r : Result T E) → (P → Q) → OnOk r P → OnOk r Q
-on_ok (Ok x) f p = f p
-on_ok (Err e) f p = p
+on_ok a f p = grind (arith)
 
 pub merely-opens : {K : Type 0} (may_hold : ℕ → ℕ → Type 0) (words room : ℕ) (durable : List ℕ) → ∥ K ∥₁ → (K → FoundOpens may_hold words room durable) → FoundOpens may_hold words room durable
 merely-opens may_hold words room durable known each file image is opens = ∥∥₁_elim known ∥∥₁_prop (λ k. each k file image is opens)

@@ -61,21 +61,12 @@ lines-return (line ∷ lines) all =
 -- ---- the loop that takes a line apart
 
 at_drop : (payloads : List ℕ) (place : ℕ) → place < 8 → 9 ≤ length payloads → drop place (take 8 payloads) ≡ get_or payloads place 0 ∷ drop (place + 1) (take 8 payloads)
-at_drop payloads place lt long =
-    drop_more (take 8 payloads) place 0 (omega (arith, lt, long, length-take 8 payloads))
-    ∙ ap (λ (x : ℕ). x ∷ drop (place + 1) (take 8 payloads)) (get_or-take 8 payloads place 0 lt)
+at_drop payloads place lt long = grind (arith, drop_more, length-take, get_or-take)
 
 pub joined-more : (payloads words start : List ℕ) (place rest value : ℕ) → place < 8 → 9 ≤ length payloads → length words ≡ 8 → value ≡ get_or payloads place 0 % 2 ^ 63 + rest % 2 * 2 ^ 63
     → take place words ++ joined (drop place (take 8 payloads)) rest ≡ start
     → take (place + 1) (set words place value) ++ joined (drop (place + 1) (take 8 payloads)) (rest / 2) ≡ start
-joined-more payloads words start place rest value lt long size is before =
-    let left : List ℕ = joined (drop (place + 1) (take 8 payloads)) (rest / 2) in
-    let first : value ≡ low (get_or payloads place 0) + 2 ^ 63 * (rest % 2) = omega (arith, is) in
-    ap (λ (l : List ℕ). l ++ left) (take_more_set words place value (omega (arith, lt, size)))
-    ∙ append_assoc (take place words) (value ∷ []) left
-    ∙ (λ i. take place words ++ (first i ∷ left))
-    ∙ sym (ap (λ (l : List ℕ). take place words ++ joined l rest) (at_drop payloads place lt long))
-    ∙ before
+joined-more payloads words start place rest value lt long size is before = grind (arith, take_more_set, append_assoc, at_drop)
 
 pub number-more : (payloads : List ℕ) (place rest number : ℕ) → place < 8 → 9 ≤ length payloads → number_in (drop place (take 8 payloads)) rest ≡ number → number_in (drop (place + 1) (take 8 payloads)) (rest / 2) ≡ number
 number-more payloads place rest number lt long before = sym (ap (λ (l : List ℕ). number_in l rest) (at_drop payloads place lt long)) ∙ before

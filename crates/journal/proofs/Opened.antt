@@ -1,12 +1,12 @@
 -- What is found of a file at each instant.
-use Rattle.std.proofs.Common.{◌≡◌, ◌≢◌, ◌⊎◌, inl, inr, ℕ, suc, ◌*◌, ◌/◌, Bool, not, List, [], ◌∷◌, ◌++◌, length, map, get_or, refl, sym, ◌∙◌, ap, arith}
+use Rattle.std.proofs.Common.{◌≡◌, ◌≢◌, ◌⊎◌, inl, inr, ℕ, suc, ◌*◌, Bool, not, List, [], ◌∷◌, ◌++◌, length, map, get_or, refl, sym, ◌∙◌, ap, arith}
 use Rattle.std.proofs.lemmas.List.{length-map, length-append, append_assoc}
 use Rattle.std.proofs.lemmas.List.Elements.{All-append}
 use Rattle.journal.specs.declared.line.Line.{Line}
 use Rattle.journal.specs.Entries.{NoneOf, entry, over, IsMixture}
 use Rattle.journal.specs.Several.{read_all}
 use Rattle.journal.specs.Passes.{joined, IsFilling, AllOf}
-use Rattle.journal.specs.LinePayloads.{low, packed, line_payloads, payloads_of_lines, lines_of, IsLine}
+use Rattle.journal.specs.LinePayloads.{low, packed, line_payloads, payloads_of_lines, IsLine}
 use Rattle.journal.specs.InPlace.{put_over}
 use Rattle.journal.specs.Opened.{lines_found, all_lines, journal_of, AreLines, OpensTo, FileStates}
 use Rattle.journal.proofs.Several.{append-is_whole, none-is_nothing}
@@ -24,9 +24,7 @@ size (line ∷ lines) all =
 
 -- the lines are those of the payloads that are found
 found-is : (pass : Bool) (words : List ℕ) (lines : List Line) → AreLines lines → joined (read_all pass words) ≡ payloads_of_lines lines → lines_found pass words ≡ lines
-found-is pass words lines all is =
-    let count : length (payloads_of_lines lines) / 9 ≡ length lines = omega (arith, size lines all) in
-    (λ i. lines_of (length (is i) / 9) (is i)) ∙ (λ i. lines_of (count i) (payloads_of_lines lines)) ∙ lines-return lines all
+found-is pass words lines all is = grind (arith, size lines all, lines-return lines all)
 
 flat : (a b : List Line) → payloads_of_lines (a ++ b) ≡ payloads_of_lines a ++ payloads_of_lines b
 flat [] b = refl

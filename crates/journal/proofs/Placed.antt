@@ -1,5 +1,5 @@
 -- Lines are put over an image in memory.
-use Rattle.std.proofs.Common.{◌≡◌, ℕ, zero, suc, ◌+◌, ◌*◌, ◌/◌, ◌%◌, ◌<◌, ◌≤◌, List, [], ◌∷◌, ◌++◌, length, take, drop, get_or, refl, sym, ◌∙◌, ap, subst, arith}
+use Rattle.std.proofs.Common.{◌≡◌, ℕ, zero, suc, ◌+◌, ◌*◌, ◌/◌, ◌%◌, ◌<◌, ◌≤◌, List, [], ◌∷◌, ◌++◌, length, take, drop, get_or, refl, sym, subst, arith}
 use Rattle.std.proofs.Math.Seq.{take-suc}
 use Rattle.std.proofs.lemmas.List.{drop-drop}
 use Rattle.journal.specs.declared.line.Line.{Line}
@@ -19,10 +19,7 @@ placing-none old line = record { size = refl; own = λ word e lt. absurd (omega 
 
 lines-more : (n : ℕ) (payloads : List ℕ) → lines_of (suc n) payloads ≡ lines_of n payloads ++ line_of (drop (9 * n) payloads) ∷ []
 lines-more zero payloads = refl
-lines-more (suc n) payloads =
-    let e : drop (9 * n) (drop 9 payloads) ≡ drop (9 * suc n) payloads = drop-drop (9 * n) 9 payloads ∙ ap (λ (m : ℕ). drop m payloads) (omega arith) in
-    ap (λ (l : List Line). line_of payloads ∷ l) (lines-more n (drop 9 payloads))
-    ∙ (λ i. line_of payloads ∷ (lines_of n (drop 9 payloads) ++ line_of (e i) ∷ []))
+lines-more (suc n) payloads = grind (arith, drop-drop (9 * n) 9 payloads, lines-more n (drop 9 payloads))
 
 over-more : (lines : List Line) (line : Line) (word v : ℕ) → put_over (lines ++ line ∷ []) word v ≡ put_over (line ∷ []) word (put_over lines word v)
 over-more [] line word v = refl
@@ -38,23 +35,12 @@ placed-none old = record { size = refl; each = λ word lt. refl }
 
 pub placed-more : (old mid now : List ℕ) (lines : List Line) (line : Line) → ArePlaced old mid lines → length now ≡ length mid
     → ((word : ℕ) → word < length mid → get_or now word 0 ≡ put_over (line ∷ []) word (get_or mid word 0)) → ArePlaced old now (lines ++ line ∷ [])
-placed-more old mid now lines line before size each = record {
-  size = size ∙ before.size;
-  each = λ word lt.
-      each word (omega (arith, lt, before.size))
-      ∙ ap (λ (v : ℕ). put_over (line ∷ []) word v) (before.each word lt)
-      ∙ sym (over-more lines line word (get_or old word 0));
-}
+placed-more old mid now lines line before size each = grind (arith, over-more)
 
 -- the next line of these payloads
 pub payloads-more : (old mid now payloads : List ℕ) (count : ℕ) (line : Line) → ArePlaced old mid (lines_of count payloads) → line ≡ line_of (drop (9 * count) payloads) → length now ≡ length mid
     → ((word : ℕ) → word < length mid → get_or now word 0 ≡ put_over (line ∷ []) word (get_or mid word 0)) → ArePlaced old now (lines_of (count + 1) payloads)
-payloads-more old mid now payloads count line before is size each =
-    let more : lines_of count payloads ++ line ∷ [] ≡ lines_of (count + 1) payloads = (λ i. lines_of count payloads ++ is i ∷ []) ∙ sym (lines-more count payloads) ∙ ap (λ (n : ℕ). lines_of n payloads) (next count) in
-    subst (λ (l : List Line). ArePlaced old now l) more (placed-more old mid now (lines_of count payloads) line before size each)
-  where
-    next : (n : ℕ) → suc n ≡ n + 1
-    next n = omega arith
+payloads-more old mid now payloads count line before is size each = grind (arith, lines-more count payloads, placed-more old mid now (lines_of count payloads) line before size each)
 
 -- the next one of these lines
 pub lines-placed : (old mid now : List ℕ) (lines : List Line) (count : ℕ) (d : Line) → count < length lines → ArePlaced old mid (take count lines) → length now ≡ length mid

@@ -22,12 +22,7 @@ pub cases_list : (a b : List ℕ) → (a ≡ b) ⊎ (a ≢ b)
 cases_list [] [] = inl refl
 cases_list [] (y ∷ b) = inr (λ e. omega (arith, ap (λ (l : List ℕ). length l) e))
 cases_list (x ∷ a) [] = inr (λ e. omega (arith, ap (λ (l : List ℕ). length l) e))
-cases_list (x ∷ a) (y ∷ b) = by_parts (cases_eq x y) (cases_list a b)
-  where
-    by_parts : (x ≡ y) ⊎ (x ≢ y) → (a ≡ b) ⊎ (a ≢ b) → (x ∷ a ≡ y ∷ b) ⊎ (x ∷ a ≢ y ∷ b)
-    by_parts (inr differ) rest = inr (λ e. differ (ap head e))
-    by_parts (inl same) (inr differ) = inr (λ e. differ (ap tail e))
-    by_parts (inl same) (inl rest) = inl (λ i. same i ∷ rest i)
+cases_list (x ∷ a) (y ∷ b) = grind (arith, cases_eq, cases_list a b)
 
 pub either_out : (image a b : List ℕ) → ∥ (image ≡ a) ⊎ (image ≡ b) ∥₁ → (image ≡ a) ⊎ (image ≡ b)
 either_out image a b some = elim (cases_list image a) [

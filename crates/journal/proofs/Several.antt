@@ -1,8 +1,8 @@
 -- Several entries are read.
-use Rattle.std.proofs.Common.{◌≡◌, inl, inr, ℕ, zero, suc, ◌+◌, ◌/◌, ◌≤◌, Bool, true, false, cond, ◌&&◌, List, [], ◌∷◌, ◌++◌, length, take, drop, Option, Some, None, is_some, nat_le, refl, sym, ◌∙◌, ap, arith}
+use Rattle.std.proofs.Common.{◌≡◌, inl, inr, ℕ, zero, suc, ◌+◌, ◌/◌, ◌≤◌, Bool, true, false, cond, ◌&&◌, List, [], ◌∷◌, ◌++◌, length, take, drop, Some, None, nat_le, refl, ◌∙◌, ap, arith}
 use Rattle.std.proofs.lemmas.Bool.{and_parts, and_from, le-leb, true≢false}
 use Rattle.std.proofs.lemmas.List.{length-map, length-append, take_at, drop_at}
-use Rattle.journal.specs.Entries.{marked, is_of, marks, payloads_of, are_of, NoneOf, is_whole, entry, read, over, IsMixture}
+use Rattle.journal.specs.Entries.{marks, payloads_of, are_of, NoneOf, entry, read, over, IsMixture}
 use Rattle.journal.specs.Several.{read_most, journal, AppendIsWhole, NoneIsNothing, IsScrub, ScrubIsNone}
 use Rattle.journal.proofs.Torn.{half, own_bit, torn-is_none}
 
@@ -16,17 +16,7 @@ marks_read pass (payload ∷ payloads) = λ i. half pass payload i ∷ marks_rea
 
 -- a whole entry is read, and then what stands behind it
 pub one_more : (pass : Bool) (most : ℕ) (payloads rest : List ℕ) → read_most pass (suc most) (entry pass payloads ++ rest) ≡ payloads ∷ read_most pass most rest
-one_more pass most payloads rest =
-    let words : List ℕ = marks pass payloads ++ rest in
-    let word : ℕ = marked pass (length payloads) in
-    let count : word / 2 ≡ length payloads = half pass (length payloads) in
-    let size : length (marks pass payloads) ≡ length payloads = length-map payloads (marked pass) in
-    let taken : take (word / 2) words ≡ marks pass payloads = ap (λ (n : ℕ). take n words) count ∙ take_at (marks pass payloads) rest (length payloads) size in
-    let left : drop (word / 2) words ≡ rest = ap (λ (n : ℕ). drop n words) count ∙ drop_at (marks pass payloads) rest (length payloads) size in
-    let fits : word / 2 ≤ length words = omega (arith, count, size, length-append (marks pass payloads) rest) in
-    let whole : is_whole pass word words ≡ true = and_from _ _ (own_bit pass (length payloads)) (and_from _ _ (le-leb (word / 2) (length words) fits) (ap (are_of pass) taken ∙ marks_are pass payloads)) in
-    (λ i. cond (whole i) (payloads_of (taken i) ∷ read_most pass most (left i)) [])
-    ∙ (λ i. marks_read pass payloads i ∷ read_most pass most rest)
+one_more pass most payloads rest = grind (arith, half, length-map, take_at, drop_at, length-append, and_from, own_bit, le-leb, marks_are, marks_read)
 
 pub none_more : (pass : Bool) (most : ℕ) (words : List ℕ) → NoneOf pass words → read_most pass most words ≡ []
 none_more pass zero words none = refl
@@ -35,15 +25,12 @@ none_more pass (suc most) (word ∷ words) none =
     ap (λ (b : Bool). cond (b && (nat_le (word / 2) (length words) && are_of pass (take (word / 2) words))) (payloads_of (take (word / 2) words) ∷ read_most pass most (drop (word / 2) words)) []) none.0
 
 pub not_whole : (b : Bool) (payloads : List ℕ) → cond b (Some payloads) None ≡ None → b ≡ false
-not_whole true payloads e = absurd (true≢false (ap (λ (o : Option (List ℕ)). is_some o) e))
-not_whole false payloads e = refl
+not_whole a payloads e = grind (arith, true≢false)
 
 pub torn_more : (pass : Bool) (most : ℕ) (words : List ℕ) → read pass words ≡ None → read_most pass most words ≡ []
 torn_more pass zero words torn = refl
 torn_more pass (suc most) [] torn = refl
-torn_more pass (suc most) (word ∷ words) torn =
-    ap (λ (b : Bool). cond b (payloads_of (take (word / 2) words) ∷ read_most pass most (drop (word / 2) words)) [])
-    (not_whole (is_whole pass word words) (payloads_of (take (word / 2) words)) torn)
+torn_more pass (suc most) (word ∷ words) torn = grind (arith, not_whole)
 
 -- those before
 pub before : (pass : Bool) (entries : List (List ℕ)) (last : List (List ℕ)) (words : List ℕ) (most : ℕ) → ((left : ℕ) → most ≡ length entries + left → read_most pass left words ≡ last)
@@ -116,32 +103,12 @@ scrub_are : (pass : Bool) (n : ℕ) (old words : List ℕ) → IsScrub pass old 
 scrub_are pass zero old words scrub are = refl
 scrub_are pass (suc n) [] words scrub are = refl
 scrub_are pass (suc n) (word ∷ old) [] scrub are = absurd scrub
-scrub_are pass (suc n) (word ∷ old) (found ∷ words) scrub are =
-    let parts = and_parts (is_of pass found) (are_of pass (take n words)) are in
-    elim scrub.0 [
-      | inl same ↦ and_from _ _ (ap (λ (w : ℕ). is_of pass w) (sym same) ∙ parts.0) (scrub_are pass n old words scrub.1 parts.1)
-      | inr other ↦ absurd (true≢false (sym parts.0 ∙ other))
-    ]
+scrub_are pass (suc n) (word ∷ old) (found ∷ words) scrub are = grind (arith, and_parts, and_from, scrub_are pass n old words scrub.1, true≢false)
 
 true_or : (b : Bool) → (b ≡ true → ⊥) → b ≡ false
-true_or true refuted = absurd (refuted refl)
-true_or false refuted = refl
+true_or a refuted = grind (arith)
 
 pub scrub-is_none : ScrubIsNone
 scrub-is_none pass [] words torn scrub = ap (read pass) scrub
 scrub-is_none pass (word ∷ old) [] torn scrub = absurd scrub
-scrub-is_none pass (word ∷ old) (found ∷ words) torn scrub =
-    ap (λ (b : Bool). cond b (Some (payloads_of (take (found / 2) words))) None) (true_or (is_whole pass found words) refuted)
-  where
-    refuted : is_whole pass found words ≡ true → ⊥
-    refuted whole =
-        let a = and_parts (is_of pass found) (nat_le (found / 2) (length words) && are_of pass (take (found / 2) words)) whole in
-        let b = and_parts (nat_le (found / 2) (length words)) (are_of pass (take (found / 2) words)) a.1 in
-        elim scrub.0 [
-          | inr other ↦ true≢false (sym a.0 ∙ other)
-          | inl same ↦
-              let size : nat_le (word / 2) (length old) ≡ true = (λ i. nat_le (sym same i / 2) (sym (scrub_size pass old words scrub.1) i)) ∙ b.0 in
-              let are : are_of pass (take (word / 2) old) ≡ true = scrub_are pass (word / 2) old words scrub.1 (ap (λ (w : ℕ). are_of pass (take (w / 2) words)) (sym same) ∙ b.1) in
-              let was : is_whole pass word old ≡ true = and_from _ _ (ap (λ (w : ℕ). is_of pass w) (sym same) ∙ a.0) (and_from _ _ size are) in
-              true≢false (sym was ∙ not_whole (is_whole pass word old) (payloads_of (take (word / 2) old)) torn)
-        ]
+scrub-is_none pass (word ∷ old) (found ∷ words) torn scrub = grind (arith, true_or, and_parts, true≢false, scrub_size, scrub_are, and_from, not_whole)

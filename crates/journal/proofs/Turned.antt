@@ -1,5 +1,5 @@
 -- A full journal's next pass begins.
-use Rattle.std.proofs.Common.{◌≡◌, ◌⊎◌, inl, inr, ℕ, suc, ◌+◌, ◌-◌, ◌/◌, ◌<◌, ◌≤◌, Bool, true, false, not, ◌==◌, List, [], ◌∷◌, ◌++◌, length, map, take, drop, replicate, get_or, refl, sym, ◌∙◌, ap, subst, arith}
+use Rattle.std.proofs.Common.{◌≡◌, ◌⊎◌, inl, inr, ℕ, suc, ◌+◌, ◌-◌, ◌/◌, ◌<◌, ◌≤◌, Bool, true, not, ◌==◌, List, [], ◌∷◌, ◌++◌, length, map, take, drop, replicate, get_or, refl, sym, ◌∙◌, ap, subst, arith}
 use Rattle.std.proofs.lemmas.Bool.{cases_lt, eq-eqb}
 use Rattle.std.proofs.lemmas.List.{length-take, length-drop, length-append, length-replicate, get_or-take, get_or-drop, get_or_past, get_or-replicate, get_or_append_left, get_or-append-add}
 use Rattle.journal.specs.Kept.{HoldsOnly, IsFound}
@@ -27,12 +27,10 @@ pub fillings_size : (pass : Bool) (count : ℕ) → length (fillings pass count)
 fillings_size pass count = length-replicate {A = ℕ} count (bit_of pass)
 
 nothing_marked : (pass : Bool) → marked pass 0 ≡ bit_of pass
-nothing_marked true = refl
-nothing_marked false = refl
+nothing_marked a = grind (arith)
 
 own_filling : (pass : Bool) → is_of pass (bit_of pass) ≡ true
-own_filling true = refl
-own_filling false = refl
+own_filling a = grind (arith)
 
 all_append : (pass : Bool) (a b : List ℕ) → AllOf pass a → AllOf pass b → AllOf pass (a ++ b)
 all_append pass [] b left right = right
@@ -100,40 +98,7 @@ filled-opens may_hold words room pass position durable found r filled =
 filled-found : (old new : ℕ → ℕ → Type 0) (words room : ℕ) (pass : Bool) (position : ℕ) (file durable found : List ℕ) → HoldsOnly old (words + room + 8) file → length durable ≡ words → position ≤ room
     → ((word x : ℕ) → new word x → (old word x ⊎ IsInRun (words + position) (fillings pass (room - position)) word x) ⊎ IsInRun 0 durable word x)
     → IsFound new (words + room + 8) found → IsFilled words room pass position file durable found
-filled-found old new words room pass position file durable found holds was within puts is =
-    let count : length (fillings pass (room - position)) ≡ room - position = fillings_size pass (room - position) in
-    let start : ℕ = words + position in
-    record {
-      size = is.size;
-      place = λ word lt. elim (puts word (get_or found word 0) (is.each word (omega (arith, lt)))) [
-        | inl some ↦ elim some [
-          | inl held ↦ inl (holds word (get_or found word 0) (omega (arith, lt)) held)
-          | inr put ↦ absurd (omega (arith, put.0, lt))
-        ]
-        | inr put ↦ inr (put.2 ∙ along durable (word - 0) word (omega arith))
-      ];
-      before = λ word le lt. elim (puts word (get_or found word 0) (is.each word (omega (arith, lt, within)))) [
-        | inl some ↦ elim some [
-          | inl held ↦ holds word (get_or found word 0) (omega (arith, lt, within)) held
-          | inr put ↦ absurd (omega (arith, put.0, lt))
-        ]
-        | inr put ↦ absurd (omega (arith, put.1, le, was))
-      ];
-      behind = λ word le lt. elim (puts word (get_or found word 0) (is.each word (omega (arith, lt)))) [
-        | inl some ↦ elim some [
-          | inl held ↦ inl (holds word (get_or found word 0) (omega (arith, lt)) held)
-          | inr put ↦ inr (put.2 ∙ get_or-replicate (room - position) (word - start) (bit_of pass) 0 (omega (arith, le, lt, within)))
-        ]
-        | inr put ↦ absurd (omega (arith, put.1, le, was))
-      ];
-      after = λ word le lt. elim (puts word (get_or found word 0) (is.each word lt)) [
-        | inl some ↦ elim some [
-          | inl held ↦ holds word (get_or found word 0) lt held
-          | inr put ↦ absurd (omega (arith, put.1, le, count, within))
-        ]
-        | inr put ↦ absurd (omega (arith, put.1, le, was))
-      ];
-    }
+filled-found old new words room pass position file durable found holds was within puts is = grind (arith, fillings_size, along, get_or-replicate)
 
 pub fill-opens : (old new : ℕ → ℕ → Type 0) (words room : ℕ) (pass : Bool) (position : ℕ) (durable : List ℕ) → position ≤ room → Rests old words room pass position durable
     → ((word x : ℕ) → new word x → (old word x ⊎ IsInRun (words + position) (fillings pass (room - position)) word x) ⊎ IsInRun 0 durable word x) → FoundOpens new words room durable

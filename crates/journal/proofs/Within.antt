@@ -1,5 +1,5 @@
 -- Of a storage of which less may be found no less is known.
-use Rattle.std.proofs.Common.{Result, Ok, Err, inl, inr, ℕ, Bool, List, length}
+use Rattle.std.proofs.Common.{Result, ℕ, Bool, List, arith}
 use Rattle.std.specs.Prelude.{OnOk}
 use Rattle.std.proofs.Math.Logic.{∥∥₁_map}
 use Rattle.journal.specs.Files.{MayBe, IsStoodFor}
@@ -30,19 +30,10 @@ pub rests_within : (old new : ℕ → ℕ → Type 0) (words room : ℕ) (pass :
 rests_within old new words room pass position image within some = ∥∥₁_map some (λ r. rests_one old new words room pass position image within r)
 
 stood_within : (old new : ℕ → ℕ → Type 0) (words room : ℕ) (image : List ℕ) → IsWithin old new → IsStoodFor new words room image → IsStoodFor old words room image
-stood_within old new words room image within stood = record {
-  file = stood.file;
-  found = record {
-    size = stood.found.size;
-    each = λ word lt. within word _ (stood.found.each word lt);
-  };
-  opens = stood.opens;
-}
+stood_within old new words room image within stood = grind (arith)
 
 pub may_be_within : (old new : ℕ → ℕ → Type 0) (room : ℕ) (written image : List ℕ) → IsWithin old new → MayBe new room written image → MayBe old room written image
-may_be_within old new room written image within (inl is) = inl is
-may_be_within old new room written image within (inr stood) = inr (stood_within old new (length written) room image within stood)
+may_be_within old new room written image within a = grind (arith, stood_within)
 
 pub both_ok : {T E P Q R : Type 0} (result : Result T E) → (P → Q → R) → OnOk result P → OnOk result Q → OnOk result R
-both_ok (Ok x) f p q = f p q
-both_ok (Err e) f p q = q
+both_ok a f p q = grind (arith)

@@ -6,13 +6,12 @@ use Rattle.base.specs.declared.key.Key.{Key}
 use Rattle.base.specs.declared.fault.Fault.{Fault}
 use Rattle.base.specs.declared.fault.Fault.TheVariants.{Failed, Conflict}
 use Rattle.base.specs.declared.step.Step.{Step}
-use Rattle.base.specs.declared.step.Step.TheVariants.{Begin, Get, Scan, Put, Delete, Draw, Stamp, Poll, Abort, End, Commit as CommitTick, Collect}
 use Rattle.base.specs.declared.step.Stage.{Stage}
 use Rattle.base.specs.declared.step.Reply.{Reply}
-use Rattle.base.specs.declared.step.Reply.TheVariants.{Began, Row, Rows, Done, Drawn, More, Stamped, Waiting, Committed, Idle, Ticked, Covered, Visited, SweepEnd, Refused}
+use Rattle.base.specs.declared.step.Reply.TheVariants.{Refused}
 use Rattle.base.specs.Commits.{Writes}
 use Rattle.base.specs.Search.{some_if}
-use Rattle.machine.specs.Machine.{State, Hand, Stepped, refused, answered, memory_refused, device_failed, refusal, is_idle, writes_of, next_stage, taken_in_hand, next_state, state_drawn, state_ticked, state_ticked_on}
+use Rattle.machine.specs.Machine.{State, Hand, Stepped, refused, answered, memory_refused, device_failed, refusal, next_state, state_drawn, state_ticked, state_ticked_on}
 use Rattle.base.specs.Replies.{is_failure}
 use Rattle.machine.proofs.Runs.{IsAnswer, Answers-answer}
 use Rattle.machine.proofs.collector.Visits.{visit-changes}
@@ -30,68 +29,37 @@ quiet-some : (known : Fault) → is_failure (Refused known) ≡ false → Quiet 
 quiet-some known quiet fault e = let same : known ≡ fault = cc e in subst (λ (f : Fault). is_failure (Refused f) ≡ false) same quiet
 
 quiet-if : (test : Bool) (known : Fault) → is_failure (Refused known) ≡ false → Quiet (some_if test known)
-quiet-if true known quiet = quiet-some known quiet
-quiet-if false known quiet = quiet-none
+quiet-if a known quiet = grind (arith, quiet-some, quiet-none)
 
 quiet-conflict : (o : Option Key) → Quiet (option_map Conflict o)
-quiet-conflict None = quiet-none
-quiet-conflict (Some key) = quiet-some (Conflict key) refl
+quiet-conflict a = grind (arith, quiet-none, quiet-some)
 
 quiet-or : (a b : Option Fault) → Quiet a → Quiet b → Quiet (option_or a b)
-quiet-or None b p r = r
-quiet-or (Some fault) b p r = p
+quiet-or a b p r = grind (arith)
 
 pub refusal-quiet : (q : State) (step : Step) (fault : Fault) → refusal q step ≡ Some fault → is_failure (Refused fault) ≡ false
 refusal-quiet q step = grind (arith, quiet-or, quiet-if, quiet-conflict, quiet-none)
 
 pub answer-quiet : (reply : Reply) → IsAnswer reply → is_failure reply ≡ false
-answer-quiet (Began n) a = refl
-answer-quiet (Row row) a = refl
-answer-quiet (Rows rows) a = refl
-answer-quiet Done a = refl
-answer-quiet (Drawn t) a = refl
-answer-quiet More a = refl
-answer-quiet Stamped a = refl
-answer-quiet Waiting a = refl
-answer-quiet (Committed t) a = refl
-answer-quiet Idle a = refl
-answer-quiet (Ticked stage) a = refl
-answer-quiet (Covered batch) a = refl
-answer-quiet (Visited slot) a = refl
-answer-quiet SweepEnd a = refl
-answer-quiet (Refused fault) a = absurd a
+answer-quiet b a = grind (arith)
 
 -- ---- the state fails with the device, and never else
 
 choice : (b : Bool) (x y : State) (v : Bool) → x.failed ≡ v → y.failed ≡ v → (cond b x y).failed ≡ v
-choice true x y v p r = p
-choice false x y v p r = r
+choice a x y v p r = grind (arith)
 
 drawn-works : (q : State) (n : ℕ) (writes : Writes) → (state_drawn q n writes).failed ≡ q.failed
 drawn-works q n [] = refl
 drawn-works q n (write ∷ writes) = refl
 
 ticked-on-works : (q : State) (hand : Hand) (o : Option Stage) → (state_ticked_on q hand o).failed ≡ q.failed
-ticked-on-works q hand None = refl
-ticked-on-works q hand (Some stage) = refl
+ticked-on-works q hand a = grind (arith)
 
 ticked-works : (q : State) (o : Option Hand) → (state_ticked q o).failed ≡ q.failed
-ticked-works q None = choice (is_idle q) q (record q { hand = Some (taken_in_hand q) }) q.failed refl refl
-ticked-works q (Some hand) = ticked-on-works q hand (next_stage q hand)
+ticked-works q a = grind (arith, choice, ticked-on-works)
 
 answered-works : (q : State) (step : Step) → (next_state q step).failed ≡ q.failed
-answered-works q Begin = refl
-answered-works q (Get n key) = refl
-answered-works q (Scan n table lo hi) = refl
-answered-works q (Put n key row) = refl
-answered-works q (Delete n key) = refl
-answered-works q (Draw n) = drawn-works q n (writes_of (q.sessions n))
-answered-works q (Stamp n) = refl
-answered-works q (Poll n) = refl
-answered-works q (Abort n) = refl
-answered-works q (End n) = refl
-answered-works q CommitTick = ticked-works q q.hand
-answered-works q Collect = (visit-changes q).failed
+answered-works q a = grind (arith, drawn-works, ticked-works, visit-changes)
 
 pub failed-after : (q : State) (step : Step) (reply : Reply) (q' : State) → Stepped q step reply q' → q.failed ≡ false → q'.failed ≡ is_failure reply
 failed-after q step reply q' (refused fault e r s) works = ap (λ (x : State). x.failed) s ∙ works ∙ sym (refusal-quiet q step fault e) ∙ sym (ap is_failure r)

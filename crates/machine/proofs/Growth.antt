@@ -1,5 +1,5 @@
 -- What only grows from step to step: the history, and the timestamps that were drawn.
-use Rattle.std.proofs.Common.{◌≡◌, ℕ, ◌+◌, Bool, true, false, ◌||◌, nat_eq, List, [], ◌∷◌, ◌++◌, refl, sym, ◌∙◌, ap, subst, append-nil, append_assoc, arith, ◌⊎◌, inl, inr}
+use Rattle.std.proofs.Common.{◌≡◌, ℕ, ◌+◌, Bool, true, ◌||◌, nat_eq, List, [], ◌∷◌, ◌++◌, refl, sym, ◌∙◌, ap, subst, append-nil, append_assoc, arith, ◌⊎◌, inl, inr}
 use Rattle.std.specs.Prelude.{Option, Some, None, IsTrue, if◌then◌else◌}
 use Rattle.base.specs.declared.fault.Fault.{Fault}
 use Rattle.base.specs.declared.fault.Fault.TheVariants.{Device}
@@ -8,13 +8,13 @@ use Rattle.base.specs.declared.step.Step.TheVariants.{Begin, Get, Scan, Put, Del
 use Rattle.base.specs.declared.step.Stage.{Stage}
 use Rattle.base.specs.declared.step.Stage.TheVariants.{Chosen}
 use Rattle.base.specs.declared.step.Reply.{Reply}
-use Rattle.base.specs.declared.step.Reply.TheVariants.{Rows, Done, Drawn as DrewAs, More, Stamped, Waiting, Committed, Idle, Ticked, Visited, SweepEnd, Refused}
+use Rattle.base.specs.declared.step.Reply.TheVariants.{Done, Drawn as DrewAs, Committed, Idle, Ticked, Refused}
 use Rattle.base.specs.Commits.{Commit, Writes}
 use Rattle.base.specs.Stands.{has_timestamp}
 use Rattle.base.specs.Lists.{is_nil}
-use Rattle.machine.specs.Machine.{State, Session, Active, Drew, WroteNothing, Hand, Stepped, refused, answered, memory_refused, device_failed, Answers, Run, final, next_state, state_ticked, state_ticked_on, state_drawn, next_stage, is_idle, writes_of, polled, ticked, ticked_on, is_last_stamp}
+use Rattle.machine.specs.Machine.{State, Session, Hand, Stepped, refused, answered, memory_refused, device_failed, Answers, Run, final, next_state, state_ticked, state_ticked_on, state_drawn, next_stage, is_idle, writes_of, polled, ticked, ticked_on}
 use Rattle.machine.specs.Laws.{drawn_by, drawn_in, RiseBetween}
-use Rattle.machine.specs.Collecting.{is_at_slot, visited}
+use Rattle.machine.specs.Collecting.{visited}
 use Rattle.machine.proofs.Runs.{Answers-answer}
 use Rattle.machine.proofs.collector.Visits.{visit-changes}
 
@@ -42,8 +42,7 @@ pub extends-same : (history : List Commit) (q : State) → q.history ≡ history
 extends-same history q e = ([], e ∙ sym (append-nil history))
 
 extends-idle : (q : State) (hand : Hand) (b : Bool) → Extends q.history (if b then q else record q { hand = Some hand })
-extends-idle q hand true = ([], none_more q.history)
-extends-idle q hand false = ([], none_more q.history)
+extends-idle q hand a = grind (arith, none_more)
 
 extends-on : (q : State) (hand : Hand) (o : Option Stage) → Extends q.history (state_ticked_on q hand o)
 extends-on q hand None = (hand.commits, refl)
@@ -91,8 +90,7 @@ extends-run q (s1 ∷ steps) (r1 ∷ replies) [] run = absurd run
 -- a timestamp stays in the history
 
 or-more : (a b c : Bool) → (b ≡ true → c ≡ true) → a || b ≡ true → a || c ≡ true
-or-more true b c more e = refl
-or-more false b c more e = more e
+or-more a b c more e = grind (arith)
 
 pub any-append : (xs ys : List Commit) (t : ℕ) → has_timestamp xs t ≡ true → has_timestamp (xs ++ ys) t ≡ true
 any-append [] ys t e = cc
@@ -105,16 +103,10 @@ committed_is : (t other : ℕ) → Committed t ≡ Committed other → t ≡ oth
 committed_is t other e = cc
 
 pub polled-in : (q : State) (o : Option Session) (t : ℕ) → Committed t ≡ polled q o → has_timestamp q.history t ≡ true
-polled-in q None t e = cc
-polled-in q (Some (Active begun writes)) t e = cc
-polled-in q (Some WroteNothing) t e = cc
-polled-in q (Some (Drew u)) t e = grind (arith, committed_is)
+polled-in q a t e = grind (arith, committed_is)
 
 poll-in : (q : State) (n t : ℕ) (q' : State) → Stepped q (Poll n) (Committed t) q' → has_timestamp q.history t ≡ true
-poll-in q n t q' (refused fault e r s) = cc
-poll-in q n t q' (answered e a s) = polled-in q (q.sessions n) t a
-poll-in q n t q' (memory_refused e m r s) = cc
-poll-in q n t q' (device_failed e m r s) = cc
+poll-in q n t q' b = grind (arith, polled-in)
 
 pub acknowledged-stays : (q : State) (n t : ℕ) (q' : State) (steps : List Step) (replies : List Reply) (states : List State)
     → Stepped q (Poll n) (Committed t) q' → Run q' steps replies states → IsTrue (has_timestamp (final q' states).history t)
@@ -136,26 +128,19 @@ same-rise : (q : State) (reply : Reply) (q' : State) → Same q reply q' → Ris
 same-rise q reply q' (none, same) = subst (λ (l : List ℕ). RiseBetween q.next l q'.next) (sym none) (omega (arith, same))
 
 either_none : (b : Bool) (x y : Reply) → drawn_by x ≡ [] → drawn_by y ≡ [] → drawn_by (if b then x else y) ≡ []
-either_none true x y p q = p
-either_none false x y p q = q
+either_none a x y p q = grind (arith)
 
 polled_none : (q : State) (o : Option Session) → drawn_by (polled q o) ≡ []
-polled_none q None = refl
-polled_none q (Some (Active begun writes)) = refl
-polled_none q (Some (Drew t)) = either_none (has_timestamp q.history t) (Committed t) Waiting refl refl
-polled_none q (Some WroteNothing) = refl
+polled_none q a = grind (arith, either_none)
 
 idle-same : (q : State) (hand : Hand) (b : Bool) → Same q (if b then Idle else Ticked Chosen) (if b then q else record q { hand = Some hand })
-idle-same q hand true = (refl, refl)
-idle-same q hand false = (refl, refl)
+idle-same q hand a = grind (arith)
 
 on-same : (q : State) (hand : Hand) (o : Option Stage) → Same q (ticked_on q hand o) (state_ticked_on q hand o)
-on-same q hand None = (refl, refl)
-on-same q hand (Some stage) = (refl, refl)
+on-same q hand a = grind (arith)
 
 ticked-same : (q : State) (o : Option Hand) → Same q (ticked q o) (state_ticked q o)
-ticked-same q None = idle-same q _ (is_idle q)
-ticked-same q (Some hand) = on-same q hand (next_stage q hand)
+ticked-same q a = grind (arith, idle-same, on-same)
 
 drawn-rise : (q : State) (n : ℕ) (writes : Writes) → RiseBetween q.next (drawn_by (if is_nil writes then Done else DrewAs q.next)) (state_drawn q n writes).next
 drawn-rise q n [] = omega arith
@@ -165,27 +150,13 @@ along : (q : State) (reply other : Reply) (q' : State) → reply ≡ other → R
 along q reply other q' e r = subst (λ (x : Reply). RiseBetween q.next (drawn_by x) q'.next) (sym e) r
 
 next-rise : (q : State) (step : Step) (reply : Reply) → Answers q step reply → RiseBetween q.next (drawn_by reply) (next_state q step).next
-next-rise q Begin reply a = along q reply _ (next_state q Begin) a (omega arith)
-next-rise q (Get n key) reply a = along q reply _ (next_state q (Get n key)) a (omega arith)
-next-rise q (Scan n table lo hi) reply a = along q reply (Rows a.0) (next_state q (Scan n table lo hi)) a.1 (omega arith)
-next-rise q (Put n key row) reply a = along q reply _ (next_state q (Put n key row)) a (omega arith)
-next-rise q (Delete n key) reply a = along q reply _ (next_state q (Delete n key)) a (omega arith)
-next-rise q (Draw n) reply a = along q reply _ (next_state q (Draw n)) a (drawn-rise q n (writes_of (q.sessions n)))
-next-rise q (Stamp n) reply a = along q reply _ (next_state q (Stamp n)) a (same-rise q _ (next_state q (Stamp n)) (either_none (is_last_stamp q n) Stamped More refl refl, refl))
-next-rise q (Poll n) reply a = along q reply _ q a (same-rise q _ q (polled_none q (q.sessions n), refl))
-next-rise q (Abort n) reply a = along q reply _ (next_state q (Abort n)) a (omega arith)
-next-rise q (End n) reply a = along q reply _ (next_state q (End n)) a (omega arith)
-next-rise q CommitTick reply a = along q reply _ (next_state q CommitTick) a (same-rise q _ (next_state q CommitTick) (ticked-same q q.hand))
-next-rise q Collect reply a = along q reply _ (visited q) a (same-rise q _ (visited q) (either_none (is_at_slot q) (Visited q.place) SweepEnd refl refl, (visit-changes q).next))
+next-rise q b reply a = grind (arith, along, drawn-rise, same-rise, either_none, polled_none, ticked-same, visit-changes)
 
 refused-rise : (q : State) (reply : Reply) (fault : Fault) (q' : State) → reply ≡ Refused fault → q'.next ≡ q.next → RiseBetween q.next (drawn_by reply) q'.next
 refused-rise q reply fault q' r s = same-rise q reply q' (ap drawn_by r, s)
 
 pub stepped-rise : (q : State) (step : Step) (reply : Reply) (q' : State) → Stepped q step reply q' → RiseBetween q.next (drawn_by reply) q'.next
-stepped-rise q step reply q' (refused fault e r s) = refused-rise q reply fault q' r (ap (λ (p : State). p.next) s)
-stepped-rise q step reply q' (answered e a s) = subst (λ (p : State). RiseBetween q.next (drawn_by reply) p.next) (sym s) (next-rise q step reply a)
-stepped-rise q step reply q' (memory_refused e m r s) = refused-rise q reply _ q' r (ap (λ (p : State). p.next) s)
-stepped-rise q step reply q' (device_failed e m r s) = refused-rise q reply _ q' r (ap (λ (p : State). p.next) s)
+stepped-rise q step reply q' b = grind (arith, refused-rise, next-rise)
 
 pub run-rise : (q : State) (steps : List Step) (replies : List Reply) (states : List State) → Run q steps replies states → RiseBetween q.next (drawn_in replies) (final q states).next
 run-rise q [] [] [] run = omega arith

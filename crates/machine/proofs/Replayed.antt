@@ -1,5 +1,5 @@
 -- What the machine answers as a function is what it may answer, but for want of memory and a failing device.
-use Rattle.std.proofs.Common.{◌≡◌, List, [], ◌∷◌, refl, sym, ◌∙◌, ap, ◌⊎◌, inl, inr}
+use Rattle.std.proofs.Common.{◌≡◌, List, [], ◌∷◌, refl, sym, ◌∙◌, ap, ◌⊎◌, arith}
 use Rattle.std.specs.Prelude.{Option, Some, None}
 use Rattle.base.specs.declared.fault.Fault.{Fault}
 use Rattle.base.specs.declared.fault.Fault.TheVariants.{OutOfMemory, Device}
@@ -8,7 +8,7 @@ use Rattle.base.specs.declared.step.Step.TheVariants.{Begin, Get, Scan, Put, Del
 use Rattle.base.specs.declared.step.Reply.{Reply}
 use Rattle.base.specs.declared.step.Reply.TheVariants.{Rows, Refused}
 use Rattle.base.specs.Commits.{in_range}
-use Rattle.machine.specs.Machine.{State, seen_by, refusal, next_state, Answers, Stepped, refused, answered, memory_refused, device_failed, Run, final}
+use Rattle.machine.specs.Machine.{State, seen_by, refusal, next_state, Answers, Stepped, refused, answered, Run, final}
 use Rattle.machine.specs.Replay.{answer, scanned, reply_on, state_on, reply_of, state_of, replies, states, end}
 use Rattle.machine.proofs.reads.Scans.{scan-lists, one-listing}
 
@@ -63,10 +63,7 @@ state-when q step o e = ap (state_on q step) (sym e)
 
 pub decided : (q : State) (step : Step) (reply : Reply) (q' : State) → Stepped q step reply q'
     → ((reply ≡ reply_of q step) × (q' ≡ state_of q step)) ⊎ (reply ≡ Refused OutOfMemory) ⊎ (reply ≡ Refused Device)
-decided q step reply q' (refused fault e r s) = inl (r ∙ reply-when q step (Some fault) e, s ∙ state-when q step (Some fault) e)
-decided q step reply q' (answered e a s) = inl (answers-answer q step reply a ∙ reply-when q step None e, s ∙ state-when q step None e)
-decided q step reply q' (memory_refused e m r s) = inr (inl r)
-decided q step reply q' (device_failed e m r s) = inr (inr r)
+decided q step reply q' b = grind (arith, reply-when, state-when, answers-answer)
 
 pub ends : (q : State) (steps : List Step) → final q (states q steps) ≡ end q steps
 ends q [] = refl

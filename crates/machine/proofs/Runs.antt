@@ -1,19 +1,15 @@
 -- Laws of steps and runs.
-use Rattle.std.proofs.Common.{◌≡◌, Bool, true, false, List, [], ◌∷◌, ◌++◌, refl, sym, subst, inl, inr}
-use Rattle.std.specs.Prelude.{Option, Some, None, if◌then◌else◌}
+use Rattle.std.proofs.Common.{◌≡◌, Bool, List, [], ◌∷◌, ◌++◌, refl, sym, subst, inl, inr, arith}
+use Rattle.std.specs.Prelude.{Option, if◌then◌else◌}
 use Rattle.std.proofs.lemmas.List.Elements.{Contains-append_left}
 use Rattle.base.specs.declared.fault.Fault.TheVariants.{OutOfMemory}
 use Rattle.base.specs.declared.step.Step.{Step}
-use Rattle.base.specs.declared.step.Step.TheVariants.{Begin, Get, Scan, Put, Delete, Draw, Stamp, Poll, Abort, End, Commit as CommitTick, Collect}
 use Rattle.base.specs.declared.step.Stage.{Stage}
 use Rattle.base.specs.declared.step.Note.{Note}
 use Rattle.base.specs.declared.step.Reply.{Reply}
-use Rattle.base.specs.declared.step.Reply.TheVariants.{Rows, Done, Drawn as DrewAs, More, Stamped, Waiting, Committed, Idle, Ticked, Visited, SweepEnd, Refused}
-use Rattle.base.specs.Lists.{is_nil}
+use Rattle.base.specs.declared.step.Reply.TheVariants.{Refused}
 use Rattle.base.specs.Replies.{note_of}
-use Rattle.machine.specs.Machine.{State, Hand, Session, Active, Drew, WroteNothing, Stepped, refused, answered, memory_refused, device_failed, Answers, Noted, Run, final, StandsAt, StandsWithin, StandsAlong, StandsClosing, covers_at, of_hand, present, closed, polled, ticked, ticked_on, next_stage, is_idle, writes_of, is_last_stamp}
-use Rattle.base.specs.Stands.{has_timestamp}
-use Rattle.machine.specs.Collecting.{is_at_slot}
+use Rattle.machine.specs.Machine.{State, Hand, Session, Stepped, Answers, Noted, Run, final, StandsAt, StandsWithin, StandsAlong, StandsClosing, covers_at, of_hand, present, closed, polled, ticked, ticked_on}
 use Rattle.base.specs.Images.{Image}
 
 -- a reply that is no refusal
@@ -22,47 +18,27 @@ IsAnswer (Refused fault) = ⊥
 IsAnswer _ = Unit {0}
 
 either_answer : (b : Bool) (x y : Reply) → IsAnswer x → IsAnswer y → IsAnswer (if b then x else y)
-either_answer true x y p q = p
-either_answer false x y p q = q
+either_answer a x y p q = grind (arith)
 
 polled_answer : (q : State) (o : Option Session) → IsAnswer (polled q o)
-polled_answer q None = tt
-polled_answer q (Some (Active begun writes)) = tt
-polled_answer q (Some (Drew t)) = either_answer (has_timestamp q.history t) (Committed t) Waiting tt tt
-polled_answer q (Some WroteNothing) = tt
+polled_answer q a = grind (arith, either_answer)
 
 ticked_on_answer : (q : State) (hand : Hand) (o : Option Stage) → IsAnswer (ticked_on q hand o)
-ticked_on_answer q hand None = tt
-ticked_on_answer q hand (Some stage) = tt
+ticked_on_answer q hand a = grind (arith)
 
 ticked_answer : (q : State) (o : Option Hand) → IsAnswer (ticked q o)
-ticked_answer q None = either_answer (is_idle q) Idle (Ticked Rattle.base.specs.declared.step.Stage.TheVariants.Chosen) tt tt
-ticked_answer q (Some hand) = ticked_on_answer q hand (next_stage q hand)
+ticked_answer q a = grind (arith, either_answer, ticked_on_answer)
 
 along : (reply other : Reply) → reply ≡ other → IsAnswer other → IsAnswer reply
 along reply other e p = subst (λ r. IsAnswer r) (sym e) p
 
 -- an answer is no refusal
 pub Answers-answer : (q : State) (step : Step) (reply : Reply) → Answers q step reply → IsAnswer reply
-Answers-answer q Begin reply a = along reply _ a tt
-Answers-answer q (Get n key) reply a = along reply _ a tt
-Answers-answer q (Scan n table lo hi) reply a = along reply (Rows a.0) a.1 tt
-Answers-answer q (Put n key row) reply a = along reply _ a tt
-Answers-answer q (Delete n key) reply a = along reply _ a tt
-Answers-answer q (Draw n) reply a = along reply _ a (either_answer (is_nil (writes_of (q.sessions n))) Done (DrewAs q.next) tt tt)
-Answers-answer q (Stamp n) reply a = along reply _ a (either_answer (is_last_stamp q n) Stamped More tt tt)
-Answers-answer q (Poll n) reply a = along reply _ a (polled_answer q (q.sessions n))
-Answers-answer q (Abort n) reply a = along reply _ a tt
-Answers-answer q (End n) reply a = along reply _ a tt
-Answers-answer q CommitTick reply a = along reply _ a (ticked_answer q q.hand)
-Answers-answer q Collect reply a = along reply _ a (either_answer (is_at_slot q) (Visited q.place) SweepEnd tt tt)
+Answers-answer q b reply a = grind (arith, along, either_answer, polled_answer, ticked_answer)
 
 -- want of memory changes nothing
 pub memory_unchanged : (q : State) (step : Step) (q' : State) → Stepped q step (Refused OutOfMemory) q' → q' ≡ q
-memory_unchanged q step q' (refused fault e r s) = s
-memory_unchanged q step q' (answered e a s) = absurd (Answers-answer q step (Refused OutOfMemory) a)
-memory_unchanged q step q' (memory_refused e m r s) = s
-memory_unchanged q step q' (device_failed e m r s) = cc
+memory_unchanged q step q' b = grind (arith, Answers-answer)
 
 -- a run goes on by a step
 pub Noted-append : (q : State) (entries : List (Step × Note)) (mid : State) (step : Step) (reply : Reply) (q' : State)

@@ -41,9 +41,7 @@ pub record HasStopped (ops : List Operation) (old new : Device) : Type 0 where
   pub orderly : IsOrderly new
 
 pub has_stopped : {ops : List Operation} {old new : Device} → StopsWithin ops old new → HasStopped ops old new
-has_stopped {ops} {old} (k, lt, run) =
-    let two = runs-in_two (take k ops) (failure ∷ []) run in
-    record { count = k; few = lt; between = two.between; run = two.first; fails = two.then.made; orderly = subst IsOrderly (sym run.made) (along-last IsOrderly (take k ops ++ failure ∷ []) old run.orderly) }
+has_stopped {ops} {old} (k, lt, run) = grind (arith, runs-in_two (take k ops) (failure ∷ []) run, along-last IsOrderly (take k ops ++ failure ∷ []) old run.orderly)
 
 -- either the first part stopped, or it ran and the second did
 pub stops-in_two : (xs ys : List Operation) {old new : Device} → StopsWithin (xs ++ ys) old new → StopsWithin xs old new ⊎ ((mid : Device) × Runs xs old mid × StopsWithin ys mid new)
@@ -388,7 +386,4 @@ module _ (actor word value : ℕ) where
   set-made run = makes-run (λ w x. Unit {0}) (set-only (λ w x. Unit {0}) tt) run
 
   pub set-settles : {old new : Device} → Runs (set_operations actor word value) old new → word < old.words → IsSettledAt new word value
-  set-settles {old} {new} run within =
-      let same : word + 0 ≡ word = omega arith in
-      subst (λ (w : ℕ). IsSettledAt new w value) same
-      (persist-settles actor word (λ k. value) 1 (word / 8) 1 (subst (λ (ops : List Operation). Runs ops old new) set-persists run) 0 (omega arith) (omega (arith, within)) (omega arith) (omega arith))
+  set-settles {old} {new} run within = grind (arith, persist-settles, set-persists)

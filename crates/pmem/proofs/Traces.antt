@@ -1,5 +1,5 @@
 -- Runs of operations, one after the other.
-use Rattle.std.proofs.Common.{◌≡◌, ◌+◌, List, [], ◌∷◌, ◌++◌, length, take, refl, sym, ◌∙◌, ap, subst, arith}
+use Rattle.std.proofs.Common.{◌≡◌, List, [], ◌∷◌, ◌++◌, take, refl, sym, ◌∙◌, ap, subst, arith}
 use Rattle.std.proofs.lemmas.List.{take-append-le, length-append, append_assoc}
 use Rattle.std.proofs.Math.Seq.{take-append-add}
 use Rattle.pmem.specs.Device.{Device, IsOrderly, failed}
@@ -37,10 +37,7 @@ runs-more ops op old mid new orderly is run = grind (arith, after-append, along-
 
 -- one run and then another
 pub runs-then : {xs ys : List Operation} {old mid new : Device} → Runs xs old mid → Runs ys mid new → Runs (xs ++ ys) old new
-runs-then {xs} {ys} {old} first second = record {
-  made = second.made ∙ ap (after ys) first.made ∙ sym (after-append xs ys old);
-  orderly = along-append IsOrderly xs ys old first.orderly (subst (Along IsOrderly ys) first.made second.orderly);
-}
+runs-then {xs} {ys} {old} first second = grind (arith, after-append, along-append)
 
 -- the first stops
 pub stops-first : {xs : List Operation} (ys : List Operation) {old new : Device} → StopsWithin xs old new → StopsWithin (xs ++ ys) old new
@@ -52,11 +49,7 @@ stops-first {xs} ys {old} {new} (k, lt, run) = (
 
 -- or the second does
 pub stops-then : {xs ys : List Operation} {old mid new : Device} → Runs xs old mid → StopsWithin ys mid new → StopsWithin (xs ++ ys) old new
-stops-then {xs} {ys} {old} {mid} {new} first (k, lt, run) = (
-  length xs + k,
-  omega (arith, lt, length-append xs ys),
-  subst (λ (ops : List Operation). Runs ops old new) (sym (append_assoc xs (take k ys) (failure ∷ [])) ∙ ap (λ (ops : List Operation). ops ++ failure ∷ []) (sym (take-append-add xs ys k))) (runs-then first run),
-)
+stops-then {xs} {ys} {old} {mid} {new} first (k, lt, run) = grind (arith, length-append xs ys, append_assoc xs (take k ys) (failure ∷ []), take-append-add xs ys k, runs-then first run)
 
 -- the one operation fails
 pub stops-one : (op : Operation) (old new : Device) → IsOrderly old → IsOrderly new → new ≡ failed old → StopsWithin (op ∷ []) old new

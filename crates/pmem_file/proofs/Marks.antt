@@ -1,5 +1,5 @@
 -- Lines that are marked, and listed.
-use Rattle.std.proofs.Common.{◌≡◌, ◌≢◌, inl, inr, ℕ, suc, ◌+◌, ◌<◌, Bool, true, false, ◌||◌, if◌then◌else◌, ◌==◌, List, [], ◌∷◌, ◌++◌, length, drop, set, get_or, refl, sym, ◌∙◌, ap, subst, arith, nat_eq}
+use Rattle.std.proofs.Common.{◌≡◌, ◌≢◌, ℕ, suc, ◌+◌, ◌<◌, Bool, true, false, ◌||◌, if◌then◌else◌, ◌==◌, List, [], ◌∷◌, ◌++◌, length, drop, set, get_or, refl, sym, ◌∙◌, ap, subst, arith, nat_eq}
 use Rattle.std.proofs.Common.{drop-cons, add-one}
 use Rattle.std.proofs.lemmas.Bool.{or_left, or_right, or_cases, or_parts, eq-eqb, true≢false}
 use Rattle.std.proofs.lemmas.Bool.Decides.{nat_tests}
@@ -16,10 +16,7 @@ listed-last (first ∷ lines) line = or_right (first == line) (is_listed (lines 
 
 pub listed-before : (lines : List ℕ) (line other : ℕ) → is_listed lines other ≡ true → is_listed (lines ++ line ∷ []) other ≡ true
 listed-before [] line other is = absurd (true≢false (sym is))
-listed-before (first ∷ lines) line other is = elim (or_cases (first == other) (is_listed lines other) is) [
-  | inl here ↦ or_left (first == other) (is_listed (lines ++ line ∷ []) other) here
-  | inr there ↦ or_right (first == other) (is_listed (lines ++ line ∷ []) other) (listed-before lines line other there)
-]
+listed-before (first ∷ lines) line other is = grind (arith, or_cases, or_left, or_right, listed-before lines line other)
 
 -- a line is added and marked
 pub marked-more : (places : ℕ) (lines : List ℕ) (marks : List Mark) (line : ℕ) → line < length marks → AreMarked places lines marks → AreMarked places (lines ++ line ∷ []) (set marks line (mark_of places line))
@@ -68,7 +65,4 @@ left-next lines before now after at line lt is left unmarks same = record {
 
 -- no mark is left where each was listed
 pub none-left : (places : ℕ) (lines : List ℕ) (old new : List Mark) → AreMarked places lines old → Unmarks lines old new → AreMarked places [] new
-none-left places lines old new are unmarks = record {
-  listed = λ other marked. let was = unmarks.marked other marked in absurd (true≢false (sym (are.listed other was.0) ∙ was.1));
-  plain = λ other is. are.plain other (unmarks.plain other is);
-}
+none-left places lines old new are unmarks = grind (arith, true≢false)

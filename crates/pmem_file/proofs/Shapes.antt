@@ -1,10 +1,9 @@
 -- Which shape the words of a file have.
-use Rattle.std.proofs.Common.{◌≡◌, ◌≢◌, inl, inr, ℕ, ◌+◌, ◌-◌, ◌^◌, ◌<◌, ◌≤◌, true, List, ◌++◌, length, take, drop, replicate, get_or, refl, sym, ◌∙◌, ap, subst, arith}
-use Rattle.std.specs.Prelude.{nat_eq}
+use Rattle.std.proofs.Common.{◌≡◌, ◌≢◌, inl, inr, ℕ, ◌+◌, ◌-◌, ◌^◌, ◌<◌, ◌≤◌, true, List, length, take, drop, replicate, get_or, refl, sym, ◌∙◌, ap, arith}
 use Rattle.std.proofs.lemmas.Bool.{and_parts, eqb-true}
 use Rattle.std.proofs.lemmas.List.{append-nil, length-drop, length-take, length-replicate, get_or-drop, get_or-take, get_or-replicate, get_or_append_left, get_or-append_right}
 use Rattle.base.specs.Images.{layout_of, has_good_geometry}
-use Rattle.base.specs.Layout.{Layout, slot_start, total_words, is_in_limits}
+use Rattle.base.specs.Layout.{Layout, slot_start, total_words}
 use Rattle.journal.specs.Files.{magic, Opens}
 use Rattle.journal.proofs.Files.{lines-off, opens-off, opens-one}
 use Rattle.pmem_file.specs.declared.shape.Shape.{Shape}
@@ -16,12 +15,7 @@ zero-magic e = omega (arith, e)
 -- ---- the length
 
 good-length : (image : List ℕ) → has_good_geometry image ≡ true → length image ≡ total_words (layout_of image)
-good-length image good =
-    let a = and_parts _ (nat_eq (get_or image 7 0) 0) good in
-    let b = and_parts _ (nat_eq (get_or image 6 0) 0) a.0 in
-    let c = and_parts _ (nat_eq (length image) (get_or image 5 0)) b.0 in
-    let d = and_parts (is_in_limits (layout_of image)) (nat_eq (get_or image 5 0) (total_words (layout_of image))) c.0 in
-    eqb-true (length image) (get_or image 5 0) c.1 ∙ eqb-true (get_or image 5 0) (total_words (layout_of image)) d.1
+good-length image good = grind (arith, and_parts, eqb-true)
 
 image-length : (asked a : Layout) (words : List ℕ) → IsImageOf asked a words → length words ≡ total_words a
 image-length asked a words (inl laid) = good-length words laid.geometry ∙ ap total_words laid.laid_out
@@ -30,9 +24,7 @@ image-length asked a words (inr (is, blank)) = blank.size ∙ ap total_words (sy
 -- ---- what padded words stand for
 
 exact : (shape : Shape) (words : List ℕ) → length words ≡ whole shape → padded shape words ≡ words
-exact shape words size =
-    let none : whole shape - length words ≡ 0 = omega (arith, size) in
-    ap (λ (n : ℕ). words ++ replicate n 0) none ∙ append-nil words
+exact shape words size = grind (arith, append-nil)
 
 -- the image is in place, and the tail doesn't count
 off : (shape : Shape) (words image : List ℕ) → length image ≡ shape.words → ((word : ℕ) → word < shape.words → get_or (padded shape words) word 0 ≡ get_or image word 0)
@@ -41,21 +33,11 @@ off shape words image size place none =
     opens-off shape.words shape.room (padded shape words) image size place (lines-off shape.words shape.room (padded shape words) (λ e. zero-magic (sym none ∙ e)))
 
 past : (shape : Shape) (words : List ℕ) (word : ℕ) → length words ≤ word → word < whole shape → get_or (padded shape words) word 0 ≡ 0
-past shape words word le lt =
-    get_or-append_right words (replicate (whole shape - length words) 0) (length words) word 0 refl le
-    ∙ get_or-replicate (whole shape - length words) (word - length words) 0 0 (omega (arith, le, lt))
+past shape words word le lt = grind (arith, get_or-append_right, get_or-replicate)
 
 -- an image alone
 pub alone : (asked a : Layout) (words : List ℕ) (shape : Shape) → IsImageOf asked a words → IsMadeFor a shape → HasShape asked words shape
-alone asked a words shape is made =
-    let size : length words ≡ shape.words = image-length asked a words is ∙ sym made.words_are in
-    record {
-      fits = made.fits;
-      within = omega (arith, size);
-      image = words;
-      opens = off shape words words size (λ word lt. get_or_append_left words (replicate (whole shape - length words) 0) 0 word (omega (arith, lt, size))) (past shape words (shape.words + shape.room) (omega (arith, size)) (omega arith));
-      has_places = record { layout = a; image = is; places_are = made.places_are };
-    }
+alone asked a words shape is made = grind (arith, image-length, off, get_or_append_left, past)
 
 -- nothing at all
 pub nothing : (asked : Layout) (words : List ℕ) (shape : Shape) → length words ≡ 0 → IsMadeFor asked shape → HasShape asked words shape
@@ -87,13 +69,7 @@ nothing asked words shape none made =
 -- an image with a journal
 pub journaled : (asked a : Layout) (words image : List ℕ) (shape : Shape) → whole shape < 2 ^ 58 → length words ≡ whole shape → Opens shape.words shape.room words image
     → IsImageOf asked a image → shape.places ≡ a.places → HasShape asked words shape
-journaled asked a words image shape fits size opens is places_are = record {
-  fits = fits;
-  within = omega (arith, size);
-  image = image;
-  opens = subst (λ (file : List ℕ). Opens shape.words shape.room file image) (sym (exact shape words size)) opens;
-  has_places = record { layout = a; image = is; places_are = places_are };
-}
+journaled asked a words image shape fits size opens is places_are = grind (arith, exact)
 
 -- an image behind which nothing counts yet
 pub growing : (asked a : Layout) (words image : List ℕ) (shape : Shape) → whole shape < 2 ^ 58 → length words ≡ whole shape → length image ≡ shape.words
@@ -122,8 +98,4 @@ blank a image start size first is zeros = record {
 
 pub begun : (asked : Layout) (words : List ℕ) (shape : Shape) (image : List ℕ) (places : ℕ) → HasShape asked words shape → Opens shape.words shape.room (padded shape words) image → places ≡ shape.places
     → HasItsPlaces asked image places
-begun asked words shape image places has opens is = record {
-  layout = has.has_places.layout;
-  image = subst (λ (l : List ℕ). IsImageOf asked has.has_places.layout l) (opens-one shape.words shape.room (padded shape words) has.image image has.opens opens) has.has_places.image;
-  places_are = is ∙ has.has_places.places_are;
-}
+begun asked words shape image places has opens is = grind (arith, opens-one shape.words shape.room (padded shape words) has.image image has.opens opens)

@@ -1,5 +1,5 @@
 -- What an actor's list of lines has.
-use Rattle.std.proofs.Common.{◌≡◌, ◌≢◌, ◌⊎◌, inl, inr, ℕ, zero, suc, ◌+◌, ◌*◌, ◌/◌, ◌<◌, Bool, true, false, cond, ◌&&◌, ◌||◌, List, [], ◌∷◌, length, set, get_or, nat_le, ◌==◌, refl, sym, ◌∙◌, ap, arith}
+use Rattle.std.proofs.Common.{◌≡◌, ◌≢◌, ◌⊎◌, ℕ, zero, suc, ◌+◌, ◌*◌, ◌/◌, ◌<◌, Bool, true, cond, ◌&&◌, ◌||◌, List, [], ◌∷◌, length, set, get_or, ◌==◌, refl, ◌∙◌, ap, arith}
 use Rattle.std.proofs.lemmas.Bool.{cases_eq, eq-eqb, true≢false, lt-leb, eqb-true, or_right, and_parts}
 use Rattle.std.proofs.lemmas.List.{get_or-set_same, get_or-set_other}
 use Rattle.pmem.specs.Device.{Entry, persisted}
@@ -13,44 +13,24 @@ listed-same xs ys actor line (suc n) same = let rest = listed-same xs ys actor l
 
 pub listed_at : (listed : List ℕ) (actor line place n : ℕ) → place < n → line_at listed actor place ≡ line → is_listed listed actor line n ≡ true
 listed_at listed actor line place zero lt is = absurd (omega arith)
-listed_at listed actor line place (suc n) lt is = elim (cases_eq place n) [
-  | inl here ↦ ap (λ (b : Bool). b || is_listed listed actor line n) (eq-eqb line (line_at listed actor n) (sym is ∙ ap (line_at listed actor) here))
-  | inr apart ↦ or_right (line == line_at listed actor n) (is_listed listed actor line n) (listed_at listed actor line place n (omega arith) is)
-]
+listed_at listed actor line place (suc n) lt is = grind (arith, cases_eq, eq-eqb, or_right, listed_at listed actor line place n)
 
 -- one place more was visited
 pub visited_more : (listed : List ℕ) (actor moment place : ℕ) (old mid new : ℕ → List Entry)
     → ((word : ℕ) → mid word ≡ cond (is_listed listed actor (word / 8) place) (persisted actor moment (old word)) (old word))
     → ((word : ℕ) → new word ≡ cond ((word / 8) == line_at listed actor place) (persisted actor moment (mid word)) (mid word))
     → (word : ℕ) → new word ≡ cond (is_listed listed actor (word / 8) (place + 1)) (persisted actor moment (old word)) (old word)
-visited_more listed actor moment place old mid new so_far step word =
-    step word
-    ∙ (λ i. cond ((word / 8) == line_at listed actor place) (persisted actor moment (so_far word i)) (so_far word i))
-    ∙ by_tests ((word / 8) == line_at listed actor place) (is_listed listed actor (word / 8) place)
-    ∙ ap (λ (n : ℕ). cond (is_listed listed actor (word / 8) n) (persisted actor moment (old word)) (old word)) up
-  where
-    up : suc place ≡ place + 1
-    up = omega arith
-
-    by_tests : (h l : Bool) → cond h (persisted actor moment (cond l (persisted actor moment (old word)) (old word))) (cond l (persisted actor moment (old word)) (old word))
-        ≡ cond (h || l) (persisted actor moment (old word)) (old word)
-    by_tests true true = persisted_twice actor moment (old word)
-    by_tests true false = refl
-    by_tests false l = refl
+visited_more listed actor moment place old mid new so_far step word = grind (arith, persisted_twice)
 
 -- ---- a line more
 
 module _ (lines room : ℕ) (counts listed : List ℕ) (actor line : ℕ) (listing : IsListing lines room counts listed) (long : length listed ≡ 64 * room) (wide : length counts ≡ 64)
     (small : actor < 64) (unfull : get_or counts actor 0 < room) where
-  count : ℕ
-  count = get_or counts actor 0
-
   there : (k : ℕ) → k ≡ get_or counts actor 0 → line_at (set listed (64 * get_or counts actor 0 + actor) line) actor k ≡ line
   there k is = ap (line_at (set listed (64 * get_or counts actor 0 + actor) line) actor) is ∙ get_or-set_same listed (64 * get_or counts actor 0 + actor) line 0 (omega (arith, long, unfull, small))
 
   elsewhere : (other k : ℕ) → other < 64 → (other ≢ actor) ⊎ (k ≢ get_or counts actor 0) → line_at (set listed (64 * get_or counts actor 0 + actor) line) other k ≡ line_at listed other k
-  elsewhere other k lt (inl apart) = get_or-set_other listed (64 * get_or counts actor 0 + actor) (64 * k + other) line 0 (λ e. apart (omega (arith, e, lt, small)))
-  elsewhere other k lt (inr apart) = get_or-set_other listed (64 * get_or counts actor 0 + actor) (64 * k + other) line 0 (λ e. apart (omega (arith, e, lt, small)))
+  elsewhere other k lt a = grind (arith, get_or-set_other)
 
   own_count : get_or (set counts actor (get_or counts actor 0 + 1)) actor 0 ≡ get_or counts actor 0 + 1
   own_count = get_or-set_same counts actor (get_or counts actor 0 + 1) 0 (omega (arith, wide, small))
@@ -59,38 +39,11 @@ module _ (lines room : ℕ) (counts listed : List ℕ) (actor line : ℕ) (listi
   other_count other apart = get_or-set_other counts actor other (get_or counts actor 0 + 1) 0 apart
 
   pub pending-added : is_pending room (set counts actor (get_or counts actor 0 + 1)) (set listed (64 * get_or counts actor 0 + actor) line) actor line ≡ true
-  pending-added =
-      or_right (nat_le room (get_or (set counts actor (get_or counts actor 0 + 1)) actor 0)) _
-      (listed_at (set listed (64 * get_or counts actor 0 + actor) line) actor line (get_or counts actor 0) (get_or (set counts actor (get_or counts actor 0 + 1)) actor 0) (omega (arith, own_count)) (there (get_or counts actor 0) refl))
+  pending-added = grind (arith, or_right, listed_at, own_count, there)
 
   pub pending-others : (other at : ℕ) → other < 64 → is_pending room counts listed other at ≡ true
       → is_pending room (set counts actor (get_or counts actor 0 + 1)) (set listed (64 * get_or counts actor 0 + actor) line) other at ≡ true
-  pending-others other at lt is = elim (cases_eq other actor) [
-    | inl own ↦
-        let same : is_listed listed actor at (get_or counts actor 0) ≡ true =
-        not_full (nat_le room (get_or counts actor 0)) (is_listed listed actor at (get_or counts actor 0)) (lt_room (get_or counts actor 0) unfull) (ap (λ (a : ℕ). is_pending room counts listed a at) (sym own) ∙ is) in
-        ap (λ (a : ℕ). is_pending room (set counts actor (get_or counts actor 0 + 1)) (set listed (64 * get_or counts actor 0 + actor) line) a at) own
-        ∙ or_right (nat_le room (get_or (set counts actor (get_or counts actor 0 + 1)) actor 0)) _ (
-        ap (is_listed (set listed (64 * get_or counts actor 0 + actor) line) actor at) one_more
-        ∙ or_right (at == line_at (set listed (64 * get_or counts actor 0 + actor) line) actor (get_or counts actor 0)) _ (
-        listed-same (set listed (64 * get_or counts actor 0 + actor) line) listed actor at (get_or counts actor 0) (λ k k_lt. elsewhere actor k small (inr (λ e. absurd (omega (arith, e, k_lt))))) ∙ same
-        )
-        )
-    | inr apart ↦
-        ap (λ (n : ℕ). nat_le room n || is_listed (set listed (64 * get_or counts actor 0 + actor) line) other at n) (other_count other apart)
-        ∙ ap (λ (b : Bool). nat_le room (get_or counts other 0) || b) (listed-same (set listed (64 * get_or counts actor 0 + actor) line) listed other at (get_or counts other 0) (λ k k_lt. elsewhere other k lt (inl apart)))
-        ∙ is
-  ]
-    where
-      not_full : (f l : Bool) → f ≡ false → (f || l) ≡ true → l ≡ true
-      not_full true l unfull is = absurd (true≢false unfull)
-      not_full false l unfull is = is
-
-      lt_room : (n : ℕ) → n < room → nat_le room n ≡ false
-      lt_room n lt = lt-leb room n lt
-
-      one_more : get_or (set counts actor (get_or counts actor 0 + 1)) actor 0 ≡ suc (get_or counts actor 0)
-      one_more = omega (arith, own_count)
+  pending-others other at lt is = grind (arith, cases_eq, or_right, listed-same, elsewhere, other_count, true≢false, lt-leb, own_count)
 
 -- in an empty list there is nothing
 abbrev pub all_zero : List ℕ → Bool
@@ -103,7 +56,4 @@ zero_at (x ∷ xs) zero all = eqb-true x 0 (and_parts (x == 0) (all_zero xs) all
 zero_at (x ∷ xs) (suc i) all = zero_at xs i (and_parts (x == 0) (all_zero xs) all).1
 
 pub listing_none : (lines room : ℕ) (counts listed : List ℕ) → all_zero counts ≡ true → IsListing lines room counts listed
-listing_none lines room counts listed all = record {
-  within = λ actor. omega (arith, zero_at counts actor all);
-  in_lines = λ actor place lt k_lt. absurd (omega (arith, zero_at counts actor all, k_lt));
-}
+listing_none lines room counts listed all = grind (arith, zero_at)

@@ -40,14 +40,10 @@ persisted_kept actor moment entry older is =
     ap (λ (b : Bool). cond b (entry ∷ older) (cond (entry.flushed actor) (kept_from moment entry ∷ older) (entry ∷ persisted actor moment older))) is
 
 persisted_takes : (actor moment : ℕ) (entry : Entry) (older : List Entry) → is_some entry.kept ≡ false → entry.flushed actor ≡ true → persisted actor moment (entry ∷ older) ≡ kept_from moment entry ∷ older
-persisted_takes actor moment entry older not_yet is =
-    ap (λ (b : Bool). cond b (entry ∷ older) (cond (entry.flushed actor) (kept_from moment entry ∷ older) (entry ∷ persisted actor moment older))) not_yet
-    ∙ ap (λ (b : Bool). cond b (kept_from moment entry ∷ older) (entry ∷ persisted actor moment older)) is
+persisted_takes actor moment entry older not_yet is = grind (arith)
 
 persisted_passes : (actor moment : ℕ) (entry : Entry) (older : List Entry) → is_some entry.kept ≡ false → entry.flushed actor ≡ false → persisted actor moment (entry ∷ older) ≡ entry ∷ persisted actor moment older
-persisted_passes actor moment entry older not_yet is =
-    ap (λ (b : Bool). cond b (entry ∷ older) (cond (entry.flushed actor) (kept_from moment entry ∷ older) (entry ∷ persisted actor moment older))) not_yet
-    ∙ ap (λ (b : Bool). cond b (kept_from moment entry ∷ older) (entry ∷ persisted actor moment older)) is
+persisted_passes actor moment entry older not_yet is = grind (arith)
 
 settled_persisted : (clock value actor : ℕ) (history : List Entry) → IsSettled clock value history → IsSettled clock value (persisted actor clock history)
 settled_persisted clock value actor [] is = is
@@ -57,9 +53,7 @@ settled_persisted clock value actor (entry ∷ older) is = subst (IsSettled cloc
 open_taken : (clock value actor : ℕ) (flushed : ℕ → Bool) (rest : List Entry → Type 0) (history : List Entry) → actor < 64 → flushed actor ≡ true → IsOpen clock value flushed rest history
     → IsSettled clock value (persisted actor clock history)
 open_taken clock value actor flushed rest [] lt by is = is
-open_taken clock value actor flushed rest (entry ∷ older) lt by is =
-    subst (IsSettled clock value) (sym (persisted_takes actor clock entry older is.1 (is.2 actor lt ∙ by)))
-    (is.0, refl, record { born = is.3.born; kept = omega arith; fits = is.3.fits })
+open_taken clock value actor flushed rest (entry ∷ older) lt by is = grind (arith, persisted_takes)
 
 -- and by one that didn't
 open_passed : (clock value actor : ℕ) (flushed : ℕ → Bool) (rest rest' : List Entry → Type 0) (history : List Entry) → actor < 64 → flushed actor ≡ false
@@ -104,17 +98,10 @@ shows-like log log' from clock clock' word (suc n) value actors actors' history 
 
 -- before the span
 pub shows-settled : (log : List Stored) (from clock word n value : ℕ) (actors : ℕ → Bool) (history : List Entry) → n ≤ from → Shows log from clock word n value actors history → IsSettled clock value history
-shows-settled log from clock word zero value actors history le shown = shown
-shows-settled log from clock word (suc n) value actors history le shown = shown.settled (omega (arith, le))
+shows-settled log from clock word a value actors history le shown = grind (arith)
 
 pub settled-shows : (log : List Stored) (from clock word n value : ℕ) (actors : ℕ → Bool) (history : List Entry) → n ≤ from → IsSettled clock value history → Shows log from clock word n value actors history
-settled-shows log from clock word zero value actors history le is = is
-settled-shows log from clock word (suc n) value actors history le is = record {
-  settled = λ lt. is;
-  own = λ in_span own. absurd (omega (arith, le, in_span));
-  near = λ in_span apart line. absurd (omega (arith, le, in_span));
-  far = λ in_span away. absurd (omega (arith, le, in_span));
-}
+settled-shows log from clock word a value actors history le is = grind (arith)
 
 -- where there is no store of the line
 pub shows-past : (log : List Stored) (from clock word m n value : ℕ) (actors : ℕ → Bool) (history : List Entry) → from ≤ m → m ≤ n → ((k : ℕ) → m ≤ k → k < n → (store_at log k).word / 8 ≢ word / 8)
@@ -135,52 +122,24 @@ shows-past log from clock word m (suc n) value actors history after le none show
 -- of the word
 pub shows-own : (log : List Stored) (from clock word n value : ℕ) (history : List Entry) → from ≤ n → (store_at log n).word ≡ word → (store_at log n).flushed ≡ 0 → value < 2 ^ 64
     → Shows log from clock word n (store_at log n).replaced nobody history → Shows log from clock word (suc n) value nobody (fresh value clock ∷ history)
-shows-own log from clock word n value history in_span is unmarked fits shown = record {
-  settled = λ lt. absurd (omega (arith, in_span, lt));
-  own = λ le own. (refl, refl, λ actor lt. sym (clean actor), record { born = omega arith; kept = omega arith; fits = fits }, shown);
-  near = λ le apart line. absurd (apart is);
-  far = λ le away. absurd (away (ap (λ (w : ℕ). w / 8) is));
-}
-  where
-    clean : (actor : ℕ) → also (store_at log n).flushed nobody actor ≡ false
-    clean actor = ap (λ (m : ℕ). also m nobody actor) unmarked ∙ ap (λ (m : ℕ). (m == 1) || false) (bit_at-zero actor)
+shows-own log from clock word n value history in_span is unmarked fits shown = grind (arith, bit_at-zero)
 
 -- of another word of the line
 pub shows-near : (log : List Stored) (from clock word n value : ℕ) (history : List Entry) → from ≤ n → (store_at log n).word ≢ word → (store_at log n).word / 8 ≡ word / 8 → (store_at log n).flushed ≡ 0
     → Shows log from clock word n value nobody history → Shows log from clock word (suc n) value nobody history
-shows-near log from clock word n value history in_span apart line unmarked shown = record {
-  settled = λ lt. absurd (omega (arith, in_span, lt));
-  own = λ le own. absurd (apart own);
-  near = λ le other here. shows-like log log from clock clock word n value nobody (also (store_at log n).flushed nobody) history (omega arith) (λ k from_k lt. (refl, λ e. refl)) (λ actor lt. sym (clean actor)) shown;
-  far = λ le away. absurd (away line);
-}
-  where
-    clean : (actor : ℕ) → also (store_at log n).flushed nobody actor ≡ false
-    clean actor = ap (λ (m : ℕ). also m nobody actor) unmarked ∙ ap (λ (m : ℕ). (m == 1) || false) (bit_at-zero actor)
+shows-near log from clock word n value history in_span apart line unmarked shown = grind (arith, shows-like, bit_at-zero)
 
 -- ---- a flush
 
 swap_or : (x b s : Bool) → (b || (x || s)) ≡ (x || (b || s))
-swap_or true true s = refl
-swap_or true false s = refl
-swap_or false b s = refl
+swap_or a b s = grind (arith)
 
 -- who is noted above is passed down
 pub shows-marked : (log : List Stored) (from clock word n value actor : ℕ) (actors actors' : ℕ → Bool) (history : List Entry)
     → ((other : ℕ) → other < 64 → actors' other ≡ ((other == actor) || actors other))
     → Shows log from clock word n value actors history → Shows log from clock word n value actors' (marked actor history)
 shows-marked log from clock word zero value actor actors actors' history same shown = settled_marked clock value actor history shown
-shows-marked log from clock word (suc n) value actor actors actors' history same shown = record {
-  settled = λ lt. settled_marked clock value actor history (shown.settled lt);
-  own = λ in_span is. open_marked clock value actor (also (store_at log n).flushed actors) (also (store_at log n).flushed actors') _ _ history more (λ older rest. rest) (shown.own in_span is);
-  near = λ in_span apart line. shows-marked log from clock word n value actor (also (store_at log n).flushed actors) (also (store_at log n).flushed actors') history more (shown.near in_span apart line);
-  far = λ in_span away. shows-marked log from clock word n value actor actors actors' history same (shown.far in_span away);
-}
-  where
-    more : (other : ℕ) → other < 64 → also (store_at log n).flushed actors' other ≡ ((other == actor) || also (store_at log n).flushed actors other)
-    more other lt =
-        ap (λ (b : Bool). (bit_at (store_at log n).flushed other == 1) || b) (same other lt)
-        ∙ swap_or (other == actor) (bit_at (store_at log n).flushed other == 1) (actors other)
+shows-marked log from clock word (suc n) value actor actors actors' history same shown = grind (arith, settled_marked, open_marked, shows-marked log from clock word n value actor (also (store_at log n).flushed actors) (also (store_at log n).flushed actors') history, shows-marked log from clock word n value actor actors actors' history same, swap_or)
 
 -- the line's last store has the mark
 pub shows-flushed : (log log' : List Stored) (from clock word n value actor : ℕ) (history : List Entry) → from ≤ n
@@ -213,40 +172,19 @@ shows-flushed log log' from clock word n value actor history in_span same words 
 pub shows-taken : (log : List Stored) (from clock word n value actor : ℕ) (actors : ℕ → Bool) (history : List Entry) → actor < 64 → actors actor ≡ true
     → Shows log from clock word n value actors history → IsSettled clock value (persisted actor clock history)
 shows-taken log from clock word zero value actor actors history small by shown = settled_persisted clock value actor history shown
-shows-taken log from clock word (suc n) value actor actors history small by shown = elim (cases_lt n from) [
-  | inl lt ↦ settled_persisted clock value actor history (shown.settled lt)
-  | inr le ↦ elim (cases_eq (store_at log n).word word) [
-    | inl is ↦ open_taken clock value actor (also (store_at log n).flushed actors) _ history small (told (bit_at (store_at log n).flushed actor == 1) (actors actor) by) (shown.own le is)
-    | inr apart ↦ elim (cases_eq ((store_at log n).word / 8) (word / 8)) [
-      | inl near ↦ shows-taken log from clock word n value actor (also (store_at log n).flushed actors) history small (told (bit_at (store_at log n).flushed actor == 1) (actors actor) by) (shown.near le apart near)
-      | inr far ↦ shows-taken log from clock word n value actor actors history small by (shown.far le far)
-    ]
-  ]
-]
-  where
-    told : (b s : Bool) → s ≡ true → (b || s) ≡ true
-    told true s is = refl
-    told false s is = is
+shows-taken log from clock word (suc n) value actor actors history small by shown = grind (arith, cases_lt, settled_persisted, cases_eq, open_taken, shows-taken log from clock word n value actor (also (store_at log n).flushed actors) history small, shows-taken log from clock word n value actor actors history small)
 
 -- whose mark the store has
 shows-at : (log : List Stored) (from clock word n value actor : ℕ) (actors : ℕ → Bool) (history : List Entry) → actor < 64 → from ≤ n → (store_at log n).word / 8 ≡ word / 8 → bit_at (store_at log n).flushed actor ≡ 1
     → Shows log from clock word (suc n) value actors history → IsSettled clock value (persisted actor clock history)
-shows-at log from clock word n value actor actors history small in_span line mark shown = elim (cases_eq (store_at log n).word word) [
-  | inl is ↦ open_taken clock value actor (also (store_at log n).flushed actors) _ history small told (shown.own in_span is)
-  | inr apart ↦ shows-taken log from clock word n value actor (also (store_at log n).flushed actors) history small told (shown.near in_span apart line)
-]
-  where
-    told : also (store_at log n).flushed actors actor ≡ true
-    told = ap (λ (b : Bool). b || actors actor) (eq-eqb (bit_at (store_at log n).flushed actor) 1 mark)
+shows-at log from clock word n value actor actors history small in_span line mark shown = grind (arith, cases_eq, open_taken, shows-taken, eq-eqb)
 
 -- down to where what is older is settled
 shows-cut : (log : List Stored) (from cut clock word n value actor : ℕ) (actors : ℕ → Bool) (history : List Entry) → actor < 64 → from ≤ cut → actors actor ≡ false
     → ((v : ℕ) (seen : ℕ → Bool) (older : List Entry) → Shows log from clock word cut v seen older → IsSettled clock v (persisted actor clock older))
     → cut ≤ n → NoneTakenIn log actor (word / 8) cut n
     → Shows log from clock word n value actors history → Shows log cut clock word n value actors (persisted actor clock history)
-shows-cut log from cut clock word zero value actor actors history small after untold ends up none shown =
-    let same : 0 ≡ cut = omega (arith, up) in
-    settled-shows log cut clock word 0 value actors _ (omega arith) (ends value actors history (subst (λ (k : ℕ). Shows log from clock word k value actors history) same shown))
+shows-cut log from cut clock word zero value actor actors history small after untold ends up none shown = grind (arith, settled-shows)
 shows-cut log from cut clock word (suc n) value actor actors history small after untold ends up none shown = elim (cases_lt n cut) [
   | inl lt ↦
       let same : suc n ≡ cut = omega (arith, up, lt) in
@@ -266,12 +204,7 @@ shows-cut log from cut clock word (suc n) value actor actors history small after
 -- where nothing is taken
 pub shows-passed : (log : List Stored) (from clock word n value actor : ℕ) (history : List Entry) → actor < 64 → NoneTakenIn log actor (word / 8) from n
     → Shows log from clock word n value nobody history → Shows log from clock word n value nobody (persisted actor clock history)
-shows-passed log from clock word n value actor history small none shown = elim (cases_lt n from) [
-  | inl lt ↦ settled-shows log from clock word n value nobody _ (omega (arith, lt)) (settled_persisted clock value actor history (shows-settled log from clock word n value nobody history (omega (arith, lt)) shown))
-  | inr le ↦
-      shows-cut log from from clock word n value actor nobody history small (omega arith) refl
-      (λ v seen older rest. settled_persisted clock v actor older (shows-settled log from clock word from v seen older (omega arith) rest)) le none shown
-]
+shows-passed log from clock word n value actor history small none shown = grind (arith, cases_lt, settled-shows, settled_persisted, shows-settled, shows-cut)
 
 -- and where this is the newest that is
 pub shows-persisted : (log : List Stored) (from clock word place n value actor : ℕ) (history : List Entry) → actor < 64 → from < place → place ≤ n
@@ -294,11 +227,7 @@ newest_open clock value flushed rest (entry ∷ older) is = is.0
 
 pub shows-newest : (log : List Stored) (from clock word n value : ℕ) (actors : ℕ → Bool) (history : List Entry) → Shows log from clock word n value actors history → newest history ≡ value
 shows-newest log from clock word zero value actors history shown = newest_settled clock value history shown
-shows-newest log from clock word (suc n) value actors history shown = elim (level_cases from clock word n value actors (store_at log n) (Shows log from clock word n) history shown) [
-  | inl is ↦ newest_settled clock value history is
-  | inr (inl own) ↦ newest_open clock value _ _ history own.1
-  | inr (inr other) ↦ shows-newest log from clock word n value other.1.actors history other.1.shown
-]
+shows-newest log from clock word (suc n) value actors history shown = grind (arith, newest_settled, newest_open, shows-newest log from clock word n value)
 
 pub survivors_settled : (clock value : ℕ) (history : List Entry) → IsSettled clock value history → survivors_in history ≡ value ∷ []
 survivors_settled clock value [] is = absurd is
@@ -343,31 +272,20 @@ after_own log from clock word n value newer whole in_span is after =
 
 pub after_other : (log : List Stored) (from clock word n value newer : ℕ) (whole : List Entry) → from ≤ n → (store_at log n).word ≢ word → IsAfter log from clock word (suc n) value newer whole
     → IsAfter log from clock word n value newer whole
-after_other log from clock word n value newer whole in_span apart after = elim (cases_eq ((store_at log n).word / 8) (word / 8)) [
-  | inl near ↦ record { actors = also (store_at log n).flushed after.actors; older = after.older; shown = after.shown.near in_span apart near; count = after.count; each = after.each }
-  | inr far ↦ record { actors = after.actors; older = after.older; shown = after.shown.far in_span far; count = after.count; each = after.each }
-]
+after_other log from clock word n value newer whole in_span apart after = grind (arith, cases_eq)
 
 pub after_all : (log : List Stored) (from clock word place value newer : ℕ) (whole : List Entry) → place ≤ from → IsAfter log from clock word place value newer whole → length (survivors_in whole) ≡ newer + 1
-after_all log from clock word place value newer whole le after =
-    let is = survivors_settled clock value after.older (shows-settled log from clock word place value after.actors after.older le after.shown) in
-    omega (arith, after.count, ap (length {A = ℕ}) is)
+after_all log from clock word place value newer whole le after = grind (arith, survivors_settled, shows-settled)
 
 head_settled : (clock value : ℕ) (history : List Entry) → IsSettled clock value history → get_or (survivors_in history) 0 0 ≡ value
 head_settled clock value history is = ap (λ (l : List ℕ). get_or l 0 0) (survivors_settled clock value history is)
 
 head_shown : (log : List Stored) (from clock word n value : ℕ) (actors : ℕ → Bool) (history : List Entry) → Shows log from clock word n value actors history → get_or (survivors_in history) 0 0 ≡ value
 head_shown log from clock word zero value actors history shown = head_settled clock value history shown
-head_shown log from clock word (suc n) value actors history shown = elim (level_cases from clock word n value actors (store_at log n) (Shows log from clock word n) history shown) [
-  | inl is ↦ head_settled clock value history is
-  | inr (inl own) ↦ ap (λ (l : List ℕ). get_or l 0 0) (older_of clock value _ _ history own.1).survivors
-  | inr (inr other) ↦ head_shown log from clock word n value other.1.actors history other.1.shown
-]
+head_shown log from clock word (suc n) value actors history shown = grind (arith, head_settled, older_of, head_shown log from clock word n value)
 
 pub after_value : (log : List Stored) (from clock word place value newer : ℕ) (whole : List Entry) → IsAfter log from clock word place value newer whole → get_or (survivors_in whole) newer 0 ≡ value
-after_value log from clock word place value newer whole after =
-    let z : newer ≡ newer + 0 = omega arith in
-    ap (λ (n : ℕ). get_or (survivors_in whole) n 0) z ∙ after.each 0 ∙ head_shown log from clock word place value after.actors after.older after.shown
+after_value log from clock word place value newer whole after = grind (arith, head_shown)
 
 -- a word has no more survivors than there are stores, and one
 pub survivors-few : (log : List Stored) (from clock word n value : ℕ) (actors : ℕ → Bool) (history : List Entry) → Shows log from clock word n value actors history → length (survivors_in history) ≤ n + 1

@@ -1,5 +1,5 @@
 -- A fence that visits all lines, one after the other.
-use Rattle.std.proofs.Common.{◌≡◌, inl, inr, ℕ, ◌+◌, ◌/◌, ◌<◌, ◌≤◌, Bool, cond, List, [], ◌==◌, sym, ◌∙◌, ap, arith}
+use Rattle.std.proofs.Common.{◌≡◌, ℕ, ◌+◌, ◌/◌, ◌<◌, ◌≤◌, cond, List, [], ◌==◌, arith}
 use Rattle.std.proofs.lemmas.Bool.{cases_eq, cases_lt, eq-eqb, ne_eqb}
 use Rattle.pmem.specs.Device.{Entry}
 
@@ -10,21 +10,9 @@ pub record SweptTo (line : ℕ) (change : List Entry → List Entry) (old new : 
 
 pub swept-more : (line : ℕ) (change : List Entry → List Entry) (old mid new : ℕ → List Entry) → SweptTo line change old mid
     → ((word : ℕ) → new word ≡ cond ((word / 8) == line) (change (mid word)) (mid word)) → SweptTo (line + 1) change old new
-swept-more line change old mid new swept step = record {
-  before = λ word lt. elim (cases_eq (word / 8) line) [
-    | inl here ↦ step word ∙ ap (λ (b : Bool). cond b (change (mid word)) (mid word)) (eq-eqb (word / 8) line here) ∙ ap change (swept.after word (omega (arith, here)))
-    | inr apart ↦ step word ∙ ap (λ (b : Bool). cond b (change (mid word)) (mid word)) (ne_eqb (word / 8) line apart) ∙ swept.before word (omega (arith, lt, apart))
-  ];
-  after = λ word le.
-      step word ∙ ap (λ (b : Bool). cond b (change (mid word)) (mid word)) (ne_eqb (word / 8) line (λ e. absurd (omega (arith, le, e)))) ∙ swept.after word (omega (arith, le));
-}
+swept-more line change old mid new swept step = grind (arith, cases_eq, eq-eqb, ne_eqb)
 
 -- of all lines
 pub swept-all : (lines words : ℕ) (change : List Entry → List Entry) (old new : ℕ → List Entry) → lines ≡ (words + 7) / 8 → change [] ≡ [] → ((word : ℕ) → words ≤ word → old word ≡ []) → SweptTo lines change old new
     → (word : ℕ) → new word ≡ change (old word)
-swept-all lines words change old new lined empty none swept word = elim (cases_lt (word / 8) lines) [
-  | inl lt ↦ swept.before word lt
-  | inr le ↦
-      let nothing = none word (omega (arith, le, lined)) in
-      swept.after word le ∙ nothing ∙ sym empty ∙ ap change (sym nothing)
-]
+swept-all lines words change old new lined empty none swept word = grind (arith, cases_lt)

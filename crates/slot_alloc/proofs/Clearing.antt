@@ -13,6 +13,4 @@ module _ (word actor : ℕ) (old : Device) (orderly : IsOrderly old) where
   stops-flush one new orderly1 orderly2 is is' = (1, omega arith, record { made = is' ∙ ap failed is; orderly = (orderly, (subst IsOrderly is orderly1, subst IsOrderly (is' ∙ ap failed is) orderly2)) })
 
   pub stops-fence : (one two new : Device) → IsOrderly one → IsOrderly two → IsOrderly new → one ≡ stored word 0 old → two ≡ flushed actor (word / 8) one → new ≡ failed two → StopsWithin (operations word actor) old new
-  stops-fence one two new orderly1 orderly2 orderly3 is is' is'' =
-      let second : two ≡ flushed actor (word / 8) (stored word 0 old) = is' ∙ ap (flushed actor (word / 8)) is in
-      (2, omega arith, record { made = is'' ∙ ap failed second; orderly = (orderly, (subst IsOrderly is orderly1, (subst IsOrderly second orderly2, subst IsOrderly (is'' ∙ ap failed second) orderly3))) })
+  stops-fence one two new orderly1 orderly2 orderly3 is is' is'' = grind (arith)

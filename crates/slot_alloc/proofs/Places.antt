@@ -18,10 +18,7 @@ value-of : (n : ℕ) (words : List ℕ) (slot : ℕ) (d : Bool) → slot < n →
 value-of n words slot d lt = get_or-map-range_with_len (bit_of words) 0 n slot slot d lt (omega arith)
 
 pub free-is : (n : ℕ) (words : List ℕ) → AreClearFrom n words → (slot : ℕ) → is_free (bits_of n words) slot ≡ bit_of words slot
-free-is n words clear slot = elim (cases_lt slot n) [
-  | inl lt ↦ value-of n words slot false lt
-  | inr ge ↦ get_or_past (bits_of n words) slot false (omega (arith, ge, size-of n words)) ∙ sym (clear slot ge)
-]
+free-is n words clear slot = grind (arith, cases_lt, value-of, get_or_past, size-of)
 
 -- ---- one bit
 
@@ -34,13 +31,7 @@ module _ (words : List ℕ) (slot word : ℕ) (b : Bool) (within : slot / 64 < l
   at-slot = ap (λ (w : ℕ). nat_eq (bit_at w (slot % 64)) 1) (get_or-set_at words (slot / 64) (slot / 64) word 0 refl within) ∙ here
 
   pub elsewhere : (k : ℕ) → k ≢ slot → bit_of (set words (slot / 64) word) k ≡ bit_of words k
-  elsewhere k apart = elim (cases_eq (k / 64) (slot / 64)) [
-    | inl same ↦
-        ap (λ (w : ℕ). nat_eq (bit_at w (k % 64)) 1) (get_or-set_at words (slot / 64) (k / 64) word 0 same within)
-        ∙ ap (λ (x : ℕ). nat_eq x 1) (others (k % 64) (omega arith) (λ is. apart (omega (arith, is, same))))
-        ∙ ap (λ (at : ℕ). nat_eq (bit_at (get_or words at 0) (k % 64)) 1) (sym same)
-    | inr other ↦ ap (λ (w : ℕ). nat_eq (bit_at w (k % 64)) 1) (get_or-set_other words (slot / 64) (k / 64) word 0 other)
-  ]
+  elsewhere k apart = grind (arith, cases_eq, get_or-set_at, get_or-set_other)
 
   pub view-set : (n : ℕ) → slot < n → bits_of n (set words (slot / 64) word) ≡ set (bits_of n words) slot b
   view-set n lt =
@@ -86,16 +77,8 @@ module _ (n : ℕ) (words : List ℕ) (clear : AreClearFrom n words) where
       first_below-found (length (bits_of n words)) slot (is_free (bits_of n words)) (omega (arith, inside, size-of n words)) none (free-is n words clear slot ∙ set_here)
 
   pub lowest-nowhere : AreClearBefore (length words) words → lowest_free (bits_of n words) ≡ None
-  lowest-nowhere before = first_below-nowhere (length (bits_of n words)) (is_free (bits_of n words)) (λ k lt.
-      free-is n words clear k
-      ∙ zero-bit words k (elim (cases_lt (k / 64) (length words)) [ inl low ↦ before (k / 64) low | inr high ↦ get_or_past words (k / 64) 0 high ]))
+  lowest-nowhere before = grind (arith, first_below-nowhere, free-is, zero-bit, cases_lt, get_or_past)
 
 -- words of 0
 pub zeros : (n count : ℕ) (words : List ℕ) → words ≡ replicate count 0 → (slot : ℕ) → is_free (bits_of n words) slot ≡ false
-zeros n count words is slot = free-is n words (λ k ge. none k) slot ∙ none slot
-  where
-    none : (k : ℕ) → bit_of words k ≡ false
-    none k = zero-bit words k (ap (λ (l : List ℕ). get_or l (k / 64) 0) is ∙ elim (cases_lt (k / 64) count) [
-      | inl lt ↦ get_or-replicate count (k / 64) 0 0 lt
-      | inr ge ↦ get_or_past (replicate count 0) (k / 64) 0 (omega (arith, ge, length-replicate {A = ℕ} count 0))
-    ])
+zeros n count words is slot = grind (arith, free-is, zero-bit, cases_lt, get_or-replicate, get_or_past, length-replicate)

@@ -1,5 +1,5 @@
 -- A table whose first entry has the number 2.
-use Rattle.std.proofs.Common.{◌≡◌, ◌≢◌, ℕ, zero, suc, ◌+◌, ◌-◌, ◌<◌, ◌≤◌, Bool, true, false, cond, List, [], ◌∷◌, length, map, set, refl, sym, ◌∙◌, ap, subst, arith, nat_eq, nat_lt, Option, Some, None, IsSome, get_or, length-set, rules}
+use Rattle.std.proofs.Common.{◌≡◌, ◌≢◌, ℕ, zero, suc, ◌+◌, ◌-◌, ◌<◌, ◌≤◌, Bool, true, false, cond, List, [], ◌∷◌, length, set, refl, sym, ◌∙◌, ap, subst, arith, nat_eq, nat_lt, Option, Some, None, IsSome, get_or, length-set, rules}
 use Rattle.std.specs.Prelude.{is_none, slice_index_or, slice_set}
 use Rattle.std.specs.List.{list_all}
 use Rattle.std.proofs.lemmas.Bool.Decides.{nat_tests}
@@ -12,11 +12,7 @@ use Rattle.txn.specs.Tables.{entry_at, found, listed, IsTable, AreTaken}
 
 -- what is listed under a number is what its place finds
 pub entry_at-listed : {T : Type 0} (slab : Slab T) (places : List (Option ℕ)) (n : ℕ) → entry_at (listed slab places) n ≡ found slab (entry_at places n)
-entry_at-listed slab places n = by (nat_lt n 2)
-  where
-    by : (b : Bool) → cond b None (slice_index_or (map (found slab) places) (n - 2) None) ≡ found slab (cond b None (slice_index_or places (n - 2) None))
-    by true = refl
-    by false = get_or-map (found slab) places (n - 2) None
+entry_at-listed slab places n = grind (arith, get_or-map (found slab) places (n - 2) None)
 
 get_or-set_is : {X : Type 0} (xs : List X) (i j : ℕ) (x d : X) → i < length xs → get_or (set xs i x) j d ≡ cond (nat_eq j i) x (get_or xs j d)
 get_or-set_is xs i j x d h = grind (arith, nat_tests, get_or-set_at, get_or-set_other) steps 800000
@@ -124,18 +120,7 @@ some-there (Some x) some = refl
 
 -- a number whose place has a value is taken
 pub taken-at : {T : Type 0} (slab : Slab T) (places : List (Option ℕ)) (n : ℕ) → IsTable slab places → 2 ≤ n → is_none (slice_index_or places (n - 2) None) ≡ false → is_none (entry_at (listed slab places) n) ≡ false
-taken-at {T} slab places n table lo taken = ap (λ (o : Option T). is_none o) (entry_at-listed slab places n) ∙ by (entry_at places n) refl
-  where
-    placed : entry_at places n ≡ slice_index_or places (n - 2) None
-    placed = at (nat_lt n 2) refl
-      where
-        at : (b : Bool) → nat_lt n 2 ≡ b → cond b None (slice_index_or places (n - 2) None) ≡ slice_index_or places (n - 2) None
-        at true low = absurd (grind (arith, nat_tests))
-        at false high = refl
-
-    by : (o : Option ℕ) → entry_at places n ≡ o → is_none (found slab o) ≡ false
-    by None at = absurd (cc (ap (λ (o : Option ℕ). is_none o) (sym placed ∙ at), taken))
-    by (Some key) at = some-there (get slab key) (table.there n key at)
+taken-at {T} slab places n table lo taken = grind (arith, entry_at-listed slab places n, nat_tests, some-there)
 
 -- a value is put in under a free number
 pub inserted : {T : Type 0} (slab slab' : Slab T) (places : List (Option ℕ)) (n key : ℕ) (x : T) → IsTable slab places → 2 ≤ n → n < 64 → entry_at (listed slab places) n ≡ None → get slab key ≡ None → Updates slab slab' key (Some x)
@@ -192,19 +177,11 @@ put {T} slab places n key x table at =
 
 -- a number with a place has a value
 pub listed-taken : {T : Type 0} (slab : Slab T) (places : List (Option ℕ)) (first : ℕ) → IsTable slab places → AreTaken first places → (k : ℕ) → 2 ≤ k → k < first → is_none (entry_at (listed slab places) k) ≡ false
-listed-taken slab places first table taken k lo lt = ap (λ (o : Option _). is_none o) (entry_at-listed slab places k) ∙ by (entry_at places k) refl
-  where
-    by : (o : Option ℕ) → entry_at places k ≡ o → is_none (found slab o) ≡ false
-    by None at = absurd (cc (ap (λ (o : Option ℕ). is_none o) (sym at), taken k lo lt))
-    by (Some key) at = some-there (get slab key) (table.there k key at)
+listed-taken slab places first table taken k lo lt = grind (arith, entry_at-listed slab places k, some-there)
 
 -- and one with a value a place
 has-place : {T : Type 0} (slab : Slab T) (places : List (Option ℕ)) (k : ℕ) → is_none (entry_at (listed slab places) k) ≡ false → is_none (entry_at places k) ≡ false
-has-place slab places k taken = by (entry_at places k) refl
-  where
-    by : (o : Option ℕ) → entry_at places k ≡ o → is_none o ≡ false
-    by None at = absurd (cc (ap (λ (o : Option ℕ). is_none (found slab o)) at, ap (λ (o : Option _). is_none o) (entry_at-listed slab places k), taken))
-    by (Some key) at = refl
+has-place slab places k taken = grind (arith, entry_at-listed slab places k)
 
 -- once the lowest free number is taken
 pub taken-put_in : {T : Type 0} (slab : Slab T) (places : List (Option ℕ)) (n key : ℕ) → length places ≡ 62 → 2 ≤ n → n < 64 → ((k : ℕ) → 2 ≤ k → k < n → is_none (entry_at (listed slab places) k) ≡ false) → AreTaken (n + 1) (slice_set places (n - 2) (Some key))

@@ -17,17 +17,11 @@ are_later t ds = list_all (λ d. nat_lt t d.timestamp) ds
 
 later_than : (t u : ℕ) (ds : List DrawnCommit) → t ≤ u → are_later u ds ≡ true → are_later t ds ≡ true
 later_than t u [] le all = refl
-later_than t u (d ∷ ds) le all =
-    let both = and_parts (nat_lt u d.timestamp) (are_later u ds) all in
-    let above = ltb-true u d.timestamp both.0 in
-    and_from (nat_lt t d.timestamp) (are_later t ds) (lt-ltb t d.timestamp (omega (arith, le, above))) (later_than t u ds le both.1)
+later_than t u (d ∷ ds) le all = grind (arith, and_parts, ltb-true, and_from, lt-ltb, later_than t u ds le)
 
 pub later : (d : DrawnCommit) (ds : List DrawnCommit) → are_in_order (d ∷ ds) ≡ true → are_later d.timestamp ds ≡ true
 later d [] o = refl
-later d (e ∷ ds) o =
-    let both = and_parts (nat_lt d.timestamp e.timestamp) (are_in_order (e ∷ ds)) o in
-    let above = ltb-true d.timestamp e.timestamp both.0 in
-    and_from (nat_lt d.timestamp e.timestamp) (are_later d.timestamp ds) both.0 (later_than d.timestamp e.timestamp ds (omega (arith, above)) (later e ds both.1))
+later d (e ∷ ds) o = grind (arith, and_parts, ltb-true, and_from, later_than, later e ds)
 
 pub rest : (d : DrawnCommit) (ds : List DrawnCommit) → are_in_order (d ∷ ds) ≡ true → are_in_order ds ≡ true
 rest d ds o = rising-rest d.timestamp (map (λ d. d.timestamp) ds) o
@@ -51,11 +45,7 @@ order-pushed new (d ∷ ds) o below =
 
 pub order-filtered : (p : DrawnCommit → Bool) (ds : List DrawnCommit) → are_in_order ds ≡ true → are_in_order (filter p ds) ≡ true
 order-filtered p [] o = refl
-order-filtered p (d ∷ ds) o = by (p d) (order-filtered p ds (rest d ds o))
-  where
-    by : (b : Bool) → are_in_order (filter p ds) ≡ true → are_in_order (cond b (d ∷ filter p ds) (filter p ds)) ≡ true
-    by true o' = with_first d (filter p ds) (all-filter (λ (e : DrawnCommit). nat_lt d.timestamp e.timestamp) p ds (later d ds o)) o'
-    by false o' = o'
+order-filtered p (d ∷ ds) o = grind (arith, order-filtered p ds (rest d ds o), rest, with_first, all-filter, later)
 
 same_timestamp : (t : ℕ) (d : DrawnCommit) → (with_stamp t d).timestamp ≡ d.timestamp
 same_timestamp t d = grind (arith) steps 800000
@@ -74,11 +64,7 @@ at_step t d ds = grind (arith) steps 800000
 
 none_later : (t : ℕ) (ds : List DrawnCommit) → are_later t ds ≡ true → drawn_at t ds ≡ None
 none_later t [] all = refl
-none_later t (d ∷ ds) all =
-    let both = and_parts (nat_lt t d.timestamp) (are_later t ds) all in
-    let above = ltb-true t d.timestamp both.0 in
-    let apart : nat_eq d.timestamp t ≡ false = grind (arith, nat_tests) in
-    ap (λ (b : Bool). cond b (Some d) (drawn_at t ds)) apart ∙ none_later t ds both.1
+none_later t (d ∷ ds) all = grind (arith, and_parts, ltb-true, nat_tests, none_later t ds)
 
 pub found-at : (t : ℕ) (ds : List DrawnCommit) (d : DrawnCommit) → slice_get ds (place_of t ds) ≡ Some d → d.timestamp ≡ t → drawn_at t ds ≡ Some d
 found-at t [] d at is = absurd (cc at)
@@ -95,17 +81,7 @@ found-at t (e ∷ ds) d at is =
 
 pub not-found : (t : ℕ) (ds : List DrawnCommit) → are_in_order ds ≡ true → ((d : DrawnCommit) → slice_get ds (place_of t ds) ≡ Some d → nat_eq d.timestamp t ≡ false) → drawn_at t ds ≡ None
 not-found t [] o apart = refl
-not-found t (e ∷ ds) o apart =
-    subst (λ (n : ℕ). ((d : DrawnCommit) → slice_get (e ∷ ds) n ≡ Some d → nat_eq d.timestamp t ≡ false) → drawn_at t (e ∷ ds) ≡ None) (sym (at_step t e ds)) (by (nat_le t e.timestamp) refl (not-found t ds (rest e ds o))) apart
-  where
-    by : (b : Bool) → nat_le t e.timestamp ≡ b → (((d : DrawnCommit) → slice_get ds (place_of t ds) ≡ Some d → nat_eq d.timestamp t ≡ false) → drawn_at t ds ≡ None)
-        → ((d : DrawnCommit) → slice_get (e ∷ ds) (cond b 0 (suc (place_of t ds))) ≡ Some d → nat_eq d.timestamp t ≡ false) → cond (nat_eq e.timestamp t) (Some e) (drawn_at t ds) ≡ None
-    by true le further apart =
-        let low : t ≤ e.timestamp = grind (arith, nat_tests) in
-        ap (λ (b : Bool). cond b (Some e) (drawn_at t ds)) (apart e refl) ∙ none_later t ds (later_than t e.timestamp ds low (later e ds o))
-    by false le further apart =
-        let other : nat_eq e.timestamp t ≡ false = grind (arith, nat_tests) in
-        ap (λ (b : Bool). cond b (Some e) (drawn_at t ds)) other ∙ further apart
+not-found t (e ∷ ds) o apart = grind (arith, at_step, not-found t ds (rest e ds o), rest, nat_tests, none_later, later_than, later)
 
 -- what lies there has another timestamp
 pub apart-there : (t : ℕ) (o : Option DrawnCommit) (e d : DrawnCommit) → o ≡ Some e → e.timestamp ≢ t → o ≡ Some d → nat_eq d.timestamp t ≡ false
@@ -118,25 +94,11 @@ unstamped t d is = ap (λ (b : Bool). cond (b && nat_lt d.stamped (length d.writ
 
 unstamped_later : (t : ℕ) (ds : List DrawnCommit) → are_later t ds ≡ true → map (with_stamp t) ds ≡ ds
 unstamped_later t [] all = refl
-unstamped_later t (d ∷ ds) all =
-    let both = and_parts (nat_lt t d.timestamp) (are_later t ds) all in
-    let above = ltb-true t d.timestamp both.0 in
-    let apart : nat_eq d.timestamp t ≡ false = grind (arith, nat_tests) in
-    λ i. unstamped t d apart i ∷ unstamped_later t ds both.1 i
+unstamped_later t (d ∷ ds) all = grind (arith, and_parts, ltb-true, nat_tests, unstamped, unstamped_later t ds)
 
 pub stamped-at : (t : ℕ) (ds : List DrawnCommit) (d : DrawnCommit) → are_in_order ds ≡ true → place_of t ds < length ds → map (with_stamp t) ds ≡ set ds (place_of t ds) (with_stamp t (get_or ds (place_of t ds) d))
 stamped-at t [] d o lt = absurd (omega (arith, lt))
-stamped-at t (e ∷ ds) d o lt =
-    subst (λ (n : ℕ). n < length (e ∷ ds) → map (with_stamp t) (e ∷ ds) ≡ set (e ∷ ds) n (with_stamp t (get_or (e ∷ ds) n d))) (sym (at_step t e ds)) (by (nat_le t e.timestamp) refl (stamped-at t ds d (rest e ds o))) lt
-  where
-    by : (b : Bool) → nat_le t e.timestamp ≡ b → (place_of t ds < length ds → map (with_stamp t) ds ≡ set ds (place_of t ds) (with_stamp t (get_or ds (place_of t ds) d)))
-        → cond b 0 (suc (place_of t ds)) < length (e ∷ ds) → map (with_stamp t) (e ∷ ds) ≡ set (e ∷ ds) (cond b 0 (suc (place_of t ds))) (with_stamp t (get_or (e ∷ ds) (cond b 0 (suc (place_of t ds))) d))
-    by true le further lt =
-        let low : t ≤ e.timestamp = grind (arith, nat_tests) in
-        ap (λ (es : List DrawnCommit). with_stamp t e ∷ es) (unstamped_later t ds (later_than t e.timestamp ds low (later e ds o)))
-    by false le further lt =
-        let other : nat_eq e.timestamp t ≡ false = grind (arith, nat_tests) in
-        λ i. unstamped t e other i ∷ further (omega (arith, lt)) i
+stamped-at t (e ∷ ds) d o lt = grind (arith, at_step t e ds, stamped-at t ds d (rest e ds o), rest e ds o, nat_tests, unstamped_later, later_than, later e ds o, unstamped)
 
 pub stamped-nowhere : (t : ℕ) (ds : List DrawnCommit) → length ds ≤ place_of t ds → map (with_stamp t) ds ≡ ds
 stamped-nowhere t [] le = refl

@@ -1,7 +1,7 @@
 -- How many elements pass a test.
-use Rattle.std.proofs.Common.{◌≡◌, ℕ, zero, suc, ◌<◌, ◌≤◌, Bool, true, false, cond, List, [], ◌∷◌, length, map, take, get_or, filter, refl, sym, ◌∙◌, ap, arith}
+use Rattle.std.proofs.Common.{◌≡◌, ℕ, zero, suc, ◌<◌, ◌≤◌, Bool, true, List, [], ◌∷◌, length, map, take, get_or, filter, refl, arith}
 use Rattle.std.proofs.lemmas.List.{length-map}
-use Rattle.base.specs.Choosing.{Drawn, is_passed, passed_over}
+use Rattle.base.specs.Choosing.{is_passed, passed_over}
 use Rattle.txn.specs.declared.drawn.DrawnCommit.{DrawnCommit}
 use Rattle.txn.specs.DrawnCommits.{plain_drawn}
 
@@ -11,21 +11,13 @@ filter-map f p (x ∷ xs) = grind (arith, filter-map f p xs) steps 800000
 
 -- how many commits a record passes over
 pub length-passed : (reach : ℕ) (ds : List DrawnCommit) → length (passed_over reach (map plain_drawn ds)) ≡ length (filter (λ (d : DrawnCommit). is_passed reach (plain_drawn d)) ds)
-length-passed reach ds =
-    length-map (filter (is_passed reach) (map plain_drawn ds)) (λ (d : Drawn). d.commit.timestamp) ∙ ap (λ (es : List Drawn). length es) (filter-map plain_drawn (is_passed reach) ds)
-    ∙ length-map (filter (λ (d : DrawnCommit). is_passed reach (plain_drawn d)) ds) plain_drawn
+length-passed reach ds = grind (arith, length-map, filter-map)
 
 -- fewer of the elements before one that passes the test do than of all
 pub fewer-before : {X : Type 0} (p : X → Bool) (xs : List X) (i : ℕ) (x : X) → i < length xs → x ≡ get_or xs i x → p x ≡ true → length (filter p (take i xs)) < length (filter p xs)
 fewer-before p [] i x within at passes = absurd (omega (arith, within))
-fewer-before p (y ∷ ys) zero x within at passes =
-    let here : p y ≡ true = ap p (sym at) ∙ passes in
-    rw here (omega arith)
-fewer-before p (y ∷ ys) (suc i) x within at passes = by (p y) (fewer-before p ys i x (omega (arith, within)) at passes)
-  where
-    by : (b : Bool) → length (filter p (take i ys)) < length (filter p ys) → length (cond b (y ∷ filter p (take i ys)) (filter p (take i ys))) < length (cond b (y ∷ filter p ys) (filter p ys))
-    by true less = omega (arith, less)
-    by false less = less
+fewer-before p (y ∷ ys) zero x within at passes = grind (arith)
+fewer-before p (y ∷ ys) (suc i) x within at passes = grind (arith, fewer-before p ys i x)
 
 -- no more elements pass a test than there are
 pub few-filtered : {X : Type 0} (p : X → Bool) (xs : List X) → length (filter p xs) ≤ length xs

@@ -29,10 +29,7 @@ not-below t n d ds le = ap (λ (b : Bool). below t (n + cond (b && not (is_stamp
 
 none-below : (t n : ℕ) (ds : List DrawnCommit) → are_later t ds ≡ true → below t n ds ≡ n
 none-below t n [] all = refl
-none-below t n (d ∷ ds) all =
-    let both = and_parts (nat_lt t d.timestamp) (are_later t ds) all in
-    let less = ltb-true t d.timestamp both.0 in
-    not-below t n d ds (omega (arith, less)) ∙ none-below t n ds both.1
+none-below t n (d ∷ ds) all = grind (arith, and_parts, are_later, ltb-true, not-below, none-below t n ds)
 
 -- of all commits n that aren't stamped come before these
 abbrev IsLeft : List DrawnCommit → ℕ → List DrawnCommit → Type 0
@@ -41,9 +38,7 @@ IsLeft all n (d ∷ ds) = (t : ℕ) → d.timestamp ≤ t → below t 0 all ≡ 
 
 left-next : (all : List DrawnCommit) (n : ℕ) (d : DrawnCommit) (ds : List DrawnCommit) → are_in_order (d ∷ ds) ≡ true → IsLeft all n (d ∷ ds) → IsLeft all (n + cond (not (is_stamped (plain_drawn d))) 1 0) ds
 left-next all n d [] o left = tt
-left-next all n d (e ∷ es) o left = λ t le.
-    let less = ltb-true d.timestamp e.timestamp (and_parts (nat_lt d.timestamp e.timestamp) (are_in_order (e ∷ es)) o).0 in
-    left t (omega (arith, less, le)) ∙ ap (λ (b : Bool). below t (n + cond (b && not (is_stamped (plain_drawn d))) 1 0) (e ∷ es)) (lt-ltb d.timestamp t (omega (arith, less, le)))
+left-next all n d (e ∷ es) o left = grind (arith, ltb-true, and_parts, lt-ltb)
 
 walk : (most : ℕ) (all : List DrawnCommit) (r n : ℕ) (ds : List DrawnCommit) → are_in_order ds ≡ true → IsLeft all n ds
     → fold max r (map (λ (d : Drawn). d.commit.timestamp) (filter (may_be_covered most (map plain_drawn all)) (map plain_drawn ds))) ≡ (fold (walk_on most) (record { reached = r; unstamped = n }) ds).reached

@@ -1,5 +1,5 @@
 -- Words and the version that they hold.
-use Rattle.std.proofs.Common.{◌≡◌, inl, inr, ℕ, zero, suc, ◌+◌, ◌-◌, ◌*◌, ◌/◌, ◌%◌, ◌^◌, ◌<◌, ◌≤◌, Bool, cond, eqb, List, length, get_or, set, take, drop, map, sym, ◌∙◌, ap, subst, arith, lit<}
+use Rattle.std.proofs.Common.{◌≡◌, inl, inr, ℕ, zero, suc, ◌+◌, ◌-◌, ◌*◌, ◌/◌, ◌%◌, ◌^◌, ◌<◌, ◌≤◌, List, length, get_or, set, take, drop, map, sym, ◌∙◌, ap, subst, arith, lit<}
 use Rattle.std.specs.Int.{byte_at, bytes_low_first, from_le_bytes, to_le_bytes, w64}
 use Rattle.std.specs.List.{range_with_len}
 use Rattle.std.proofs.lemmas.Bool.{cases_eq, cases_lt, ne_eqb}
@@ -17,15 +17,7 @@ same_word xs ys same = grind (arith) steps 800000
 
 -- what eight bytes make determines them
 bytes_back : (n : ℕ) (f : ℕ → ℕ) → ((i : ℕ) → f i < 256) → n ≡ from_le_bytes w64 (map f (range_with_len 0 8)) → (i : ℕ) → i < 8 → get_or (to_le_bytes w64 n) i 0 ≡ f i
-bytes_back n f small is i lt =
-    ap (λ (l : List ℕ). get_or l i 0) (le_bytes_8 (map f (range_with_len 0 8)) n (length-map-range_with_len f 0 8) below is) ∙ get_or-map-range_with_len f 0 8 i i 0 lt (omega arith)
-  where
-    below : (k : ℕ) → get_or (map f (range_with_len 0 8)) k 0 < 256
-    below k = elim (cases_lt k 8) [
-      | inl lt ↦ subst (λ (x : ℕ). x < 256) (sym (get_or-map-range_with_len f 0 8 k k 0 lt (omega arith))) (small k)
-      | inr le ↦
-          subst (λ (x : ℕ). x < 256) (sym (get_or_past (map f (range_with_len 0 8)) k 0 (omega (arith, length-map-range_with_len f 0 8, le)))) (lit< tt)
-    ]
+bytes_back n f small is i lt = grind (arith, le_bytes_8, length-map-range_with_len, get_or-map-range_with_len, cases_lt, get_or_past)
 
 -- each byte of the row, and 0 after it, stands in the words
 pub row_byte : (row : List ℕ) (words : ℕ → ℕ) (last i : ℕ) → ((k : ℕ) → k < last → words (4 + k) ≡ row_word row k) → ((k : ℕ) → get_or row k 0 < 256) → i / 8 < last → slot_byte words i ≡ get_or row i 0
@@ -37,10 +29,7 @@ row_byte row words last i each small lt =
     ∙ ap (λ (k : ℕ). get_or row k 0) (let e : 8 * (i / 8) + i % 8 ≡ i = omega arith in e)
 
 pub word_past : (v : Version) (k : ℕ) → version_word v (4 + k) ≡ row_word v.row k
-word_past v k =
-    ap (λ (b : Bool). cond b v.key.key (cond (eqb (4 + k) 3) (v.key.table + 2 ^ 16 * length v.row + 2 ^ 32 * link_number v.previous) (row_word v.row (4 + k - 4)))) (ne_eqb (4 + k) 2 (λ e. absurd (omega arith)))
-    ∙ ap (λ (b : Bool). cond b (v.key.table + 2 ^ 16 * length v.row + 2 ^ 32 * link_number v.previous) (row_word v.row (4 + k - 4))) (ne_eqb (4 + k) 3 (λ e. absurd (omega arith)))
-    ∙ ap (row_word v.row) (let e : 4 + k - 4 ≡ k = omega arith in e)
+word_past v k = grind (arith, ne_eqb)
 
 -- ---- words that hold a version
 
@@ -63,10 +52,7 @@ module _ (layout : Layout) (words : ℕ → ℕ) (v : Version) (is : IsVersion l
 -- ---- a loop that fills a list
 
 pub set_from : (f : ℕ → ℕ) (xs : List ℕ) (first i x : ℕ) → i < length xs → x ≡ f i → ((k : ℕ) → first ≤ k → k < i → get_or xs k 0 ≡ f k) → (k : ℕ) → first ≤ k → k < i + 1 → get_or (set xs i x) k 0 ≡ f k
-set_from f xs first i x lt is before k from k_lt = elim (cases_eq k i) [
-  | inl here ↦ ap (λ (n : ℕ). get_or (set xs i x) n 0) here ∙ get_or-set_same xs i x 0 lt ∙ is ∙ ap f (sym here)
-  | inr apart ↦ get_or-set_other xs i k x 0 apart ∙ before k from (omega (arith, k_lt, apart))
-]
+set_from f xs first i x lt is before k from k_lt = grind (arith, cases_eq, get_or-set_same, get_or-set_other)
 
 -- ---- words read
 
@@ -122,8 +108,7 @@ module _ (layout : Layout) (words : ℕ → ℕ) (bytes : List ℕ) (n : ℕ) (s
 -- ---- bytes are small
 
 byte_small : (i n : ℕ) → byte_at i n < 256
-byte_small zero n = mod_below n 256 (lit< tt)
-byte_small (suc i) n = mod_below (n / 256 ^ suc i) 256 (lit< tt)
+byte_small a n = grind (arith, mod_below)
 
 low_small : (i k n j : ℕ) → get_or (bytes_low_first i k n) j 0 < 256
 low_small i zero n j = lit< tt

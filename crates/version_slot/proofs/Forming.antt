@@ -1,6 +1,6 @@
 -- Words that are well formed, and the version that they hold.
 use Rattle.std.proofs.Common.{◌≡◌, ℕ, ◌+◌, ◌/◌, ◌%◌, ◌^◌, ◌<◌, ◌≤◌, List, map, length, get_or, take, refl, sym, ◌∙◌, arith}
-use Rattle.std.specs.Prelude.{Option, Some, None, IfSome, IfNone}
+use Rattle.std.specs.Prelude.{Option, IfSome, IfNone}
 use Rattle.std.specs.List.{range_with_len}
 use Rattle.std.proofs.lemmas.List.{get_or-drop, get_or_past, length-drop}
 use Rattle.std.proofs.lemmas.List.FromFn.{get_or-map-range_with_len, length-map-range_with_len}
@@ -61,26 +61,18 @@ module _ (layout : Layout) (xs ys : ℕ → ℕ) where
   version-same same v is = record { each = λ w low high. sym (same w low high) ∙ is.each w low high; fits = is.fits }
 
   slot-same : ((w : ℕ) → w < slot_words layout.version → xs w ≡ ys w) → (s : Slot) → IsSlot layout xs s → IsSlot layout ys s
-  slot-same same s is = record {
-    begin = sym (same 0 (omega (arith, line-words layout.version))) ∙ is.begin;
-    end = sym (same 1 (omega (arith, line-words layout.version))) ∙ is.end;
-    version = version-same (λ w low high. same w high) s.version is.version;
-  }
+  slot-same same s is = grind (arith, line-words, version-same)
 
 module _ (layout : Layout) (xs ys : ℕ → ℕ) (same : (w : ℕ) → w < slot_words layout.version → xs w ≡ ys w) where
   pub some-slot : (o : Option Slot) → IfSome o (IsSlot layout xs) → IfSome o (IsSlot layout ys)
-  some-slot None is = tt
-  some-slot (Some s) is = slot-same layout xs ys same s is
+  some-slot a is = grind (arith, slot-same)
 
   pub none-slot : (o : Option Slot) → IfNone o ((s : Slot) → ¬ IsSlot layout xs s) → IfNone o ((s : Slot) → ¬ IsSlot layout ys s)
-  none-slot None none = λ s is. none s (slot-same layout ys xs (λ w high. sym (same w high)) s is)
-  none-slot (Some s) none = tt
+  none-slot a none = grind (arith, slot-same)
 
 module _ (layout : Layout) (xs ys : ℕ → ℕ) (same : (w : ℕ) → 2 ≤ w → w < slot_words layout.version → xs w ≡ ys w) where
   pub some-key : (o : Option Key) → IfSome o (λ key. (v : Version) × IsVersion layout xs v × (v.key ≡ key)) → IfSome o (λ key. (v : Version) × IsVersion layout ys v × (v.key ≡ key))
-  some-key None is = tt
-  some-key (Some key) is = (is.0, version-same layout xs ys same is.0 is.1, is.2)
+  some-key a is = grind (arith, version-same)
 
   pub none-key : (o : Option Key) → IfNone o ((v : Version) → ¬ IsVersion layout xs v) → IfNone o ((v : Version) → ¬ IsVersion layout ys v)
-  none-key None none = λ v is. none v (version-same layout ys xs (λ w low high. sym (same w low high)) v is)
-  none-key (Some key) none = tt
+  none-key a none = grind (arith, version-same)

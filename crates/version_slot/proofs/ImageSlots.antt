@@ -34,10 +34,7 @@ module _ (image : Image) (slot : ℕ) (within : slot < (layout_of image).slots) 
   range_word k lt = grind (arith, get_or-take, get_or-drop) steps 800000
 
   range_length : length (slice_range image (slot_start (layout_of image) slot + 4) (slot_start (layout_of image) (slot + 1))) ≡ slot_words (layout_of image).version - 4
-  range_length =
-      let from = slot_start (layout_of image) slot + 4 in
-      let to = slot_start (layout_of image) (slot + 1) in
-      omega (arith, length-take-le (to - from) (drop from image) (omega (arith, length-drop {A = ℕ} from image, fits)), line-words (layout_of image).version)
+  range_length = grind (arith, length-take-le, length-drop, fits, line-words)
 
   pub bytes_length : length (bytes_of image slot) ≡ 8 * (slot_words (layout_of image).version - 4)
   bytes_length = flat_length _ ∙ ap (λ (n : ℕ). 8 * n) range_length
@@ -117,8 +114,7 @@ abbrev pub version_of : Image → ℕ → Version
 version_of image slot = record { key = key_of image slot; row = row_of image slot; previous = previous_in (link_of image slot) }
 
 pub link-previous_in : (n : ℕ) → link_number (previous_in n) ≡ n
-link-previous_in zero = refl
-link-previous_in (suc n) = omega arith
+link-previous_in a = grind (arith)
 
 module _ (image : Image) (slot : ℕ) (within : slot < (layout_of image).slots) (whole : total_words (layout_of image) ≤ length image)
     (fit : (w : ℕ) → get_or image w 0 < 2 ^ 64) (well : is_misfit image slot ≡ false) where

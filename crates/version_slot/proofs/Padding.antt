@@ -12,14 +12,11 @@ pos k = omega (arith, one-le-pow k 256 (lit< tt))
 -- a shift by whole bytes
 worth : (k : ℕ) → 2 ^ (8 * k) ≡ 256 ^ k
 worth zero = refl
-worth (suc k) =
-    let more : 8 * suc k ≡ 8 * k + 8 = omega arith in
-    ap (λ (n : ℕ). 2 ^ n) more ∙ pow-add 2 (8 * k) 8 ∙ ap (λ (n : ℕ). n * 256) (worth k) ∙ sym (pow-suc 256 k)
+worth (suc k) = grind (arith, pow-add 2 (8 * k) 8, worth k, pow-suc 256 k)
 
 -- a byte of a word as a quotient
 quotient : (k n : ℕ) → byte_at k n ≡ n / 256 ^ k % 256
-quotient zero n = omega arith
-quotient (suc k) n = refl
+quotient a n = grind (arith)
 
 low-at : (i count n k : ℕ) → k < count → get_or (bytes_low_first i count n) k 0 ≡ byte_at (i + k) n
 low-at i zero n k lt = absurd (omega (arith, lt))
@@ -36,18 +33,13 @@ small-none : (n m : ℕ) → 0 < m → n < m → n / m ≡ 0
 small-none n m some lt = let below : n / m < 1 = div_below n m 1 some (omega (arith, lt)) in omega (arith, below)
 
 none-small : (n m : ℕ) → 0 < m → n / m ≡ 0 → n < m
-none-small n m some none =
-    let whole : 0 * m + n % m ≡ n = ap (λ (q : ℕ). q * m + n % m) (sym none) ∙ div-add-mod' n m in
-    omega (arith, whole, mod_below n m some)
+none-small n m some none = grind (arith, div-add-mod', mod_below)
 
 -- ---- the bytes of a word from one on
 
 -- above what is left of it a number has no bytes
 pub clear-above : (n from k : ℕ) → n / 2 ^ (8 * from) ≡ 0 → from ≤ k → k < 8 → get_or (to_le_bytes w64 n) k 0 ≡ 0
-clear-above n from k none le lt =
-    let short : n < 256 ^ from = none-small n (256 ^ from) (pos from) (sym (ap (λ (m : ℕ). n / m) (worth from)) ∙ none) in
-    let fits : n < 256 ^ k = omega (arith, short, pow-le-pow_right {n = 256} (lit< tt) {i = from} {j = k} le) in
-    byte-is n k lt ∙ ap (λ (q : ℕ). q % 256) (small-none n (256 ^ k) (pos k) fits)
+clear-above n from k none le lt = grind (arith, none-small, pos from, worth from, pow-le-pow_right, byte-is n k lt, small-none, pos k)
 
 short-down : (left n from : ℕ) → from + left ≡ 8 → n < 2 ^ 64 → ((k : ℕ) → from ≤ k → k < 8 → get_or (to_le_bytes w64 n) k 0 ≡ 0) → n < 256 ^ from
 short-down zero n from is fits clear = subst (λ (k : ℕ). n < 256 ^ k) (let all : 8 ≡ from = omega (arith, is) in all) fits

@@ -1,5 +1,5 @@
 -- A list of which eight elements in a row are written.
-use Rattle.std.proofs.Common.{◌≡◌, inl, inr, ℕ, ◌+◌, ◌-◌, ◌*◌, ◌<◌, ◌≤◌, List, ◌++◌, length, get_or, take, drop, ◌∙◌, ap, arith, length-append, length-drop}
+use Rattle.std.proofs.Common.{◌≡◌, ℕ, ◌+◌, ◌*◌, ◌<◌, ◌≤◌, List, ◌++◌, length, get_or, take, drop, arith, length-append, length-drop}
 use Rattle.std.proofs.lemmas.Bool.{cases_lt}
 use Rattle.std.proofs.lemmas.List.{get_or-take, get_or_append_left, get_or-append_right, length-take-le}
 
@@ -16,12 +16,4 @@ module _ (xs ys : List ℕ) (k n : ℕ) (eight : n ≡ 8) (size : length ys ≡ 
 
   -- what holds of the elements before them holds of the eight too
   pub eight-more : (f : ℕ → ℕ) → ((j : ℕ) → j < 8 → get_or ys j 0 ≡ f (8 * k + j)) → ((i : ℕ) → i < 8 * k → get_or xs i 0 ≡ f i) → (i : ℕ) → i < 8 * (k + 1) → get_or (take (8 * k) xs ++ (ys ++ rest)) i 0 ≡ f i
-  eight-more f new before i lt = elim (cases_lt i (8 * k)) [
-    | inl below ↦ get_or_append_left (take (8 * k) xs) (ys ++ rest) 0 i (omega (arith, front, below)) ∙ get_or-take (8 * k) xs i 0 below ∙ before i below
-    | inr above ↦
-        let at : 8 * k + (i - 8 * k) ≡ i = omega (arith, above) in
-        get_or-append_right (take (8 * k) xs) (ys ++ rest) (8 * k) i 0 front above
-        ∙ get_or_append_left ys rest 0 (i - 8 * k) (omega (arith, size, lt, above))
-        ∙ new (i - 8 * k) (omega (arith, lt, above))
-        ∙ ap f at
-  ]
+  eight-more f new before i lt = grind (arith, cases_lt, get_or_append_left, front, get_or-take, get_or-append_right)

@@ -19,10 +19,7 @@ zero-others : (gaps : List Gap) (word value other : ℕ) (old new : Device) → 
 zero-others gaps word value other old new apart run = grind (arith, value-stored_other) steps 800000
 
 pub stops-begin : (a : Layout) (actor : ℕ) (gaps : List Gap) (slot start : ℕ) (old new : Device) → start ≡ slot_start a slot → StopsWithin (zero_operations gaps start (value_of old start)) old new → StopsWithin (sweep_operations a actor gaps (value_of old) slot) old new
-stops-begin a actor gaps slot start old new at stop =
-    let begins = zero_operations gaps (slot_start a slot) (value_of old (slot_start a slot)) in
-    let ends = zero_operations gaps (slot_start a slot + 1) (value_of old (slot_start a slot + 1)) in
-    stops-first {xs = begins ++ ends} (flush_op actor (slot_start a slot / 8) ∷ []) (stops-first {xs = begins} ends (subst (λ (k : ℕ). StopsWithin (zero_operations gaps k (value_of old k)) old new) at stop))
+stops-begin a actor gaps slot start old new at stop = grind (arith, stops-first)
 
 module _ (a : Layout) (actor : ℕ) (gaps : List Gap) (slot start line : ℕ) (old one : Device) (at : start ≡ slot_start a slot) (first : Runs (zero_operations gaps start (value_of old start)) old one) where
   abbrev begins : List Operation

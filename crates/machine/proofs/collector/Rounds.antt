@@ -1,10 +1,9 @@
 -- Rounds of the collector that nothing comes between: the second changes nothing.
-use Rattle.std.proofs.Common.{◌≡◌, ◌⊎◌, inl, inr, ℕ, zero, suc, ◌+◌, ◌-◌, ◌*◌, ◌<◌, ◌≤◌, Bool, true, false, ◌&&◌, cond, List, ◌∷◌, replicate, refl, sym, ◌∙◌, ap, subst, arith, nat_eq, Option, None}
+use Rattle.std.proofs.Common.{◌≡◌, ◌⊎◌, inl, inr, ℕ, zero, suc, ◌+◌, ◌-◌, ◌*◌, ◌<◌, ◌≤◌, Bool, true, false, ◌&&◌, cond, replicate, refl, sym, ◌∙◌, ap, subst, arith, nat_eq, Option, None}
 use Rattle.std.specs.List.{list_all}
 use Rattle.std.proofs.lemmas.Bool.{cases_lt, eq-eqb, lt-ltb, le-ltb}
 use Rattle.std.proofs.Math.Nat.{suc-mul}
 use Rattle.base.specs.declared.step.Step.TheVariants.{Collect}
-use Rattle.base.specs.declared.step.Reply.{Reply}
 use Rattle.base.specs.Layout.{Layout}
 use Rattle.base.specs.Lists.{replaced}
 use Rattle.machine.specs.State.{State, Version, session_numbers}
@@ -46,9 +45,7 @@ at-end q le = ap (λ (b : Bool). cond b (slot_visited q) (sweep_ended q)) (le-lt
 
 place-up : (n : ℕ) (q : State) → q.place + n ≤ q.layout.slots → (visits n q).place ≡ q.place + n
 place-up zero q le = omega arith
-place-up (suc n) q le =
-    let next : (visited q).place ≡ q.place + 1 = ap (λ (p : State). p.place) (at-slot q (omega (arith, le))) in
-    omega (arith, next, place-up n (visited q) (omega (arith, le, next, slots-visited q)))
+place-up (suc n) q le = grind (arith, at-slot, place-up n (visited q), slots-visited)
 
 -- ---- versions that are read stay, and garbage goes
 
@@ -79,12 +76,8 @@ freed : (q : State) → is_garbage (slot_visited q) q.place ≡ false
 freed q = grind (arith, eq-eqb)
 
 clean-at : (n : ℕ) (q : State) (slot : ℕ) → q.place + n ≡ slot → slot < q.layout.slots → is_garbage (visits (suc n) q) slot ≡ false
-clean-at zero q slot is lt =
-    let here : q.place ≡ slot = omega (arith, is) in
-    subst (λ (k : ℕ). is_garbage (visited q) k ≡ false) here (subst (λ (p : State). is_garbage p q.place ≡ false) (sym (at-slot q (omega (arith, here, lt)))) (freed q))
-clean-at (suc n) q slot is lt =
-    let next : (visited q).place ≡ q.place + 1 = ap (λ (p : State). p.place) (at-slot q (omega (arith, is, lt))) in
-    clean-at n (visited q) slot (omega (arith, is, next)) (omega (arith, lt, slots-visited q))
+clean-at zero q slot is lt = grind (arith, at-slot, freed)
+clean-at (suc n) q slot is lt = grind (arith, at-slot, clean-at n (visited q) slot, slots-visited)
 
 -- ---- the sweep
 
@@ -105,9 +98,7 @@ over-visited q le = subst IsOver (sym (at-end q le)) (record { swept = refl; pla
 
 over-at : (n : ℕ) (q : State) → q.place + n ≡ q.layout.slots → IsOver (visits (suc n) q)
 over-at zero q is = over-visited q (omega (arith, is))
-over-at (suc n) q is =
-    let next : (visited q).place ≡ q.place + 1 = ap (λ (p : State). p.place) (at-slot q (omega (arith, is))) in
-    over-at n (visited q) (omega (arith, is, next, slots-visited q))
+over-at (suc n) q is = grind (arith, at-slot, over-at n (visited q), slots-visited)
 
 -- ---- a round
 
@@ -188,20 +179,14 @@ settled-visit q settled = grind (arith, cases_lt, clean-visited, slots-visited, 
 
 settled-visits : (n : ℕ) (q : State) → IsSettled q → visits n q ≡ record q { place = (visits n q).place }
 settled-visits zero q settled = refl
-settled-visits (suc n) q settled =
-    let one = settled-visit q settled in
-    settled-visits n (visited q) one.1 ∙ ap (λ (p : State). let r : State = record p { place = (visits n (visited q)).place } in r) one.0
+settled-visits (suc n) q settled = grind (arith, settled-visit, settled-visits n (visited q))
 
 settled-round : (q : State) → IsSettled q → round_of q ≡ q
 settled-round q settled = settled-visits (q.layout.slots + 1) q settled ∙ (λ i. record q { place = back q settled.place i })
 
 round-repeats : (q : State) (rounds more : ℕ) → round_of q ≡ q → visits (rounds * (q.layout.slots + 1) + more) q ≡ visits more q
 round-repeats q zero more same = let e : zero * (q.layout.slots + 1) + more ≡ more = omega arith in ap (λ (k : ℕ). visits k q) e
-round-repeats q (suc rounds) more same =
-    let e : suc rounds * (q.layout.slots + 1) + more ≡ (q.layout.slots + 1) + (rounds * (q.layout.slots + 1) + more) = omega (arith, suc-mul rounds (q.layout.slots + 1)) in
-    visits-split _ (q.layout.slots + 1) (rounds * (q.layout.slots + 1) + more) q e
-    ∙ ap (λ (p : State). visits (rounds * (q.layout.slots + 1) + more) p) same
-    ∙ round-repeats q rounds more same
+round-repeats q (suc rounds) more same = grind (arith, suc-mul, visits-split, round-repeats q rounds more same)
 
 pub rounds-repeat : RoundsRepeat
 rounds-repeat = record { settle = λ q. settled-round (round_of q) (round-settles q); repeat = round-repeats }
@@ -226,9 +211,7 @@ states-follow (suc n) q works = ap (λ (p : State). end p (replicate n Collect))
 
 replies-follow : (n : ℕ) (q : State) → q.failed ≡ false → replies_to q (replicate n Collect) ≡ visits_answer n q
 replies-follow zero q works = refl
-replies-follow (suc n) q works =
-    ap (λ (r : Reply). r ∷ replies_to (state_of q Collect) (replicate n Collect)) (answers q works)
-    ∙ ap (λ (p : State). collected q ∷ replies_to p (replicate n Collect)) (leads q works) ∙ ap (λ (rs : List Reply). collected q ∷ rs) (replies-follow n (visited q) (works-on q works))
+replies-follow (suc n) q works = grind (arith, answers, leads, replies-follow n (visited q) (works-on q works), works-on)
 
 pub visits-follow : VisitsFollow
 visits-follow = record { states = λ q n works. states-follow n q works; replies = λ q n works. replies-follow n q works }

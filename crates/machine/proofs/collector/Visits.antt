@@ -1,5 +1,5 @@
 -- What a visit of the collector changes of a state: what takes a slot, its place, and whether the gaps are swept.
-use Rattle.std.proofs.Common.{◌≡◌, Bool, true, false, cond, refl}
+use Rattle.std.proofs.Common.{◌≡◌, Bool, cond, arith}
 use Rattle.machine.specs.State.{State}
 use Rattle.machine.specs.Collecting.{is_at_slot, slot_visited, sweep_ended, visited}
 
@@ -16,8 +16,7 @@ pub record LeavesAll (q q' : State) : Type 0 where
   pub hand : q'.hand ≡ q.hand
 
 either : (q : State) (b : Bool) → LeavesAll q (cond b (slot_visited q) (sweep_ended q))
-either q true = record { layout = refl; ruling = refl; history = refl; drawn = refl; lost = refl; sessions = refl; next = refl; failed = refl; hand = refl }
-either q false = record { layout = refl; ruling = refl; history = refl; drawn = refl; lost = refl; sessions = refl; next = refl; failed = refl; hand = refl }
+either q a = grind (arith)
 
 pub visit-changes : (q : State) → LeavesAll q (visited q)
 visit-changes q = either q (is_at_slot q)

@@ -1,5 +1,5 @@
 -- How many ticks a cycle takes.
-use Rattle.std.proofs.Common.{◌≡◌, ℕ, suc, ◌+◌, ◌<◌, Bool, true, false, cond, List, [], ◌∷◌, ◌++◌, length, map, replicate, refl, sym, ◌∙◌, ap, subst, append-nil, append_assoc, arith}
+use Rattle.std.proofs.Common.{◌≡◌, ℕ, suc, ◌+◌, Bool, true, false, cond, List, [], ◌∷◌, ◌++◌, length, map, replicate, refl, sym, ◌∙◌, ap, append-nil, append_assoc, arith}
 use Rattle.std.specs.Prelude.{Option, Some, None, slice_get, is_none, IsTrue, not}
 use Rattle.std.specs.List.{range_with_len}
 use Rattle.std.proofs.Math.ListN.{length-append}
@@ -37,9 +37,7 @@ tick-state q hand k o works e =
     ap (state_on (at q hand k) CommitTick) (not-refused q hand k works) ∙ ap (state_ticked_on (at q hand k) (record { commits = hand.commits; target = hand.target; ticks = k })) e
 
 seam : (done : List Stage) (stage : Stage) (rest : List Stage) → slice_get (done ++ stage ∷ rest) (length done) ≡ Some stage
-seam done stage rest =
-    let within : length done < length (done ++ stage ∷ rest) = omega (arith, length-append done (stage ∷ rest)) in
-    slice_get-get_or (done ++ stage ∷ rest) (length done) stage within ∙ ap (λ (s : Stage). Some s) (get_or-append_seam done stage rest stage)
+seam done stage rest = grind (arith, length-append done (stage ∷ rest), slice_get-get_or, get_or-append_seam done stage rest stage)
 
 -- the ticks of these stages, and the one that covers
 abbrev IsRest : State → Hand → ℕ → List Stage → Type 0
@@ -49,18 +47,7 @@ IsRest q hand k rest =
 
 rest-of : (q : State) (hand : Hand) (done rest : List Stage) → q.failed ≡ false → stages (lines_of q hand.commits) ≡ done ++ rest → IsRest q hand (length done) rest
 rest-of q hand done [] works e = grind (arith, append-nil, slice_get_past, tick-reply, tick-state)
-rest-of q hand done (stage ∷ rest) works e =
-    let here : slice_get (stages (lines_of q hand.commits)) (length done) ≡ Some stage =
-    ap (λ (l : List Stage). slice_get l (length done)) e ∙ seam done stage rest in
-    let on : IsRest q hand (length (done ++ stage ∷ [])) rest = rest-of q hand (done ++ stage ∷ []) rest works (e ∙ sym (append_assoc done (stage ∷ []) rest)) in
-    let count : length (done ++ stage ∷ []) ≡ length done + 1 = length-append done (stage ∷ []) in
-    let next : IsRest q hand (length done + 1) rest = subst (λ (k : ℕ). IsRest q hand k rest) count on in
-    let ticks : List Step = replicate (suc (length rest)) CommitTick in
-    let moved = tick-state q hand (length done) (Some stage) works here in (
-      ap (λ (r : Reply). r ∷ replies (state_of (at q hand (length done)) CommitTick) ticks) (tick-reply q hand (length done) (Some stage) works here)
-          ∙ ap (λ (p : State). Ticked stage ∷ replies p ticks) moved ∙ ap (λ (rs : List Reply). Ticked stage ∷ rs) next.0,
-      ap (λ (p : State). end p ticks) moved ∙ next.1,
-    )
+rest-of q hand done (stage ∷ rest) works e = grind (arith, seam done stage rest, rest-of q hand (done ++ stage ∷ []) rest works (e ∙ sym (append_assoc done (stage ∷ []) rest)), length-append done (stage ∷ []), tick-state, tick-reply)
 
 -- the first tick chooses
 first-reply : (q : State) → q.hand ≡ None → is_idle q ≡ false → refusal q CommitTick ≡ None → reply_of q CommitTick ≡ Ticked Chosen

@@ -1,5 +1,5 @@
 -- What a tick that covers a batch does.
-use Rattle.std.proofs.Common.{◌≡◌, Bool, true, false, ◌++◌, refl, sym, subst, cond}
+use Rattle.std.proofs.Common.{◌≡◌, Bool, ◌++◌, refl, sym, subst, cond, arith}
 use Rattle.std.specs.Prelude.{Option, Some, None}
 use Rattle.base.specs.declared.step.Step.TheVariants.{Commit as CommitTick}
 use Rattle.base.specs.declared.step.Stage.{Stage}
@@ -22,12 +22,10 @@ kept-hand : (q : State) (hand : Hand) → IsKept q (batch_of q hand) (state_cove
 kept-hand q hand = record { history = refl; from = refl; stamp = refl; persisted = refl; longs = refl }
 
 kept-on : (q : State) (batch : Batch) (hand : Hand) (o : Option Stage) → Covered batch ≡ ticked_on q hand o → IsKept q batch (state_ticked_on q hand o)
-kept-on q batch hand (Some stage) e = cc
-kept-on q batch hand None e = subst (λ (b : Batch). IsKept q b (state_covered q hand)) (sym (same_batch batch (batch_of q hand) e)) (kept-hand q hand)
+kept-on q batch hand a e = grind (arith, same_batch, kept-hand)
 
 not_idle : (batch : Batch) (b : Bool) → Covered batch ≡ cond b Idle (Ticked Chosen) → ⊥
-not_idle batch true e = cc
-not_idle batch false e = cc
+not_idle batch a e = grind (arith)
 
 kept-ticked : (q : State) (batch : Batch) (o : Option Hand) → Covered batch ≡ ticked q o → IsKept q batch (state_ticked q o)
 kept-ticked q batch None e = absurd (not_idle batch (is_idle q) e)

@@ -43,20 +43,14 @@ stop-stands : (q : State) (covers : List Cover) (lost : List ℕ) (after : World
 stop-stands q covers lost after s = grind arith
 
 end-stands : (q : State) (closes : Bool) (closed : Option (Result Numbers Fault)) (lost : List ℕ) (after : World) → EndsAs q closes closed lost after → IsWorld after
-end-stands q closes None lost after (c, s) = stop-stands q _ lost after s
-end-stands q closes (Some (Err fault)) lost after (c, works, inl (f, s)) = stop-stands q _ lost after s
-end-stands q closes (Some (Err fault)) lost after (c, works, inr (f, d, s)) = stop-stands q _ lost after s
-end-stands q closes (Some (Ok numbers)) lost after (c, works, f, n, s) = stop-stands q _ lost after s
+end-stands q closes a lost after b = grind (arith, stop-stands)
 
 stopped-stands : (before after : World) → StopsOpening before after → IsWorld after
 stopped-stands before after s = grind arith
 
 pub life-stands : (before : World) (asked : Asked) (opening : Opening) (replies : List Reply) (closed : Option (Result Numbers Fault)) (after : World)
     → IsWorld before → LifeAs before asked opening replies closed after → IsWorld after
-life-stands before asked (Fails fault) replies closed after w (inl f, r, n) = subst IsWorld (sym f.1) w
-life-stands before asked (Fails fault) replies closed after w (inr (inl f), r, n) = subst IsWorld (sym f.2) w
-life-stands before asked (Fails fault) replies closed after w (inr (inr f), r, n) = stopped-stands before after f.1
-life-stands before asked (Opens numbers next gaps rows) replies closed after w l = end-stands _ asked.closes closed before.lost after l.9
+life-stands before asked a replies closed after w l = grind (arith, stopped-stands, end-stands)
 
 pub lives-stand : (before : World) (asked : List Asked) (reports : List Report) (after : World) → IsWorld before → Lives before asked reports after → IsWorld after
 lives-stand before [] [] after w e = subst IsWorld (sym e) w

@@ -60,8 +60,7 @@ chosen-within from q f =
     All-map (Within from q.next) (λ d. d.commit) (filter test q.drawn) (All-filter test (λ d. Within from q.next d.commit) q.drawn f.drawn)
 
 fresh-idle : (from : ℕ) (q : State) (b : Bool) → Fresh from q → Fresh from (cond b q (record q { hand = Some (taken_in_hand q) }))
-fresh-idle from q true f = f
-fresh-idle from q false f = record { le = f.le; drawn = f.drawn; hand = chosen-within from q f }
+fresh-idle from q a f = grind (arith, chosen-within from q f)
 
 -- a step adds to the history what was drawn in this life
 abbrev Grows : ℕ → State → State → Type 0
@@ -171,8 +170,7 @@ abbrev Adds : ℕ → State → Cover → Type 0
 Adds from q cover = (more : List Commit) × (cover.commits ≡ q.history ++ more) × All (Within from q.next) more
 
 adds-hand : (from : ℕ) (q : State) (o : Option Hand) → All (Within from q.next) (option_map_or (λ hand. hand.commits) o []) → All (Adds from q) (of_hand q o)
-adds-hand from q None all = All-nil (Adds from q)
-adds-hand from q (Some hand) all = All-cons (Adds from q) _ [] (hand.commits, refl, all) (All-nil (Adds from q))
+adds-hand from q a all = grind (arith)
 
 adds-at : (from : ℕ) (q : State) → Fresh from q → All (Adds from q) (covers_at q)
 adds-at from q f = All-cons (Adds from q) (present q) (of_hand q q.hand) ([], sym (append-nil q.history), All-nil (Within from q.next)) (adds-hand from q q.hand f.hand)
@@ -211,11 +209,7 @@ end-stopped from q closes (Some (Ok numbers)) lost after f (c, works, g, n, s) =
 
 none-append : (xs ys : List Commit) (t : ℕ) → has_timestamp xs t ≡ false → has_timestamp ys t ≡ false → has_timestamp (xs ++ ys) t ≡ false
 none-append [] ys t a b = b
-none-append (x ∷ xs) ys t a b = both (nat_eq x.timestamp t) (has_timestamp xs t) (has_timestamp (xs ++ ys) t) a (λ e. none-append xs ys t e b)
-  where
-    both : (p r s : Bool) → p || r ≡ false → (r ≡ false → s ≡ false) → p || s ≡ false
-    both true r s e rest = cc
-    both false r s e rest = rest e
+none-append (x ∷ xs) ys t a b = grind (arith, none-append xs ys t)
 
 -- what was drawn from a timestamp on isn't below it
 none-within : (from to t : ℕ) (commits : List Commit) → t < from → All (Within from to) commits → has_timestamp commits t ≡ false

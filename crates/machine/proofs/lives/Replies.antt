@@ -15,7 +15,7 @@ use Rattle.base.specs.declared.step.Reply.TheVariants.{Rows, Done, Drawn as Drew
 use Rattle.base.specs.Commits.{Commit, Writes}
 use Rattle.base.specs.Stands.{has_timestamp}
 use Rattle.base.specs.Lists.{is_nil}
-use Rattle.machine.specs.Machine.{State, Session, Active, Drew, WroteNothing, Drawn, Hand, Stepped, refused, answered, memory_refused, device_failed, Answers, Run, final, next_state, state_ticked, state_ticked_on, state_drawn, state_covered, next_stage, is_idle, is_last_stamp, is_chosen, writes_of, timestamp_of, polled, ticked, ticked_on, chosen, taken_in_hand, batch_of, drawn_of, in_hand, uncovered, Cover, present, of_hand, covers_at, covers_closing, closed}
+use Rattle.machine.specs.Machine.{State, Session, Drawn, Hand, Stepped, refused, answered, memory_refused, device_failed, Answers, Run, final, next_state, state_ticked, state_ticked_on, state_drawn, state_covered, next_stage, is_idle, is_last_stamp, is_chosen, writes_of, timestamp_of, polled, ticked, ticked_on, chosen, taken_in_hand, batch_of, drawn_of, in_hand, uncovered, Cover, present, of_hand, covers_at, covers_closing, closed}
 use Rattle.machine.specs.Lives.{World, IsWorld, Opening, Opens, Fails, Numbers, Asked, Report, StopsAt, EndsAs, LifeAs, Lives, RunsUp}
 use Rattle.machine.specs.Openings.{OpensAs}
 use Rattle.machine.specs.Laws.{drawn_by, drawn_in, covered_by, covered_in, acknowledged_by, acknowledged_in, has_closed, AddsDrawn, LifeAdds, LivesAdd}
@@ -35,8 +35,7 @@ has-right (x ∷ xs) ys t e = grind (arith, has-right xs ys t e)
 -- a commit of two lists is in one of them
 has-if : (a : Bool) (xs ys : List Commit) (t : ℕ) → (has_timestamp (xs ++ ys) t ≡ true → (has_timestamp xs t ≡ true) ⊎ (has_timestamp ys t ≡ true)) → a || has_timestamp (xs ++ ys) t ≡ true
     → (a || has_timestamp xs t ≡ true) ⊎ (has_timestamp ys t ≡ true)
-has-if true xs ys t rest e = inl refl
-has-if false xs ys t rest e = rest e
+has-if a xs ys t rest e = grind (arith)
 
 has-cases : (xs ys : List Commit) (t : ℕ) → has_timestamp (xs ++ ys) t ≡ true → (has_timestamp xs t ≡ true) ⊎ (has_timestamp ys t ≡ true)
 has-cases [] ys t e = inr e
@@ -45,17 +44,14 @@ has-cases (x ∷ xs) ys t e = has-if (nat_eq x.timestamp t) xs ys t (has-cases x
 -- a commit is in the batch, or among those that are left: of a list, by its first
 module _ (batch : List Commit) (x : Commit) (rest : List Commit) (t : ℕ) where
   part-later : has_timestamp (batch ++ rest) t ≡ true → (b : Bool) → has_timestamp (batch ++ cond (not b) (x ∷ rest) rest) t ≡ true
-  part-later h true = h
-  part-later h false = elim (has-cases batch rest t h) [ inl a ↦ any-append batch (x ∷ rest) t a | inr b ↦ has-right batch (x ∷ rest) t (has-right (x ∷ []) rest t b) ]
+  part-later h a = grind (arith, has-cases, any-append, has-right)
 
   part-here : (b : Bool) → has_timestamp batch x.timestamp ≡ b → nat_eq x.timestamp t ≡ true → has_timestamp (batch ++ cond (not b) (x ∷ rest) rest) t ≡ true
-  part-here true in_batch is = any-append batch rest t (subst (λ u. has_timestamp batch u ≡ true) (eqb-true x.timestamp t is) in_batch)
-  part-here false out is = has-right batch (x ∷ rest) t (any-append (x ∷ []) rest t (ap (λ (b : Bool). b || false) is))
+  part-here a in_batch is = grind (arith, any-append, eqb-true, has-right)
 
   part : (xs : List Commit) → (has_timestamp xs t ≡ true → has_timestamp (batch ++ rest) t ≡ true) → (a : Bool) → nat_eq x.timestamp t ≡ a → a || has_timestamp xs t ≡ true
       → has_timestamp (batch ++ cond (not (has_timestamp batch x.timestamp)) (x ∷ rest) rest) t ≡ true
-  part xs more true is e = part-here (has_timestamp batch x.timestamp) refl is
-  part xs more false is e = part-later (more e) (has_timestamp batch x.timestamp)
+  part xs more a is e = grind (arith, part-here, part-later)
 
 has-parts : (batch xs : List Commit) (t : ℕ) → has_timestamp xs t ≡ true → has_timestamp (batch ++ filter (λ c. not (has_timestamp batch c.timestamp)) xs) t ≡ true
 has-parts batch [] t e = cc
@@ -63,8 +59,7 @@ has-parts batch (x ∷ xs) t e = part batch x (filter (λ c. not (has_timestamp 
 
 -- the commits of what is drawn, without those of a batch
 kept-if : (b : Bool) (d : Drawn) (ds : List Drawn) (cs : List Commit) → map (λ (e : Drawn). e.commit) ds ≡ cs → map (λ (e : Drawn). e.commit) (cond b (d ∷ ds) ds) ≡ cond b (d.commit ∷ cs) cs
-kept-if true d ds cs e = ap (λ (l : List Commit). d.commit ∷ l) e
-kept-if false d ds cs e = e
+kept-if a d ds cs e = grind (arith)
 
 kept-drawn : (batch : List Commit) (ds : List Drawn)
     → map (λ (d : Drawn). d.commit) (filter (λ d. not (has_timestamp batch d.commit.timestamp)) ds) ≡ filter (λ c. not (has_timestamp batch c.timestamp)) (map (λ (d : Drawn). d.commit) ds)
@@ -198,14 +193,10 @@ told-ticked before covered ts q None among told = told-idle before covered ts q 
 told-ticked before covered ts q (Some hand) among told = told-on before covered ts q hand (next_stage q hand) among told
 
 quiet-if : (b : Bool) (x y : Reply) → IsQuiet x → IsQuiet y → IsQuiet (if b then x else y)
-quiet-if true x y p r = p
-quiet-if false x y p r = r
+quiet-if a x y p r = grind (arith)
 
 quiet-polled : (q : State) (o : Option Session) → IsQuiet (polled q o)
-quiet-polled q None = (refl, refl)
-quiet-polled q (Some (Active begun writes)) = (refl, refl)
-quiet-polled q (Some (Drew t)) = quiet-if (has_timestamp q.history t) (Committed t) Waiting (refl, refl) (refl, refl)
-quiet-polled q (Some WroteNothing) = (refl, refl)
+quiet-polled q a = grind (arith, quiet-if)
 
 -- a step with this reply, after which the commits are the same
 told-still : (before covered : List Commit) (ts : List ℕ) (q : State) (reply other : Reply) (q' : State) → Reported before covered ts q → reply ≡ other → IsQuiet other → SameCommits q q' → ReportedAfter before covered ts reply q'
@@ -272,9 +263,7 @@ begins-one : (q : State) (hand : Hand) (rest : List Commit) (cover : Cover) → 
 begins-one q hand rest cover e = (hand.commits, rest, refl, e)
 
 begins-hand : (q : State) (rest : List Commit) (o : Option Hand) → All (BeginsAs q (option_map_or (λ (h : Hand). h.commits) o [] ++ rest)) (of_hand q o)
-begins-hand q rest None = All-nil (BeginsAs q rest)
-begins-hand q rest (Some hand) = let cover : Cover = record { ruled_by = hand.target; commits = q.history ++ hand.commits } in
-    All-cons (BeginsAs q (hand.commits ++ rest)) cover [] (begins-one q hand rest cover refl) (All-nil (BeginsAs q (hand.commits ++ rest)))
+begins-hand q rest a = grind (arith, begins-one)
 
 -- the cover holds the history and a beginning of what is uncovered
 abbrev Begins : State → Cover → Type 0
@@ -328,8 +317,7 @@ uncovered-has covered q t h =
 
 ack-if : (history : List Commit) (b : Bool) (x y : Reply) → All (λ t. has_timestamp history t ≡ true) (acknowledged_by x) → All (λ t. has_timestamp history t ≡ true) (acknowledged_by y)
     → All (λ t. has_timestamp history t ≡ true) (acknowledged_by (if b then x else y))
-ack-if history true x y p r = p
-ack-if history false x y p r = r
+ack-if history a x y p r = grind (arith)
 
 -- what the reply acknowledges is in the history
 abbrev Acknowledges : Reply → State → Type 0
@@ -339,14 +327,10 @@ ack-none : (q : State) → All (λ t. has_timestamp q.history t ≡ true) []
 ack-none q = All-nil (λ t. has_timestamp q.history t ≡ true)
 
 ack-drew : (q : State) (u : ℕ) (b : Bool) → has_timestamp q.history u ≡ b → Acknowledges (if b then Committed u else Waiting) q
-ack-drew q u true is = All-cons (λ t. has_timestamp q.history t ≡ true) u [] is (ack-none q)
-ack-drew q u false is = ack-none q
+ack-drew q u a is = grind (arith, ack-none)
 
 ack-polled : (q : State) (o : Option Session) → Acknowledges (polled q o) q
-ack-polled q None = ack-none q
-ack-polled q (Some (Active begun writes)) = ack-none q
-ack-polled q (Some (Drew u)) = ack-drew q u (has_timestamp q.history u) refl
-ack-polled q (Some WroteNothing) = ack-none q
+ack-polled q a = grind (arith, ack-none, ack-drew)
 
 has-each : (before commits : List Commit) → All (λ t. has_timestamp (before ++ commits) t ≡ true) (map (λ (c : Commit). c.timestamp) commits)
 has-each before [] = All-nil (λ t. has_timestamp (before ++ []) t ≡ true)
@@ -362,35 +346,19 @@ ack-on q hand None = has-each q.history hand.commits
 ack-on q hand (Some stage) = ack-none q
 
 ack-idle : (q : State) (b : Bool) → Acknowledges (cond b Idle (Ticked Chosen)) (cond b q (record q { hand = Some (taken_in_hand q) }))
-ack-idle q true = ack-none q
-ack-idle q false = ack-none q
+ack-idle q a = grind (arith, ack-none)
 
 ack-ticked : (q : State) (o : Option Hand) → Acknowledges (ticked q o) (state_ticked q o)
-ack-ticked q None = ack-idle q (is_idle q)
-ack-ticked q (Some hand) = ack-on q hand (next_stage q hand)
+ack-ticked q a = grind (arith, ack-idle, ack-on)
 
 ack-along : (reply other : Reply) (q : State) → reply ≡ other → Acknowledges other q → Acknowledges reply q
 ack-along reply other q e a = subst (λ (r : Reply). Acknowledges r q) (sym e) a
 
 ack-next : (q : State) (step : Step) (reply : Reply) → Answers q step reply → Acknowledges reply (next_state q step)
-ack-next q Begin reply a = ack-along reply _ (next_state q Begin) a (ack-none q)
-ack-next q (Get n key) reply a = ack-along reply _ q a (ack-none q)
-ack-next q (Scan n table lo hi) reply a = ack-along reply (Rows a.0) q a.1 (ack-none q)
-ack-next q (Put n key row) reply a = ack-along reply _ (next_state q (Put n key row)) a (ack-none q)
-ack-next q (Delete n key) reply a = ack-along reply _ (next_state q (Delete n key)) a (ack-none q)
-ack-next q (Draw n) reply a = ack-along reply _ (next_state q (Draw n)) a (ack-if (next_state q (Draw n)).history (is_nil (writes_of (q.sessions n))) Done (DrewAs q.next) (ack-none (next_state q (Draw n))) (ack-none (next_state q (Draw n))))
-ack-next q (Stamp n) reply a = ack-along reply _ (next_state q (Stamp n)) a (ack-if q.history (is_last_stamp q n) Stamped More (ack-none q) (ack-none q))
-ack-next q (Poll n) reply a = ack-along reply _ q a (ack-polled q (q.sessions n))
-ack-next q (Abort n) reply a = ack-along reply _ (next_state q (Abort n)) a (ack-none q)
-ack-next q (End n) reply a = ack-along reply _ (next_state q (End n)) a (ack-none q)
-ack-next q CommitTick reply a = ack-along reply _ (next_state q CommitTick) a (ack-ticked q q.hand)
-ack-next q Collect reply a = ack-along reply _ (visited q) a (ack-if (visited q).history (is_at_slot q) (Visited q.place) SweepEnd (ack-none (visited q)) (ack-none (visited q)))
+ack-next q b reply a = grind (arith, ack-along, ack-none, ack-if, ack-polled, ack-ticked)
 
 ack-stepped : (q : State) (step : Step) (reply : Reply) (q' : State) → Stepped q step reply q' → Acknowledges reply q'
-ack-stepped q step reply q' (refused fault e r s) = ack-along reply _ q' r (ack-none q')
-ack-stepped q step reply q' (answered e a s) = subst (λ (p : State). Acknowledges reply p) (sym s) (ack-next q step reply a)
-ack-stepped q step reply q' (memory_refused e m r s) = ack-along reply _ q' r (ack-none q')
-ack-stepped q step reply q' (device_failed e m r s) = ack-along reply _ q' r (ack-none q')
+ack-stepped q step reply q' b = grind (arith, ack-along, ack-none, ack-next)
 
 -- a timestamp stays in a history that grows
 stay-all : (history : List Commit) (more : List Commit) (ts : List ℕ) → All (λ t. has_timestamp history t ≡ true) ts → All (λ t. has_timestamp (history ++ more) t ≡ true) ts

@@ -1,5 +1,5 @@
 -- What the record that an opening writes commits, with and without a sweep.
-use Rattle.std.proofs.Common.{◌≡◌, inl, inr, ℕ, ◌+◌, ◌-◌, ◌^◌, ◌<◌, ◌≤◌, Bool, true, false, cond, not, ◌&&◌, ◌||◌, List, [], ◌∷◌, length, refl, sym, subst, arith, nat_eq, nat_lt, nat_le}
+use Rattle.std.proofs.Common.{◌≡◌, ℕ, ◌+◌, ◌-◌, ◌^◌, ◌<◌, ◌≤◌, Bool, true, false, cond, not, ◌&&◌, ◌||◌, List, [], ◌∷◌, length, refl, arith, nat_eq, nat_lt, nat_le}
 use Rattle.std.specs.List.{list_any, list_all}
 use Rattle.std.proofs.lemmas.Bool.{and_parts, and_from, or_cases, or_left, or_right, leb-true, ltb-true, ltb-false, le-leb, eqb-true, false≢true}
 use Rattle.std.proofs.lemmas.Bool.Decides.{nat_tests}
@@ -10,14 +10,7 @@ use Rattle.machine.specs.Openings.{IsOpenedGaps, opening_record, gaps_kept}
 use Rattle.base.proofs.WellFormed.{WellFormed, are_up_to, well_formed-parts, well_formed-from}
 
 uncovered : (p q y z : Bool) → (y || z) ≡ true → (p && not true && not false) ≡ (q && not y && not z)
-uncovered true true true z e = refl
-uncovered true true false true e = refl
-uncovered true false y z e = refl
-uncovered false true true z e = refl
-uncovered false true false true e = refl
-uncovered false false y z e = refl
-uncovered true true false false e = absurd (cc e)
-uncovered false true false false e = absurd (cc e)
+uncovered a b y z e = grind (arith)
 
 -- below the old dirty timestamp both records commit the same
 pub same-committed : (a : Layout) (r : Record) (gaps : List Gap) (t : ℕ) → IsOpenedGaps r gaps → t < r.dirty → is_committed (opening_record a r gaps) t ≡ is_committed r t
@@ -43,48 +36,16 @@ IsUpTo bound t = (1 ≤ t) × (t ≤ bound)
 
 in-up_to : (bound t : ℕ) (gaps : List Gap) → are_up_to bound gaps ≡ true → is_in gaps t ≡ true → IsUpTo bound t
 in-up_to bound t [] all there = absurd (false≢true there)
-in-up_to bound t (gap ∷ gaps) all there =
-    let both = and_parts (nat_le 1 gap.first && nat_le gap.first gap.last && nat_le gap.last bound) (are_up_to bound gaps) all in
-    elim (or_cases (nat_le gap.first t && nat_le t gap.last) (is_in gaps t) there) [
-      | inl here ↦ between here both.0
-      | inr later ↦ in-up_to bound t gaps both.1 later
-    ]
-  where
-    between : nat_le gap.first t && nat_le t gap.last ≡ true → nat_le 1 gap.first && nat_le gap.first gap.last && nat_le gap.last bound ≡ true → IsUpTo bound t
-    between here fits =
-        let h = and_parts (nat_le gap.first t) (nat_le t gap.last) here in
-        let f = and_parts (nat_le 1 gap.first && nat_le gap.first gap.last) (nat_le gap.last bound) fits in
-        let from = leb-true gap.first t h.0 in
-        let to = leb-true t gap.last h.1 in
-        let one = leb-true 1 gap.first (and_parts (nat_le 1 gap.first) (nat_le gap.first gap.last) f.0).0 in
-        let last = leb-true gap.last bound f.1 in
-        (omega (arith, from, one), omega (arith, to, last))
+in-up_to bound t (gap ∷ gaps) all there = grind (arith, and_parts, are_up_to, or_cases, in-up_to bound t gaps, leb-true)
 
 long-up_to : (bound t : ℕ) (gaps : List Gap) (longs : List ℕ) → list_all (λ t. nat_le 1 t && nat_le t bound && not (is_in gaps t)) longs ≡ true
     → list_any (nat_eq t) longs ≡ true → IsUpTo bound t
 long-up_to bound t gaps [] all there = absurd (false≢true there)
-long-up_to bound t gaps (long ∷ longs) all there =
-    let both = and_parts (nat_le 1 long && nat_le long bound && not (is_in gaps long)) (list_all (λ t. nat_le 1 t && nat_le t bound && not (is_in gaps t)) longs) all in
-    elim (or_cases (nat_eq t long) (list_any (nat_eq t) longs) there) [
-      | inl here ↦
-          let parts = and_parts (nat_le 1 long) (nat_le long bound) (and_parts (nat_le 1 long && nat_le long bound) (not (is_in gaps long)) both.0).0 in
-          subst (IsUpTo bound) (sym (eqb-true t long here)) (leb-true 1 long parts.0, leb-true long bound parts.1)
-      | inr later ↦ long-up_to bound t gaps longs both.1 later
-    ]
+long-up_to bound t gaps (long ∷ longs) all there = grind (arith, and_parts, or_cases, eqb-true, leb-true, long-up_to bound t gaps longs)
 
 up_to-in : (bound : ℕ) (gaps : List Gap) → list_all (λ gap. nat_le gap.first gap.last) gaps ≡ true → ((t : ℕ) → is_in gaps t ≡ true → IsUpTo bound t) → are_up_to bound gaps ≡ true
 up_to-in bound [] ordered each = refl
-up_to-in bound (gap ∷ gaps) ordered each =
-    let both = and_parts (nat_le gap.first gap.last) (list_all (λ gap. nat_le gap.first gap.last) gaps) ordered in
-    let order = leb-true gap.first gap.last both.0 in
-    let first = each gap.first (or_left (nat_le gap.first gap.first && nat_le gap.first gap.last) (is_in gaps gap.first)
-    (and_from (nat_le gap.first gap.first) (nat_le gap.first gap.last) (le-leb gap.first gap.first (omega arith)) both.0)) in
-    let last = each gap.last (or_left (nat_le gap.first gap.last && nat_le gap.last gap.last) (is_in gaps gap.last)
-    (and_from (nat_le gap.first gap.last) (nat_le gap.last gap.last) both.0 (le-leb gap.last gap.last (omega arith)))) in
-    and_from (nat_le 1 gap.first && nat_le gap.first gap.last && nat_le gap.last bound) (are_up_to bound gaps)
-    (and_from (nat_le 1 gap.first && nat_le gap.first gap.last) (nat_le gap.last bound)
-    (and_from (nat_le 1 gap.first) (nat_le gap.first gap.last) (le-leb 1 gap.first first.0) both.0) (le-leb gap.last bound last.1))
-    (up_to-in bound gaps both.1 (λ t there. each t (or_right (nat_le gap.first t && nat_le t gap.last) (is_in gaps t) there)))
+up_to-in bound (gap ∷ gaps) ordered each = grind (arith, and_parts, leb-true, or_left, and_from, le-leb, are_up_to, up_to-in bound gaps, or_right)
 
 -- the gaps lie below the old dirty timestamp
 gaps-below : (version : ℕ) (r : Record) (gaps : List Gap) → WellFormed version r → IsOpenedGaps r gaps → are_up_to (r.dirty - 1) gaps ≡ true
@@ -92,19 +53,7 @@ gaps-below version r gaps formed opened = grind (arith, up_to-in, or_cases, in-u
 
 pub formed-over : (version : ℕ) (a : Layout) (r : Record) (gaps : List Gap) → is_well_formed version r ≡ true → IsOpenedGaps r gaps → length gaps ≤ 8 → 0 < a.window → r.dirty + a.window < 2 ^ 62
     → is_well_formed version (opening_record a r gaps) ≡ true
-formed-over version a r gaps well opened few some room =
-    let formed = well_formed-parts version r well in
-    let less = formed.below in
-    well_formed-from version (opening_record a r gaps) (record {
-      below = omega (arith, less, some);
-      limit = room;
-      few = few;
-      fewer = omega arith;
-      each = gaps-below version r gaps formed opened;
-      apart = opened.apart;
-      within = refl;
-      rising = refl;
-    })
+formed-over version a r gaps well opened few some room = grind (arith, well_formed-parts version r well, well_formed-from, gaps-below version r gaps (well_formed-parts version r well), nat_tests)
 
 -- with the gaps kept or swept, the record is well formed
 pub formed-kept : (version : ℕ) (a : Layout) (r : Record) (gaps : List Gap) → is_well_formed version r ≡ true → IsOpenedGaps r gaps → 0 < a.window → r.dirty + a.window < 2 ^ 62

@@ -35,10 +35,7 @@ pub swept-layout : (image : Image) → layout_of (swept image) ≡ layout_of ima
 swept-layout image = grind (arith, swept-unmarked, unmarked-low)
 
 pub swept-slot : (image : Image) (slot w : ℕ) → w < slot_words (layout_of image).version → slot_word (swept image) slot w ≡ cond (nat_lt w 2 && lies_in_gap image w slot) 0 (slot_word image slot w)
-swept-slot image slot w inside =
-    ap (λ (l : Layout). get_or (swept image) (slot_start l slot + w) 0) (swept-layout image)
-    ∙ swept-at image (slot_start (layout_of image) slot + w)
-    ∙ ap (λ (b : Bool). cond (b && is_in (opened_gaps (ruling image)) (slot_word image slot w)) 0 (slot_word image slot w)) (mark-of (layout_of image) slot w inside)
+swept-slot image slot w inside = grind (arith, swept-layout image, swept-at image (slot_start (layout_of image) slot + w), mark-of (layout_of image) slot w inside)
 
 -- ---- the image
 

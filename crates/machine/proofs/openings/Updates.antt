@@ -1,6 +1,6 @@
 -- An image of the first version opens as one of the second, which has the same words but for the version.
 use Rattle.std.proofs.Common.{◌≡◌, ◌≢◌, ◌⊎◌, inl, inr, ℕ, zero, suc, ◌+◌, ◌*◌, ◌%◌, ◌^◌, ◌≤◌, max, Bool, true, cond, not, ◌&&◌, ◌||◌, nat_eq, nat_le, nat_lt, List, [], ◌∷◌, length, map, fold, refl, sym, ◌∙◌, ap, subst, arith}
-use Rattle.std.specs.Prelude.{◌/◌, Some, None, is_some, slice_index, slice_range, drop, take, flat_map}
+use Rattle.std.specs.Prelude.{◌/◌, Some, None, is_some, slice_index, slice_range, take, flat_map}
 use Rattle.std.specs.List.{list_all, range_with_len}
 use Rattle.std.specs.Option.{option_map}
 use Rattle.std.specs.Int.{to_le_bytes, w64}
@@ -40,14 +40,10 @@ module _ (first : ℕ) (words : List ℕ) where
   new = first ∷ 2 ∷ words
 
   word-same : (k : ℕ) → 2 ≤ k → slice_index new k ≡ slice_index old k
-  word-same zero far = absurd (omega (arith, far))
-  word-same (suc zero) far = absurd (omega (arith, far))
-  word-same (suc (suc k)) far = refl
+  word-same a far = grind (arith)
 
   other-same : (k : ℕ) → k ≢ 1 → slice_index new k ≡ slice_index old k
-  other-same zero other = refl
-  other-same (suc zero) other = absurd (other refl)
-  other-same (suc (suc k)) other = refl
+  other-same a other = grind (arith)
 
   range-same : (from to : ℕ) → 2 ≤ from → slice_range new from to ≡ slice_range old from to
   range-same zero to far = absurd (omega (arith, far))
@@ -96,9 +92,7 @@ module _ (first : ℕ) (words : List ℕ) where
   row-same slot = λ i. take (len-same slot i) (bytes-same slot i)
 
   misfit-same : (slot : ℕ) → is_misfit new slot ≡ is_misfit old slot
-  misfit-same slot = λ i.
-      nat_lt 32 (len-same slot i) || not (nat_eq (slot-same slot 3 i / 2 ^ 24 % 2 ^ 8) 0) || not (list_all (nat_eq 0) (drop (len-same slot i) (bytes-same slot i)))
-      || nat_lt (layout_of old).slots (slot-same slot 3 i / 2 ^ 32)
+  misfit-same slot = grind (arith, len-same, slot-same, bytes-same)
 
   second-same : (r : Record) (slot : ℕ) → is_second r new slot ≡ is_second r old slot
   second-same r slot = λ i. is_some (first_below slot (λ lower. shown-same r lower i && key_eq (key-same lower i) (key-same slot i)))

@@ -25,19 +25,11 @@ module _ {X : Type 0} where
   -- so a key up to it isn't there
   absent : (key : Key) (pairs : List (Key × X)) → above key pairs ≡ true → lookup_key pairs key ≡ None
   absent key [] all = refl
-  absent key (pair ∷ pairs) all =
-      let both = and_parts (key_lt key pair.0) (list_all (λ (p : Key × X). key_lt key p.0) pairs) all in
-      let apart : key_eq pair.0 key ≡ false = higher key pair.0 both.0 in
-      ap (λ (b : Bool). cond b (Some pair.1) (lookup_key pairs key)) apart ∙ absent key pairs both.1
-    where
-      higher : (a b : Key) → key_lt a b ≡ true → key_eq b a ≡ false
-      higher a b less = grind (arith, nat_tests)
+  absent key (pair ∷ pairs) all = grind (arith, and_parts, absent key pairs, nat_tests)
 
   above-lower : (low key : Key) (pairs : List (Key × X)) → key_lt low key ≡ true → above key pairs ≡ true → above low pairs ≡ true
   above-lower low key [] less all = refl
-  above-lower low key (pair ∷ pairs) less all =
-      let both = and_parts (key_lt key pair.0) (list_all (λ (p : Key × X). key_lt key p.0) pairs) all in
-      and_from _ _ (key_lt-trans low key pair.0 less both.0) (above-lower low key pairs less both.1)
+  above-lower low key (pair ∷ pairs) less all = grind (arith, and_parts, and_from, key_lt-trans, above-lower low key pairs less)
 
   abbrev rising : List (Key × X) → Bool
   rising pairs = is_rising (keys pairs)
@@ -48,9 +40,7 @@ module _ {X : Type 0} where
 
   rising-above : (pair : Key × X) (pairs : List (Key × X)) → rising (pair ∷ pairs) ≡ true → above pair.0 pairs ≡ true
   rising-above pair [] r = refl
-  rising-above pair (next ∷ pairs) r =
-      let both = and_parts (key_lt pair.0 next.0) (is_rising (map (λ (p : Key × X). p.0) (next ∷ pairs))) r in
-      and_from _ _ both.0 (above-lower pair.0 next.0 pairs both.0 (rising-above next pairs both.1))
+  rising-above pair (next ∷ pairs) r = grind (arith, and_parts, and_from, above-lower, rising-above next pairs)
 
   rising-with : (pair : Key × X) (pairs : List (Key × X)) → above pair.0 pairs ≡ true → rising pairs ≡ true → rising (pair ∷ pairs) ≡ true
   rising-with pair [] all r = refl
@@ -99,16 +89,7 @@ module _ {X : Type 0} where
 
   filter-above : (test : Key → Bool) (low : Key) (pairs : List (Key × X)) → above low pairs ≡ true → above low (filter (λ pair. test pair.0) pairs) ≡ true
   filter-above test low [] all = refl
-  filter-above test low (pair ∷ pairs) all =
-      let both = and_parts (key_lt low pair.0) (list_all (λ (p : Key × X). key_lt low p.0) pairs) all in
-      by (test pair.0) both.0 (filter-above test low pairs both.1)
-    where
-      rest : List (Key × X)
-      rest = filter (λ pair. test pair.0) pairs
-
-      by : (t : Bool) → key_lt low pair.0 ≡ true → above low rest ≡ true → above low (cond t (pair ∷ rest) rest) ≡ true
-      by true here more = and_from _ _ here more
-      by false here more = more
+  filter-above test low (pair ∷ pairs) all = grind (arith, and_parts, filter-above test low pairs, and_from)
 
   filter-rising : (test : Key → Bool) (pairs : List (Key × X)) → rising pairs ≡ true → rising (filter (λ pair. test pair.0) pairs) ≡ true
   filter-rising test [] r = r
@@ -126,31 +107,11 @@ with-lookup key value (write ∷ writes) other = grind (arith, with-lookup key v
 
 with-above : (low key : Key) (value : Option (List ℕ)) (writes : Writes) → key_lt low key ≡ true → above low writes ≡ true → above low (with_write key value writes) ≡ true
 with-above low key value [] less all = and_from _ _ less refl
-with-above low key value (write ∷ writes) less all =
-    let both = and_parts (key_lt low write.0) (list_all (λ (p : Write). key_lt low p.0) writes) all in
-    by (key_eq key write.0) (key_lt key write.0) both.0 both.1 (with-above low key value writes less both.1)
-  where
-    by : (e l : Bool) → key_lt low write.0 ≡ true → above low writes ≡ true → above low (with_write key value writes) ≡ true
-        → above low (cond e ((key, value) ∷ writes) (cond l ((key, value) ∷ write ∷ writes) (write ∷ with_write key value writes))) ≡ true
-    by true l here rest more = and_from _ _ less rest
-    by false true here rest more = and_from _ _ less (and_from _ _ here rest)
-    by false false here rest more = and_from _ _ here more
+with-above low key value (write ∷ writes) less all = grind (arith, and_parts, with-above low key value writes less, and_from)
 
 with-rising : (key : Key) (value : Option (List ℕ)) (writes : Writes) → rising writes ≡ true → rising (with_write key value writes) ≡ true
 with-rising key value [] r = grind (arith, rising-with)
-with-rising key value (write ∷ writes) r =
-    by (key_eq key write.0) refl (key_lt key write.0) refl (rising-above write writes r) (rising-rest write writes r) (with-rising key value writes (rising-rest write writes r))
-  where
-    whole : key_lt key write.0 ≡ true → above write.0 writes ≡ true → above key (write ∷ writes) ≡ true
-    whole less low = and_from _ _ less (above-lower key write.0 writes less low)
-
-    by : (e : Bool) → key_eq key write.0 ≡ e → (l : Bool) → key_lt key write.0 ≡ l → above write.0 writes ≡ true → rising writes ≡ true → rising (with_write key value writes) ≡ true
-        → rising (cond e ((key, value) ∷ writes) (cond l ((key, value) ∷ write ∷ writes) (write ∷ with_write key value writes))) ≡ true
-    by true is l less low rest more =
-        rising-with (key, value) writes (subst (λ (k : Key). above k writes ≡ true) (sym (key_eq-true key write.0 is)) low) rest
-    by false is true less low rest more = rising-with (key, value) (write ∷ writes) (whole less low) (rising-with write writes low rest)
-    by false is false less low rest more =
-        rising-with write (with_write key value writes) (with-above write.0 key value writes (key_lt-swap key write.0 is less) low) more
+with-rising key value (write ∷ writes) r = grind (arith, rising-above, rising-rest, with-rising key value writes (rising-rest write writes r), and_from, above-lower, rising-with, key_eq-true, with-above, key_lt-swap, nat_tests)
 
 merged-rising : (writes under : Writes) → rising under ≡ true → rising (merged writes under) ≡ true
 merged-rising [] under r = r
@@ -170,36 +131,17 @@ merged-tables (write ∷ writes) under key = grind (arith, merged-tables writes 
 
 written-tables : (under : Writes) (commits : List Commit) (key : Key) → tables_in (written under commits) key ≡ laid (tables_in under) commits key
 written-tables under [] key = refl
-written-tables under (commit ∷ commits) key =
-    let same : tables_in (merged commit.writes under) ≡ overlaid commit.writes (tables_in under) = λ i k. merged-tables commit.writes under k i in
-    written-tables (merged commit.writes under) commits key ∙ ap (λ (t : Tables). laid t commits key) same
+written-tables under (commit ∷ commits) key = grind (arith, merged-tables, written-tables (merged commit.writes under) commits key)
 
 -- ---- the rows among writes
 
 rows-lookup : (writes : Writes) (key : Key) → rising writes ≡ true → lookup_key (rows_among writes) key ≡ tables_in writes key
 rows-lookup [] key r = refl
-rows-lookup (write ∷ writes) key r = by write.1 (key_eq write.0 key) refl (rows-lookup writes key (rising-rest write writes r))
-  where
-    gone : key_eq write.0 key ≡ true → lookup_key (rows_among writes) key ≡ tables_in writes key → lookup_key (rows_among writes) key ≡ None
-    gone is more =
-        let nothing : lookup_key writes key ≡ None = subst (λ (k : Key). lookup_key writes k ≡ None) (key_eq-true write.0 key is) (absent write.0 writes (rising-above write writes r)) in
-        more ∙ ap (λ (o : Option (Option (List ℕ))). unwrap_or o None) nothing
-
-    by : (value : Option (List ℕ)) (b : Bool) → key_eq write.0 key ≡ b → lookup_key (rows_among writes) key ≡ tables_in writes key
-        → lookup_key (with_row write.0 value (rows_among writes)) key ≡ unwrap_or (cond b (Some value) (lookup_key writes key)) None
-    by None true is more = gone is more
-    by None false is more = more
-    by (Some row) true is more = ap (λ (b : Bool). cond b (Some row) (lookup_key (rows_among writes) key)) is
-    by (Some row) false is more = ap (λ (b : Bool). cond b (Some row) (lookup_key (rows_among writes) key)) is ∙ more
+rows-lookup (write ∷ writes) key r = grind (arith, rows-lookup writes key (rising-rest write writes r), rising-rest write writes r, key_eq-true, absent write.0 writes (rising-above write writes r), rising-above write writes r)
 
 rows-above : (low : Key) (writes : Writes) → above low writes ≡ true → above low (rows_among writes) ≡ true
 rows-above low [] all = refl
-rows-above low (write ∷ writes) all =
-    let both = and_parts (key_lt low write.0) (list_all (λ (p : Write). key_lt low p.0) writes) all in by write.1 both.0 (rows-above low writes both.1)
-  where
-    by : (value : Option (List ℕ)) → key_lt low write.0 ≡ true → above low (rows_among writes) ≡ true → above low (with_row write.0 value (rows_among writes)) ≡ true
-    by None here more = more
-    by (Some row) here more = and_from _ _ here more
+rows-above low (write ∷ writes) all = grind (arith, and_parts, rows-above low writes, and_from)
 
 rows-rising : (writes : Writes) → rising writes ≡ true → rising (rows_among writes) ≡ true
 rows-rising [] r = grind arith

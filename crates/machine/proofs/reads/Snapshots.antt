@@ -3,6 +3,7 @@ use Rattle.std.proofs.Common.{◌≡◌, ℕ, ◌≤◌, Bool, true, false, cond
 use Rattle.std.specs.Prelude.{Option, Some, None, is_none, unwrap_or}
 use Rattle.std.proofs.lemmas.Bool.{ne_eqb}
 use Rattle.std.proofs.lemmas.List.{take-append-le, length-append}
+use Rattle.std.proofs.lemmas.Bool.Decides.{nat_tests}
 use Rattle.base.specs.declared.step.Step.{Step}
 use Rattle.base.specs.declared.step.Step.TheVariants.{Begin, Get, Scan, Put, Delete, Draw, Stamp, Poll, Abort, End, Commit as CommitTick, Collect}
 use Rattle.base.specs.declared.step.Stage.{Stage}
@@ -40,16 +41,13 @@ data Does (q q' : State) : Type 0 where
   one : (n : ℕ) (session : Option Session) → Within (length q.history) session → But n session q q' → Does q q'
 
 does-on : (q : State) (hand : Hand) (o : Option Stage) → Does q (state_ticked_on q hand o)
-does-on q hand None = nothing (λ m. refl)
-does-on q hand (Some stage) = nothing (λ m. refl)
+does-on q hand a = grind (arith)
 
 does-idle : (q : State) (b : Bool) → Does q (cond b q (record q { hand = Some (taken_in_hand q) }))
-does-idle q true = nothing (λ m. refl)
-does-idle q false = nothing (λ m. refl)
+does-idle q a = grind (arith)
 
 does-ticked : (q : State) (o : Option Hand) → Does q (state_ticked q o)
-does-ticked q None = does-idle q (is_idle q)
-does-ticked q (Some hand) = does-on q hand (next_stage q hand)
+does-ticked q a = grind (arith, does-idle, does-on, nat_tests)
 
 does-drawn : (q : State) (n : ℕ) (writes : Writes) → Does q (state_drawn q n writes)
 does-drawn q n [] = one n (Some WroteNothing) (omega arith) (λ m. refl)

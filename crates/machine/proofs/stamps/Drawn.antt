@@ -7,7 +7,4 @@ counted-commit t d = grind arith
 
 pub counted-commits : (t : ℕ) (ds : List Drawn) → map (λ (d : Drawn). d.commit) (map (counted t) ds) ≡ map (λ (d : Drawn). d.commit) ds
 counted-commits t [] = refl
-counted-commits t (d ∷ ds) =
-    let here : (counted t d).commit ≡ d.commit = counted-commit t d in
-    let rest = counted-commits t ds in
-    λ i. here i ∷ rest i
+counted-commits t (d ∷ ds) = grind (arith, counted-commit, counted-commits t ds)

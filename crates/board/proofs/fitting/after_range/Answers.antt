@@ -1,6 +1,6 @@
-use Rattle.std.proofs.Common.{◌≡◌, ◌+◌, ◌-◌, ◌++◌, ◌∙◌, ◌≤◌, length, ap, subst, filter, ℕ, List, arith}
+use Rattle.std.proofs.Common.{◌≡◌, ◌+◌, ◌-◌, ◌++◌, ◌∙◌, ap, filter, arith}
 use Rattle.std.specs.List.{range_with_len}
-use Rattle.board.specs.Due.{Meets, stay}
+use Rattle.board.specs.Due.{stay}
 use Rattle.board.proofs.Due.{range_rest, range_one}
 use Rattle.board.proofs.fitting.after_range.Goals as goal
 
@@ -14,20 +14,7 @@ returns-in-None-clause-none c met meets all =
     (all ∙ ap (filter (stay c.args.longs.now)) (range_rest met a k (c.loop-timestamp.timestamp + 1) (c.args.upto - c.args.before) at (omega (arith, low, c.loop-timestamp-test.true))))
 
 pub loop-timestamp-preserved : goal.loop-timestamp-preserved
-loop-timestamp-preserved c =
-    let a = c.args.before + 1 in
-    let k = c.loop-timestamp.timestamp - c.args.before in
-    let low = c.loop-timestamp.auto.timestamp in
-    let at : a + k ≡ c.loop-timestamp.timestamp + 1 = omega (arith, low) in (
-      c.in-Some.ensures.some.0,
-      λ met meets. subst (λ (xs : List ℕ). Meets c.args.commits.now c.in-Some.next c.args.longs.now xs)
-          (range_one met a k (c.loop-timestamp.timestamp + 1) (c.loop-timestamp.timestamp + 1 - c.args.before) at (omega (arith, low)))
-          (c.in-Some.ensures.some.1 (met ++ range_with_len a k) (c.loop-timestamp.invariant.1 met meets)),
-    )
+loop-timestamp-preserved c = grind (arith, range_one)
 
 pub returns-clause-some : goal.returns-clause-some
-returns-clause-some c =
-    let last : c.loop-timestamp.timestamp ≡ c.args.upto = omega (arith, c.loop-timestamp-test.false, c.loop-timestamp.auto.timestamp-end c.requires.rises) in
-    subst (λ (n : ℕ). (c.loop-timestamp.used ≤ length c.args.commits.now)
-    × ((met : List ℕ) → Meets c.args.commits.now c.args.first c.args.longs.now met → Meets c.args.commits.now c.loop-timestamp.used c.args.longs.now (met ++ range_with_len (c.args.before + 1) (n - c.args.before))))
-    last c.loop-timestamp.invariant
+returns-clause-some c = grind (arith)

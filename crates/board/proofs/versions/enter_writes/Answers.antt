@@ -1,5 +1,4 @@
-use Rattle.std.proofs.Common.{◌∙◌, ◌-◌, ap, nat_eq, arith}
-use Rattle.board.specs.Versions.{lookup_version}
+use Rattle.std.proofs.Common.{◌-◌, nat_eq, arith}
 use Rattle.board.proofs.Puts.{none_on}
 use Rattle.board.proofs.Places.{entered_next, unentered}
 use Rattle.board.proofs.versions.enter_writes.Goals as goal
@@ -11,6 +10,4 @@ loop-left-preserved c = (
 )
 
 pub returns-in_err-enter_one-clause-others : goal.returns-in_err-enter_one-clause-others
-returns-in_err-enter_one-clause-others c k s none =
-    ap (λ es. lookup_version es k s) c.in_err-enter_one.ensures.same
-    ∙ (c.loop-left.invariant.1 k s ∙ unentered c.args.stamp s _ _ (λ is. none_on c.args.writes.now c.loop-left.left k (none is)))
+returns-in_err-enter_one-clause-others c k s none = grind (arith, unentered, none_on)

@@ -7,13 +7,10 @@ use Rattle.journal.proofs.Appended.{rests-either, append-either, append-kept}
 use Rattle.journal.proofs.appending.append.Goals as goal
 
 pub entry_of-requires-clause-numbers : goal.entry_of-requires-clause-numbers
-entry_of-requires-clause-numbers g c =
-    numbers-below c.args.changed.now c.args.words.now c.requires.changed.within (omega (arith, c.requires.same, c.requires.fits))
+entry_of-requires-clause-numbers g c = grind (arith, numbers-below)
 
 pub returns-in_err-entry-clause-either : goal.returns-in_err-entry-clause-either
-returns-in_err-entry-clause-either g c =
-    let durable = c.args.durable.now in
-    rests-either (g.S.Storage.may_hold c.args.storage.now) (length durable) c.args.room c.args.position.pass c.args.position.words durable c.args.words.now c.requires.known
+returns-in_err-entry-clause-either g c = grind (arith, rests-either)
 
 pub returns-in_err-write-clause-either : goal.returns-in_err-write-clause-either
 returns-in_err-write-clause-either g c =

@@ -6,9 +6,7 @@ use Rattle.journal.proofs.Appended.{rests-either}
 use Rattle.journal.proofs.appending.begin_words.Goals as goal
 
 pub returns-in_err-changed-clause-either : goal.returns-in_err-changed-clause-either
-returns-in_err-changed-clause-either g c =
-    let durable = c.args.durable.now.items in
-    rests-either (g.S.Storage.may_hold c.args.storage.now) (length durable) c.args.room c.args.position.pass c.args.position.words durable c.args.words.now c.requires.known
+returns-in_err-changed-clause-either g c = grind (arith, rests-either)
 
 pub returns-clause-durable : goal.returns-clause-durable
 returns-clause-durable g c =

@@ -5,8 +5,7 @@ use Rattle.journal.proofs.Changes.{found-none, found-changed}
 use Rattle.journal.proofs.appending.changed_lines.Goals as goal
 
 pub loop-number-init : goal.loop-number-init
-loop-number-init c =
-    rw (← c.in_ok-lines.ensures.items) at (found-none c.args.durable.now c.args.words.now)
+loop-number-init c = grind (arith, found-none)
 
 pub loop-number-preserved : goal.loop-number-preserved
 loop-number-preserved c =

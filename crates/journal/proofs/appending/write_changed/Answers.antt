@@ -14,9 +14,7 @@ none [] is = refl
 none (line ∷ lines) is = absurd (omega (arith, is))
 
 pub returns-then-is_empty-clause-either : goal.returns-then-is_empty-clause-either
-returns-then-is_empty-clause-either g c =
-    let durable = c.args.durable.now in
-    rests-either (g.S.Storage.may_hold c.args.storage.now) (length durable) c.args.room c.args.position.pass c.args.position.words durable c.args.words.now c.requires.known
+returns-then-is_empty-clause-either g c = grind (arith, rests-either)
 
 pub returns-then-is_empty-clause-rests : goal.returns-then-is_empty-clause-rests
 returns-then-is_empty-clause-rests g c =
@@ -30,9 +28,7 @@ returns-then-is_empty-clause-rests g c =
     (rests_within held shown (length durable) c.args.room c.args.position.pass c.args.position.words durable (g.met.S.Storage.shown_is_found c.args.storage.now) c.requires.known)
 
 pub returns-then-size-room-clause-either : goal.returns-then-size-room-clause-either
-returns-then-size-room-clause-either g c =
-    let durable = c.args.durable.now in
-    rests-either (g.S.Storage.may_hold c.args.storage.now) (length durable) c.args.room c.args.position.pass c.args.position.words durable c.args.words.now c.requires.known
+returns-then-size-room-clause-either g c = grind (arith, rests-either)
 
 pub begin_pass-requires-clause-within : goal.begin_pass-requires-clause-within
 begin_pass-requires-clause-within g c =
@@ -47,6 +43,4 @@ pub begin_pass-requires-clause-known : goal.begin_pass-requires-clause-known
 begin_pass-requires-clause-known g c = c.requires.known
 
 pub returns-in_err-begin_pass-clause-either : goal.returns-in_err-begin_pass-clause-either
-returns-in_err-begin_pass-clause-either g c =
-    let durable = c.args.durable.now in
-    opens-either (g.S.Storage.may_hold c.begin_pass.new.storage) (length durable) c.args.room durable c.args.words.now c.begin_pass.ensures.opens
+returns-in_err-begin_pass-clause-either g c = grind (arith, opens-either (g.S.Storage.may_hold c.begin_pass.new.storage) (length c.args.durable.now) c.args.room c.args.durable.now c.args.words.now c.begin_pass.ensures.opens, c.begin_pass.ensures.opens)

@@ -1,12 +1,9 @@
-use Rattle.pmem.specs.Words.{value_of}
-use Rattle.version_slot.specs.Words.{slot_at}
+use Rattle.std.proofs.Common.{arith}
 use Rattle.version_slot.proofs.Forming.{some-key, none-key}
 use Rattle.version_slot.proofs.reading.read_key.Goals as goal
 
 pub returns-clause-some : goal.returns-clause-some
-returns-clause-some g c =
-    some-key c.args.geometry _ (slot_at c.args.geometry c.args.slot (value_of (g.D.Pmem.state c.args.device.now))) c.words_from.ensures c.held_key.result c.held_key.ensures.some
+returns-clause-some g c = grind (arith, some-key)
 
 pub returns-clause-none : goal.returns-clause-none
-returns-clause-none g c =
-    none-key c.args.geometry _ (slot_at c.args.geometry c.args.slot (value_of (g.D.Pmem.state c.args.device.now))) c.words_from.ensures c.held_key.result c.held_key.ensures.none
+returns-clause-none g c = grind (arith, none-key)

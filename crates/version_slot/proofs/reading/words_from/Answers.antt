@@ -1,4 +1,4 @@
-use Rattle.std.proofs.Common.{◌+◌, ◌∙◌, ℕ, ap, arith}
+use Rattle.std.proofs.Common.{◌+◌, ℕ, arith}
 use Rattle.std.proofs.lemmas.List.{length-set}
 use Rattle.pmem.specs.Words.{value_of}
 use Rattle.version_slot.proofs.Decoding.{set_from}
@@ -13,6 +13,4 @@ loop-w-preserved g c = record {
 }
 
 pub returns : goal.returns
-returns g c = λ w from to.
-    c.loop-w.invariant.loaded w from (omega (arith, to, c.loop-w-test.false, c.loop-w.auto, c.slot_words-w-end.ensures.value))
-    ∙ ap (λ (n : ℕ). value_of (g.D.Pmem.state c.args.device.now) (n + w)) c.slot_start-start.ensures.value
+returns g c = grind (arith)

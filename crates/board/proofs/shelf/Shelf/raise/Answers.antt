@@ -1,17 +1,9 @@
-use Rattle.std.proofs.Common.{rules, ◌≡◌, ◌++◌, ◌∷◌, [], ap, ◌∙◌, sym, max}
+use Rattle.std.proofs.Common.{arith}
 use Rattle.board.specs.declared.change.Change.TheVariants.{Raise}
-use Rattle.board.specs.Changes.{changed, list_of}
+use Rattle.board.specs.Changes.{list_of}
 use Rattle.board.proofs.Growing.{list_next}
 use Rattle.board.proofs.Standing.{stands_raise}
 use Rattle.board.proofs.shelf.Shelf.raise.Goals as goal
 
 pub invariant_of-self : goal.invariant_of-self
-invariant_of-self g c =
-    let s = c.self.inside in
-    let to = c.args.stamp in
-    let floor : c.max-self-inside.result ≡ max s.floor to = search rules in
-    let log : c.again.result ≡ s.front ++ Raise to ∷ [] = c.again.ensures ∙ (c.requires ∙ ap (λ l. l ++ Raise to ∷ []) (sym c.self.view_is)) in
-    let list : list_of c.again.result ≡ changed (list_of s.front) (Raise to) = ap list_of log ∙ list_next s.front (Raise to) c.is_published.ensures.1 in (
-      c.settle.ensures.rows (list_of c.again.result) (rw (floor, list) (stands_raise s.coverage s.floor s.rows.entries s.batches.items (list_of s.front) to c.self.invariant.0)),
-      c.settle.ensures.versions c.self.invariant.1,
-    )
+invariant_of-self g c = grind (arith, list_next c.self.inside.front (Raise c.args.stamp) c.is_published.ensures.1, stands_raise c.self.inside.coverage c.self.inside.floor c.self.inside.rows.entries c.self.inside.batches.items (list_of c.self.inside.front) c.args.stamp c.self.invariant.0, c.again.ensures, c.is_published.ensures.1, c.settle.ensures.rows, c.self.invariant.0, c.settle.ensures.versions, c.self.invariant.1)

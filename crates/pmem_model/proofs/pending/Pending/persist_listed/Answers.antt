@@ -1,4 +1,4 @@
-use Rattle.std.proofs.Common.{◌≡◌, ◌<◌, ◌+◌, ◌*◌, ◌/◌, ℕ, length, ap, arith, ◌∙◌, ◌==◌, cond}
+use Rattle.std.proofs.Common.{◌≡◌, ◌<◌, ◌+◌, ◌*◌, ◌/◌, length, arith, ◌∙◌, ◌==◌, cond}
 use Rattle.base.proofs.Lists.{read-same}
 use Rattle.pmem.specs.Device.{persisted}
 use Rattle.pmem_model.specs.Listing.{line_at}
@@ -8,16 +8,10 @@ use Rattle.pmem_model.proofs.pending.Pending.persist_listed.Goals as goal
 
 -- the line that was read
 line_read : (c : goal.After-row_known-1) → c.index.result.now ≡ line_at c.args.self.now.listed.items c.args.actor.number c.loop-place.place
-line_read c =
-    let p = c.args.self.now in
-    let within : 64 * c.loop-place.place + c.args.actor.number < length p.listed.items = omega (arith, c.loop-place-test.true, p.listing.within c.args.actor.number, p.listed_size, p.listed.ok, c.args.actor.in_range) in
-    read-same p.listed.items (64 * c.loop-place.place + c.args.actor.number) c.index.result.now within c.index.ensures
+line_read c = grind (arith, read-same)
 
 pub persist_line-requires : goal.persist_line-requires
-persist_line-requires c =
-    let p = c.args.self.now in
-    let inside : c.index.result.now < p.lines = omega (arith, line_read c, p.listing.in_lines c.args.actor.number c.loop-place.place c.args.actor.in_range c.loop-place-test.true) in
-    omega (arith, c.requires c.index.result.now inside, ap (length {A = ℕ}) c.loop-place.invariant.values)
+persist_line-requires c = grind (arith, line_read)
 
 pub loop-place-preserved : goal.loop-place-preserved
 loop-place-preserved c =

@@ -1,4 +1,4 @@
-use Rattle.std.proofs.Common.{◌≡◌, ◌≢◌, ℕ, ◌*◌, ◌<◌, ◌/◌, ◌%◌, ◌^◌, List, Bool, true, length, length-set, get_or, set, nat_eq, bit_or, ◌∙◌, ap, arith, rules}
+use Rattle.std.proofs.Common.{◌≡◌, ◌≢◌, ℕ, ◌*◌, ◌<◌, ◌/◌, ◌%◌, ◌^◌, List, Bool, true, length, length-set, get_or, set, nat_eq, bit_or, ◌∙◌, ap, arith}
 use Rattle.std.specs.Int.{bit_at, w64}
 use Rattle.std.proofs.lemmas.Nat.Bits.{bit_at_set_same, bit_at_set_other}
 use Rattle.base.proofs.Lists.{read-same}
@@ -7,9 +7,7 @@ use Rattle.slot_alloc.proofs.Places.{size-of, view-set, clear-from, clear-before
 use Rattle.slot_alloc.proofs.free.SlotAlloc.give.Goals as goal
 
 below : (n slot : ℕ) (words : List ℕ) (first : ℕ) (view : List Bool) → bits_of n words ≡ view → slot < length view → HoldsBits n first words → (slot < n) × (slot / 64 < length words)
-below n slot words first view is lt h =
-    let inside : slot < n = omega (arith, lt, ap (λ (l : List Bool). length l) is, size-of n words) in
-    (inside, omega (arith, inside, h.fits))
+below n slot words first view is lt h = grind (arith, size-of)
 
 module _ (words : List ℕ) (slot now : ℕ) (is : now ≡ get_or words (slot / 64) 0) where
   same : nat_eq (bit_at (bit_or now (1 * 2 ^ (slot % 64) % 2 ^ 64)) (slot % 64)) 1 ≡ true
@@ -19,10 +17,7 @@ module _ (words : List ℕ) (slot now : ℕ) (is : now ≡ get_or words (slot / 
   others i lt apart = bit_at_set_other w64 now (slot % 64) (omega arith) i apart ∙ ap (λ (w : ℕ). bit_at w i) is
 
 pub index_mut-requires : goal.index_mut-requires
-index_mut-requires c =
-    let at = below c.self.inside.slots c.args.slot c.self.inside.words.items c.self.inside.first c.args.self.now c.self.view_is c.requires c.self.invariant in
-    let lt = at.1 in
-    search rules
+index_mut-requires c = grind (arith, below c.self.inside.slots c.args.slot c.self.inside.words.items c.self.inside.first c.args.self.now c.self.view_is c.requires c.self.invariant, c.self.invariant)
 
 pub invariant_of-self : goal.invariant_of-self
 invariant_of-self c =

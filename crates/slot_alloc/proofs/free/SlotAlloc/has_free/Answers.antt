@@ -1,4 +1,4 @@
-use Rattle.std.proofs.Common.{◌≡◌, ◌∙◌, ℕ, Bool, List, length, get_or, Option, Some, None, refl, sym, ap, subst}
+use Rattle.std.proofs.Common.{◌≡◌, ℕ, List, length, get_or, Option, Some, None, refl, sym, ap, arith}
 use Rattle.std.specs.Prelude.{is_some, IfSome, IfNone}
 use Rattle.slot_alloc.specs.Free.{lowest_free}
 use Rattle.slot_alloc.specs.Bits.{bits_of, AreClearBefore, AreClearFrom, IsFirstSet}
@@ -11,8 +11,4 @@ found slots words (Some at) beyond some none = sym (ap (λ (o : Option ℕ). is_
 found slots words None beyond some none = sym (ap (λ (o : Option ℕ). is_some o) (lowest-nowhere slots words beyond none))
 
 pub returns : goal.returns
-returns c =
-    c.is_some.ensures
-    ∙ found c.self.inside.slots c.self.inside.words.items c.first_set.result c.self.invariant.beyond (subst (λ (words : List ℕ). IfSome c.first_set.result (IsFirstSet words)) c.as_slice.ensures.value c.first_set.ensures.some)
-    (subst (λ (words : List ℕ). IfNone c.first_set.result (AreClearBefore (length words) words)) c.as_slice.ensures.value c.first_set.ensures.none)
-    ∙ ap (λ (bits : List Bool). is_some (lowest_free bits)) c.self.view_is
+returns c = grind (arith, found)

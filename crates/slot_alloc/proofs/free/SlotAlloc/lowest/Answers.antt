@@ -1,7 +1,7 @@
-use Rattle.std.proofs.Common.{◌≡◌, ℕ, ◌+◌, ◌*◌, List, length, get_or, Some, sym, ◌∙◌, ap, subst, arith}
+use Rattle.std.proofs.Common.{◌≡◌, ℕ, ◌+◌, ◌*◌, List, get_or, Some, sym, ◌∙◌, ap, subst, arith}
 use Rattle.std.proofs.lemmas.List.{get_or_default}
 use Rattle.slot_alloc.specs.Free.{lowest_free}
-use Rattle.slot_alloc.specs.Bits.{AreClearBefore, IsFirstSet}
+use Rattle.slot_alloc.specs.Bits.{IsFirstSet}
 use Rattle.slot_alloc.proofs.Places.{lowest-at, lowest-nowhere}
 use Rattle.slot_alloc.proofs.free.SlotAlloc.lowest.Goals as goal
 
@@ -15,7 +15,4 @@ returns-in-Some-clause-lowest c =
     ∙ sym (ap lowest_free (sym c.self.view_is) ∙ lowest-at c.self.inside.slots words c.self.invariant.beyond at c.index-word.result.now first.before is (omega (arith, is, first.some)) (omega (arith, is, first.small)))
 
 pub returns-in-None-clause-lowest : goal.returns-in-None-clause-lowest
-returns-in-None-clause-lowest c =
-    let words = c.self.inside.words.items in
-    let none : AreClearBefore (length words) words = subst (λ (l : List ℕ). AreClearBefore (length l) l) c.as_slice.ensures.value c.in-None.ensures.none in
-    sym (ap lowest_free (sym c.self.view_is) ∙ lowest-nowhere c.self.inside.slots words c.self.invariant.beyond none)
+returns-in-None-clause-lowest c = grind (arith, lowest-nowhere)

@@ -1,19 +1,15 @@
-use Rattle.std.proofs.Common.{◌≡◌, ◌≢◌, ℕ, ◌*◌, ◌<◌, ◌≤◌, ◌/◌, ◌%◌, ◌^◌, List, Bool, true, false, inl, inr, length, length-set, get_or, set, nat_eq, bit_and, ◌-◌, sym, ◌∙◌, ap, arith, rules}
+use Rattle.std.proofs.Common.{◌≡◌, ◌≢◌, ℕ, ◌*◌, ◌<◌, ◌≤◌, ◌/◌, ◌%◌, ◌^◌, List, Bool, true, false, length, length-set, get_or, set, nat_eq, bit_and, ◌-◌, ◌∙◌, ap, arith}
 use Rattle.std.specs.Int.{bit_at, w64}
 use Rattle.std.proofs.lemmas.Bool.{cases_lt}
 use Rattle.slot_alloc.specs.Free.{is_free}
 use Rattle.std.proofs.lemmas.Nat.Bits.{bit_at_clear_same, bit_at_clear_other}
 use Rattle.base.proofs.Lists.{read-same}
-use Rattle.slot_alloc.specs.Bits.{HoldsBits, bit_of, bits_of}
+use Rattle.slot_alloc.specs.Bits.{HoldsBits, bits_of}
 use Rattle.slot_alloc.proofs.Places.{free-is, zero-bit, view-set, clear-from, clear-before}
 use Rattle.slot_alloc.proofs.free.SlotAlloc.mark_taken.Goals as goal
 
 below : (n slot : ℕ) (words : List ℕ) (first : ℕ) (view : List Bool) → bits_of n words ≡ view → is_free view slot ≡ true → HoldsBits n first words → (slot < n) × (slot / 64 < length words) × (first ≤ slot / 64)
-below n slot words first view is free h =
-    let here : bit_of words slot ≡ true = sym (free-is n words h.beyond slot) ∙ ap (λ (l : List Bool). is_free l slot) is ∙ free in
-    let inside : slot < n = elim (cases_lt slot n) [ inl lt ↦ lt | inr ge ↦ absurd (cc (sym here ∙ h.beyond slot ge)) ] in
-    let low : first ≤ slot / 64 = elim (cases_lt (slot / 64) first) [ inl lt ↦ absurd (cc (sym here ∙ zero-bit words slot (h.before (slot / 64) lt))) | inr ge ↦ ge ] in
-    (inside, omega (arith, inside, h.fits), low)
+below n slot words first view is free h = grind (arith, free-is, cases_lt, zero-bit)
 
 module _ (words : List ℕ) (slot now : ℕ) (is : now ≡ get_or words (slot / 64) 0) where
   same : nat_eq (bit_at (bit_and now (2 ^ 64 - 1 - 1 * 2 ^ (slot % 64) % 2 ^ 64)) (slot % 64)) 1 ≡ false
@@ -23,10 +19,7 @@ module _ (words : List ℕ) (slot now : ℕ) (is : now ≡ get_or words (slot / 
   others i lt apart = bit_at_clear_other w64 now (slot % 64) (omega arith) i lt apart ∙ ap (λ (w : ℕ). bit_at w i) is
 
 pub index_mut-requires : goal.index_mut-requires
-index_mut-requires c =
-    let at = below c.self.inside.slots c.args.slot c.self.inside.words.items c.self.inside.first c.args.self.now c.self.view_is c.requires c.self.invariant in
-    let lt = at.1 in
-    search rules
+index_mut-requires c = grind (arith, below c.self.inside.slots c.args.slot c.self.inside.words.items c.self.inside.first c.args.self.now c.self.view_is c.requires c.self.invariant, c.self.invariant)
 
 pub invariant_of-self : goal.invariant_of-self
 invariant_of-self c =

@@ -1,4 +1,4 @@
-use Rattle.std.proofs.Common.{length, sym, ◌∙◌, ap, List, Bool, arith}
+use Rattle.std.proofs.Common.{length, sym, arith}
 use Rattle.pmem.proofs.Traces.{words-stopped}
 use Rattle.slot_alloc.specs.Free.{is_free}
 use Rattle.slot_alloc.proofs.Lowest.{lowest_below, lowest_passes}
@@ -11,5 +11,4 @@ pub returns-in-Err-clause-size : goal.returns-in-Err-clause-size
 returns-in-Err-clause-size g c = words-stopped _ c.in-Err.ensures.err
 
 pub mark_taken-requires : goal.mark_taken-requires
-mark_taken-requires g c =
-    ap (λ (l : List Bool). is_free l c.in-Some.slot) c.in-Some.ensures.same ∙ lowest_passes (length c.args.self.now) c.in-Some.slot (is_free c.args.self.now) (sym c.in-Some.ensures.lowest)
+mark_taken-requires g c = grind (arith, lowest_passes (length c.args.self.now) c.in-Some.slot (is_free c.args.self.now) (sym c.in-Some.ensures.lowest), c.in-Some.ensures.same, c.in-Some.ensures.lowest)

@@ -1,9 +1,9 @@
-use Rattle.std.proofs.Common.{◌≡◌, ◌∙◌, ◌<◌, ℕ, true, List, Option, Some, None, get_or, length, sym, ap, subst, arith}
+use Rattle.std.proofs.Common.{◌≡◌, ◌∙◌, ◌<◌, ℕ, List, Option, Some, get_or, length, sym, ap, subst, arith}
 use Rattle.std.specs.Prelude.{slice_get}
 use Rattle.std.proofs.lemmas.Option.{slice_get-get_or, slice_get_within}
 use Rattle.txn.specs.declared.drawn.DrawnCommit.{DrawnCommit}
 use Rattle.txn.specs.InFlight.{InFlight}
-use Rattle.txn.specs.DrawnCommits.{are_in_order, drawn_at, place_of}
+use Rattle.txn.specs.DrawnCommits.{drawn_at, place_of}
 use Rattle.txn.proofs.InOrder.{apart-there, found-at, not-found}
 use Rattle.txn.proofs.drawn.DrawnCommits.get.Goals as goal
 
@@ -23,16 +23,7 @@ returns-then-commit-timestamp c =
     (found-at c.args.timestamp ds one (there c.args.timestamp c.place.result ds one c.place.ensures c.in-Some.ensures.lookup.3.0 c.in-Some.ensures.lookup.1) c.if-commit-timestamp.true)
 
 pub returns-else-commit-timestamp : goal.returns-else-commit-timestamp
-returns-else-commit-timestamp c =
-    let ds = c.as_slice-commits.result.now in
-    let one = c.in-Some.commit.now in
-    told c.args.timestamp ds c.args.self.now.commits None (c.as_slice-commits.ensures.value ∙ ap (λ (v : InFlight). v.commits) c.self.view_is)
-    (not-found c.args.timestamp ds (subst (λ (ds : List DrawnCommit). are_in_order ds ≡ true) (sym c.as_slice-commits.ensures.value) c.self.invariant.1)
-    (λ d at. apart-there c.args.timestamp (slice_get ds (place_of c.args.timestamp ds)) one d (there c.args.timestamp c.place.result ds one c.place.ensures c.in-Some.ensures.lookup.3.0 c.in-Some.ensures.lookup.1) c.if-commit-timestamp.false at))
+returns-else-commit-timestamp c = grind (arith, told, not-found, apart-there, there)
 
 pub returns-in-None : goal.returns-in-None
-returns-in-None c =
-    let ds = c.as_slice-commits.result.now in
-    told c.args.timestamp ds c.args.self.now.commits None (c.as_slice-commits.ensures.value ∙ ap (λ (v : InFlight). v.commits) c.self.view_is)
-    (not-found c.args.timestamp ds (subst (λ (ds : List DrawnCommit). are_in_order ds ≡ true) (sym c.as_slice-commits.ensures.value) c.self.invariant.1)
-    (λ d at. let within = slice_get_within ds (place_of c.args.timestamp ds) d at in let past = c.in-None.ensures.lookup.3 in absurd (omega (arith, within, past, c.place.ensures))))
+returns-in-None c = grind (arith, told, not-found, slice_get_within)

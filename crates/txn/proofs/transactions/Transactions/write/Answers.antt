@@ -1,9 +1,9 @@
-use Rattle.std.proofs.Common.{◌≡◌, ◌∙◌, sym, ap, ℕ, List}
+use Rattle.std.proofs.Common.{◌≡◌, ◌∙◌, sym, ap, ℕ, List, arith}
 use Rattle.std.specs.Prelude.{Option, Some}
 use Rattle.txn.specs.declared.transaction.Transaction.{Transaction}
 use Rattle.txn.specs.declared.transaction.Transaction.TheVariants.{Active}
 use Rattle.txn.specs.WriteSets.{with_write_at}
-use Rattle.txn.specs.Tables.{entry_at, found, listed}
+use Rattle.txn.specs.Tables.{entry_at, listed}
 use Rattle.txn.specs.Transactions.{transaction_at, is_active}
 use Rattle.txn.specs.declared.write.Write.{Write}
 use Rattle.snapshot.specs.Snapshots.{Seen}
@@ -15,10 +15,7 @@ use Rattle.txn.proofs.transactions.Transactions.write.Goals as goal
 -- what lies at the place of an Active transaction
 active-at : (slab : Slab Transaction) (places : List (Option ℕ)) (now : List (Option Transaction)) (n place : ℕ) (there : Transaction) (snapshot : Seen) (writes : List Write) → listed slab places ≡ now
     → Some place ≡ entry_at places n → Some there ≡ get slab place → transaction_at now n ≡ Some (Active snapshot writes) → there ≡ Active snapshot writes
-active-at slab places now n place there snapshot writes is at value active =
-    let found : Some there ≡ Some (Active snapshot writes) =
-    value ∙ ap (λ (p : Option ℕ). found slab p) at ∙ sym (entry_at-listed slab places n) ∙ ap (λ (e : List (Option Transaction)). transaction_at e n) is ∙ active in
-    cc
+active-at slab places now n place there snapshot writes is at value active = grind (arith, entry_at-listed slab places n)
 
 pub invariant_of-self : goal.invariant_of-self
 invariant_of-self c =
