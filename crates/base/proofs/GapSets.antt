@@ -27,11 +27,7 @@ in-low low (gap ∷ gaps) t (a, b, rest) (inr more) = omega (arith, a, b, in-low
 
 pub in-from : (gaps : List Gap) (t : ℕ) → is_in gaps t ≡ true → In gaps t
 in-from [] t e = cc
-in-from (gap ∷ gaps) t e = by (or_cases (nat_le gap.first t && nat_le t gap.last) (is_in gaps t) e) (λ f. in-from gaps t f)
-  where
-    by : ((nat_le gap.first t && nat_le t gap.last) ≡ true) ⊎ (is_in gaps t ≡ true) → (is_in gaps t ≡ true → In gaps t) → In (gap ∷ gaps) t
-    by (inl here) rest = let both = and_parts (nat_le gap.first t) (nat_le t gap.last) here in inl (leb-true gap.first t both.0, leb-true t gap.last both.1)
-    by (inr more) rest = inr (rest more)
+in-from (gap ∷ gaps) t e = grind (arith, or_cases, in-from gaps t, and_parts, leb-true)
 
 pub in-test : (gaps : List Gap) (t : ℕ) → In gaps t → is_in gaps t ≡ true
 in-test [] t none = absurd none

@@ -1,8 +1,8 @@
 -- Keys in order, in a map and in a list.
-use Rattle.std.proofs.Common.{◌≡◌, ℕ, true, cond, ◌&&◌, ◌||◌, List, [], ◌∷◌, map, refl, sym, ◌∙◌, ap, arith, nat_eq, nat_lt}
+use Rattle.std.proofs.Common.{◌≡◌, ℕ, true, cond, ◌&&◌, ◌||◌, List, [], ◌∷◌, map, refl, sym, ◌∙◌, arith, nat_eq, nat_lt}
 use Rattle.std.specs.Prelude.{Some}
 use Rattle.std.specs.declared.cmp.Ordering.{Ordering}
-use Rattle.std.specs.declared.cmp.Ordering.TheVariants.{Less, Equal, Greater}
+use Rattle.std.specs.declared.cmp.Ordering.TheVariants.{Less}
 use Rattle.std.specs.Ordering.{nat_cmp, ordering_then, is_eq, is_lt}
 use Rattle.std.specs.BTreeMap.{is_at}
 use Rattle.std.specs.Map.{lookup}
@@ -19,14 +19,10 @@ abbrev pub key_cmp : Key → Key → Ordering
 key_cmp a b = ordering_then (nat_cmp a.table b.table) (nat_cmp a.key b.key)
 
 pub is_eq-then : (o p : Ordering) → is_eq (ordering_then o p) ≡ (is_eq o && is_eq p)
-is_eq-then Less p = refl
-is_eq-then Equal p = refl
-is_eq-then Greater p = refl
+is_eq-then a p = grind (arith)
 
 is_lt-then : (o p : Ordering) → is_lt (ordering_then o p) ≡ (is_lt o || (is_eq o && is_lt p))
-is_lt-then Less p = refl
-is_lt-then Equal p = refl
-is_lt-then Greater p = refl
+is_lt-then a p = grind (arith)
 
 pub is_eq-nat : (a b : ℕ) → is_eq (nat_cmp a b) ≡ nat_eq a b
 is_eq-nat a b = grind (arith, nat_tests)
@@ -36,16 +32,11 @@ is_lt-nat a b = grind (arith, nat_tests)
 
 -- the order distinguishes two keys exactly where they differ
 pub is_at-key : (key other : Key) → is_at (key_cmp key) other ≡ key_eq key other
-is_at-key key other =
-    is_eq-then (nat_cmp key.table other.table) (nat_cmp key.key other.key)
-    ∙ (λ i. is_eq-nat key.table other.table i && is_eq-nat key.key other.key i)
+is_at-key key other = grind (arith, is_eq-then, is_eq-nat)
 
 -- and puts the lower one first
 less-key : (key other : Key) → key_cmp key other ≡ Less → key_lt key other ≡ true
-less-key key other less =
-    sym (is_lt-then (nat_cmp key.table other.table) (nat_cmp key.key other.key)
-    ∙ (λ i. is_lt-nat key.table other.table i || (is_eq-nat key.table other.table i && is_lt-nat key.key other.key i)))
-    ∙ ap is_lt less
+less-key key other less = grind (arith, is_lt-then, is_lt-nat, is_eq-nat)
 
 -- a list of pairs has at a key what a map has
 pub looked-up : {X : Type 0} (pairs : List (Key × X)) (key : Key) → lookup_key pairs key ≡ lookup (is_at (key_cmp key)) pairs

@@ -1,16 +1,12 @@
 -- Keys: when two are one, which comes first, and lists of them that rise.
-use Rattle.std.proofs.Common.{◌≡◌, true, false, List, [], ◌∷◌, refl, arith, nat_eq}
+use Rattle.std.proofs.Common.{◌≡◌, true, false, List, [], ◌∷◌, refl, arith}
 use Rattle.std.proofs.lemmas.Bool.{and_parts, eqb-true}
 use Rattle.std.proofs.lemmas.Bool.Decides.{nat_tests}
 use Rattle.base.specs.declared.key.Key.{Key}
 use Rattle.base.specs.Keys.{key_eq, key_lt, is_rising}
 
 pub key_eq-true : (a b : Key) → key_eq a b ≡ true → a ≡ b
-key_eq-true a b e =
-    let both = and_parts (nat_eq a.table b.table) (nat_eq a.key b.key) e in
-    let table : a.table ≡ b.table = eqb-true a.table b.table both.0 in
-    let number : a.key ≡ b.key = eqb-true a.key b.key both.1 in
-    λ i. record { table = table i; key = number i }
+key_eq-true a b e = grind (arith, and_parts, eqb-true)
 
 pub key_eq-same : (a : Key) → key_eq a a ≡ true
 key_eq-same a = grind (arith, nat_tests)

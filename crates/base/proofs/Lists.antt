@@ -1,5 +1,5 @@
 -- Lists: tests of all, of some, of the first; lists of numbers that rise.
-use Rattle.std.proofs.Common.{◌≡◌, ℕ, zero, suc, Bool, true, false, cond, ◌||◌, List, [], ◌∷◌, map, filter, find, take, drop, refl, sym, ◌∙◌, ap, Some, nat_lt, ◌<◌, length, get_or}
+use Rattle.std.proofs.Common.{◌≡◌, ℕ, zero, suc, Bool, true, false, ◌||◌, List, [], ◌∷◌, map, filter, find, take, drop, refl, ◌∙◌, ap, Some, nat_lt, ◌<◌, length, get_or, arith}
 use Rattle.std.specs.List.{list_any, list_all}
 use Rattle.std.proofs.lemmas.Bool.{and_parts, and_from}
 use Rattle.std.proofs.lemmas.List.{get_or_default}
@@ -20,14 +20,7 @@ all-drop p (suc n) (x ∷ xs) all = all-drop p n xs (and_parts (p x) (list_all p
 -- and those that pass another test
 pub all-filter : {X : Type 0} (p f : X → Bool) (xs : List X) → list_all p xs ≡ true → list_all p (filter f xs) ≡ true
 all-filter p f [] all = refl
-all-filter p f (x ∷ xs) all = by (f x) (all-filter p f xs both.1)
-  where
-    both : (p x ≡ true) × (list_all p xs ≡ true)
-    both = and_parts (p x) (list_all p xs) all
-
-    by : (b : Bool) → list_all p (filter f xs) ≡ true → list_all p (cond b (x ∷ filter f xs) (filter f xs)) ≡ true
-    by true rest = and_from (p x) (list_all p (filter f xs)) both.0 rest
-    by false rest = rest
+all-filter p f (x ∷ xs) all = grind (arith, all-filter p f xs, and_parts, and_from)
 
 pub any-map : {X Y : Type 0} (p : Y → Bool) (h : X → Y) (xs : List X) → list_any p (map h xs) ≡ list_any (λ x. p (h x)) xs
 any-map p h [] = refl
@@ -45,13 +38,7 @@ any-never (x ∷ xs) = any-never xs
 -- of two tests one or the other passes for some
 pub any-or : {X : Type 0} (f g : X → Bool) (xs : List X) → list_any (λ x. f x || g x) xs ≡ (list_any f xs || list_any g xs)
 any-or f g [] = refl
-any-or f g (x ∷ xs) = ap (λ (b : Bool). (f x || g x) || b) (any-or f g xs) ∙ shuffle (f x) (g x) (list_any f xs) (list_any g xs)
-  where
-    shuffle : (a b c d : Bool) → ((a || b) || (c || d)) ≡ ((a || c) || (b || d))
-    shuffle true b c d = refl
-    shuffle false true true d = refl
-    shuffle false true false d = refl
-    shuffle false false c d = refl
+any-or f g (x ∷ xs) = grind (arith, any-or f g xs)
 
 pub filter-all : {X : Type 0} (xs : List X) → filter (λ (x : X). true) xs ≡ xs
 filter-all [] = refl
@@ -60,11 +47,7 @@ filter-all (x ∷ xs) = λ i. x ∷ filter-all xs i
 -- what is found passes the test
 pub find-passes : {X : Type 0} (test : X → Bool) (xs : List X) (x : X) → find test xs ≡ Some x → test x ≡ true
 find-passes test [] x e = absurd (cc e)
-find-passes test (y ∷ ys) x e = by_test (test y) refl (find-passes test ys x) e
-  where
-    by_test : (b : Bool) → test y ≡ b → (find test ys ≡ Some x → test x ≡ true) → cond b (Some y) (find test ys) ≡ Some x → test x ≡ true
-    by_test true is rest found = let same : y ≡ x = cc in ap test (sym same) ∙ is
-    by_test false is rest found = rest found
+find-passes test (y ∷ ys) x e = grind (arith, find-passes test ys x)
 
 -- the rest of a rising list rises
 pub rising-rest : (x : ℕ) (xs : List ℕ) → are_rising (x ∷ xs) ≡ true → are_rising xs ≡ true

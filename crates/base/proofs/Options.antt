@@ -7,8 +7,7 @@ use Rattle.base.specs.Search.{first_of, some_if}
 
 -- neither of two is there
 pub or-none : {X : Type 0} (a b : Option X) → option_or a b ≡ None → (a ≡ None) × (b ≡ None)
-or-none None b e = (refl, e)
-or-none (Some x) b e = absurd (cc e)
+or-none a b e = grind (arith)
 
 -- none of a list is there
 abbrev pub AllNone : {X : Type 0} → List (Option X) → Type 0
@@ -24,29 +23,20 @@ none_first [] all = refl
 none_first (x ∷ xs) all = ap (λ a. option_or a (first_of xs)) all.0 ∙ none_first xs all.1
 
 pub option_or-none : {X : Type 0} (a : Option X) → option_or a None ≡ a
-option_or-none None = refl
-option_or-none (Some x) = refl
+option_or-none a = grind (arith)
 
 pub map-none : {X Y : Type 0} (f : X → Y) (o : Option X) → option_map f o ≡ None → o ≡ None
-map-none f None e = refl
-map-none f (Some x) e = absurd (cc e)
+map-none f a e = grind (arith)
 
 pub is_some-none : {X : Type 0} (o : Option X) → is_some o ≡ false → o ≡ None
-is_some-none None e = refl
-is_some-none (Some x) e = absurd (cc e)
+is_some-none a e = grind (arith)
 
 pub some_if-none : {X : Type 0} (b : Bool) (x : X) → some_if b x ≡ None → b ≡ false
-some_if-none true x e = absurd (cc e)
-some_if-none false x e = refl
+some_if-none a x e = grind (arith)
 
 pub some_if_not-none : {X : Type 0} (b : Bool) (x : X) → some_if (not b) x ≡ None → b ≡ true
-some_if_not-none true x e = refl
-some_if_not-none false x e = absurd (cc e)
+some_if_not-none a x e = grind (arith)
 
 -- a place that is there, or the length
 pub or_length : (place len : ℕ) → place ≤ len → unwrap_or (cond (nat_lt place len) (Some place) None) len ≡ place
-or_length place len le = by (nat_lt place len) refl
-  where
-    by : (b : Bool) → nat_lt place len ≡ b → unwrap_or (cond b (Some place) None) len ≡ place
-    by true lt = refl
-    by false ge = omega (arith, ltb-false place len ge)
+or_length place len le = grind (arith, ltb-false)

@@ -1,5 +1,5 @@
 -- The parts of a well-formed record.
-use Rattle.std.proofs.Common.{◌≡◌, ℕ, ◌^◌, ◌<◌, ◌≤◌, Bool, true, not, ◌&&◌, List, length, refl, nat_lt, nat_le}
+use Rattle.std.proofs.Common.{◌≡◌, ℕ, ◌^◌, ◌<◌, ◌≤◌, Bool, true, not, ◌&&◌, List, length, nat_le, arith}
 use Rattle.std.specs.List.{list_all}
 use Rattle.std.proofs.lemmas.Bool.{and_parts, leb-true, ltb-true, le-leb, lt-ltb}
 use Rattle.base.specs.declared.gap.Gap.{Gap}
@@ -25,31 +25,7 @@ pub record WellFormed (version : ℕ) (r : Record) : Type 0 where
   pub rising : are_rising r.longs ≡ true
 
 pub well_formed-parts : (version : ℕ) (r : Record) → is_well_formed version r ≡ true → WellFormed version r
-well_formed-parts version r is =
-    let a = and_parts _ _ is in
-    let b = and_parts _ _ a.0 in
-    let c = and_parts _ _ b.0 in
-    let d = and_parts _ _ c.0 in
-    let e = and_parts _ _ d.0 in
-    let f = and_parts _ _ e.0 in
-    let g = and_parts _ _ f.0 in
-    record {
-      below = ltb-true r.persisted r.dirty g.0;
-      limit = ltb-true r.dirty (2 ^ 62) g.1;
-      few = leb-true (length r.gaps) 8 f.1;
-      fewer = leb-true (length r.longs) (most_longs version) e.1;
-      each = d.1;
-      apart = c.1;
-      within = b.1;
-      rising = a.1;
-    }
+well_formed-parts version r is = grind (arith, and_parts, ltb-true, leb-true)
 
 pub well_formed-from : (version : ℕ) (r : Record) → WellFormed version r → is_well_formed version r ≡ true
-well_formed-from version r w =
-    all (nat_lt r.persisted r.dirty) (nat_lt r.dirty (2 ^ 62)) (nat_le (length r.gaps) 8) (nat_le (length r.longs) (most_longs version))
-    (are_up_to r.persisted r.gaps) (are_apart r.gaps) (are_longs r.persisted r.gaps r.longs) (are_rising r.longs)
-    (lt-ltb r.persisted r.dirty w.below) (lt-ltb r.dirty (2 ^ 62) w.limit) (le-leb (length r.gaps) 8 w.few) (le-leb (length r.longs) (most_longs version) w.fewer)
-    w.each w.apart w.within w.rising
-  where
-    all : (a b c d e f g h : Bool) → a ≡ true → b ≡ true → c ≡ true → d ≡ true → e ≡ true → f ≡ true → g ≡ true → h ≡ true → (a && b && c && d && e && f && g && h) ≡ true
-    all a b c d e f g h ha hb hc hd he hf hg hh = rw (ha, hb, hc, hd, he, hf, hg, hh) refl
+well_formed-from version r w = grind (arith, lt-ltb, le-leb)

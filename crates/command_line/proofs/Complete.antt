@@ -1,5 +1,5 @@
 -- Words that give an order are read: what each part of them leaves to be given by the others.
-use Rattle.std.proofs.Common.{◌≡◌, ◌≢◌, ℕ, suc, ◌+◌, ◌^◌, Bool, List, [], ◌∷◌, ◌++◌, true, false, Option, Some, None, refl, sym, ◌∙◌, ap, subst, is_some, length, drop, slice_index, arith, Bor}
+use Rattle.std.proofs.Common.{◌≡◌, ◌≢◌, ℕ, suc, ◌+◌, ◌^◌, Bool, List, [], ◌∷◌, ◌++◌, true, false, Option, None, refl, sym, ◌∙◌, ap, subst, is_some, length, drop, slice_index, arith, Bor}
 use Rattle.std.proofs.lemmas.List.{length-append, nil_from_length}
 use Rattle.std.specs.Prelude.{IsSomeAnd, IfSome}
 use Rattle.std.specs.List.{flat_map}
@@ -37,20 +37,13 @@ letter Sessions = 115
 letter Commits = 109
 
 letter-at : (choice : Choice) (more : Text) → slice_index (option_word choice ++ more) 4 ≡ letter choice
-letter-at Slots more = refl
-letter-at _ more = refl
+letter-at a more = grind (arith)
 
 letter-plain : (choice : Choice) → slice_index (option_word choice) 4 ≡ letter choice
-letter-plain Slots = refl
-letter-plain _ = refl
+letter-plain a = grind (arith)
 
 by_letter : (a b : Choice) → letter a ≡ letter b → a ≡ b
-by_letter Slots Slots h = refl
-by_letter Places Places h = refl
-by_letter Window Window h = refl
-by_letter Sessions Sessions h = refl
-by_letter Commits Commits h = refl
-by_letter _ _ h = absurd (omega (arith, h))
+by_letter a b h = grind (arith)
 
 abbrev fifth : Text → ℕ
 fifth text = slice_index text 4
@@ -66,30 +59,20 @@ same_name : (a b : Choice) → option_word a ≡ option_word b → a ≡ b
 same_name a b h = by_letter a b (sym (letter-plain a) ∙ (ap fifth h ∙ letter-plain b))
 
 same_value-of : (c : Choice) (u v : Text) → option_word c ++ 61 ∷ u ≡ option_word c ++ 61 ∷ v → u ≡ v
-same_value-of Slots u v h = ap (drop 8) h
-same_value-of Places u v h = ap (drop 9) h
-same_value-of Window u v h = ap (drop 9) h
-same_value-of Sessions u v h = ap (drop 11) h
-same_value-of Commits u v h = ap (drop 10) h
+same_value-of a u v h = grind (arith)
 
 same_joined : (a b : Choice) (u v : Text) → option_word a ++ 61 ∷ u ≡ option_word b ++ 61 ∷ v → (a ≡ b) × (u ≡ v)
 same_joined a b u v h = grind (arith, by_letter, letter-at, same_value-of)
 
 no_file-name : (choice : Choice) (more : Text) → is_file_name (option_word choice ++ more) ≡ false
-no_file-name Slots more = refl
-no_file-name _ more = refl
+no_file-name a more = grind (arith)
 
 no_file-plain : (choice : Choice) → is_file_name (option_word choice) ≡ false
-no_file-plain Slots = refl
-no_file-plain _ = refl
+no_file-plain a = grind (arith)
 
 -- the word for wide slots is no option's name, alone or with a value
 not_wide-letter : (choice : Choice) → 100 ≡ letter choice → ⊥
-not_wide-letter Slots h = absurd (omega (arith, h))
-not_wide-letter Places h = absurd (omega (arith, h))
-not_wide-letter Window h = absurd (omega (arith, h))
-not_wide-letter Sessions h = absurd (omega (arith, h))
-not_wide-letter Commits h = absurd (omega (arith, h))
+not_wide-letter a h = grind (arith)
 
 not_wide-joined : (choice : Choice) (more : Text) → wide_word ≡ option_word choice ++ more → ⊥
 not_wide-joined choice more h = not_wide-letter choice (ap fifth h ∙ letter-at choice more)
@@ -115,23 +98,19 @@ abbrev pub without_wide : Given → Given
 without_wide given = record given { wide = false }
 
 flag_part : (more : List Text) (wide : Bool) → wide_word ∷ more ≡ flag_words wide → (wide ≡ true) × (more ≡ [])
-flag_part more true h = (refl, same_tail wide_word wide_word more [] h)
-flag_part more false h = absurd (cons_not_nil wide_word more h)
+flag_part more a h = grind (arith, same_tail, cons_not_nil)
 
 no_flag : (wide : Bool) → [] ≡ flag_words wide → wide ≡ false
-no_flag true h = absurd (no_cons wide_word [] h)
-no_flag false h = refl
+no_flag a h = grind (arith, no_cons)
 
 writes_first : (value : Text) (values : List Text) (o : Option ℕ) → WritesAtMostOne (value ∷ values) o
     → (values ≡ []) × (is_some (number_below (2 ^ 64) value) ≡ true) × (o ≡ number_below (2 ^ 64) value)
-writes_first value values None h = absurd (cons_not_nil value values h)
-writes_first value values (Some n) (v, same, is) = grind (arith, same_head, same_tail)
+writes_first value values a h = grind (arith, cons_not_nil, same_head, same_tail)
 
 -- the file that a part names is named by a file's name
 file_part : (name : Text) (names : List Text) (o : Option (Bor Text)) → name ∷ names ≡ at_most_one o → IsNamed o
     → (is_file_name name ≡ true) × (names ≡ []) × (at_most_one o ≡ name ∷ [])
-file_part name names None h named = absurd (cons_not_nil name names h)
-file_part name names (Some word) h named = grind (arith, same_head, same_tail)
+file_part name names a h named = grind (arith, cons_not_nil, same_head, same_tail)
 
 -- what an option's part leaves
 record Leaves (choice : Choice) (value : Text) (parts : List Part) (given : Given) : Type 0 where
@@ -274,8 +253,7 @@ agrees-number : (choice : Choice) (value : Text) (old new given : Given) → Agr
 agrees-number choice value old new given same is set = grind (arith, file_kept, same_or_not, number_same, number_other, wide_kept)
 
 no_file-of : (o : Option (Bor Text)) → at_most_one o ≡ [] → o ≡ None
-no_file-of None h = refl
-no_file-of (Some word) h = absurd (cons_not_nil word.now [] h)
+no_file-of a h = grind (arith, cons_not_nil)
 
 agrees-file : (name : Text) (old new given : Given) → Agrees old (without_file given) → at_most_one given.file ≡ name ∷ [] → SetsFile old name new → Agrees new given
 agrees-file name old new given same is set = grind (arith, numbers_kept)
@@ -284,14 +262,12 @@ agrees-wide : (old new given : Given) → Agrees old (without_wide given) → gi
 agrees-wide old new given same is set = grind (arith, numbers_by-wide)
 
 both-some : (r : Option Given) (P Q : Given → Type 0) → is_some r ≡ true → IfSome r P → ((x : Given) → P x → Q x) → IsSomeAnd r Q
-both-some None P Q some h on = cc some
-both-some (Some x) P Q some h on = on x h
+both-some a b d some h on = grind (arith)
 
 -- ---- the words that are read, behind references
 
 unwritten : (o : Option ℕ) → WritesAtMostOne [] o → o ≡ None
-unwritten None h = refl
-unwritten (Some n) (value, same, is) = absurd (no_cons value [] same)
+unwritten a h = grind (arith, no_cons)
 
 -- no file, no numbers, and no wide slots
 record GivesNone (given : Given) : Type 0 where
@@ -311,8 +287,7 @@ abbrev pub nothing : Given
 nothing = record { file = None; slots = None; places = None; window = None; sessions = None; commits = None; wide = false }
 
 no_number : (choice : Choice) → number_at choice nothing ≡ None
-no_number Slots = refl
-no_number _ = refl
+no_number a = grind (arith)
 
 pub nothing_given : (words : List (Bor Text)) (given : Given) → length words ≡ 0 → AreGiven (texts words) given → Agrees nothing given
 nothing_given words given none (parts, spelled, shown) =
@@ -354,9 +329,7 @@ joined_rest words rest first value choice given e1 name (parts, spelled, shown) 
 -- the word for wide slots
 pub wide_rest : (words rest : List (Bor Text)) (first : Bor Text) (given : Given)
     → words ≡ first ∷ rest → first.now ≡ wide_word → AreGiven (texts words) given → Flagged (texts rest) given
-wide_rest words rest first given e1 name (parts, spelled, shown) =
-    let all : texts words ≡ wide_word ∷ texts rest = ap texts e1 ∙ ap (λ w. w ∷ texts rest) name in
-    as_wide (texts rest) parts given (spelled ∙ all) shown
+wide_rest words rest first given e1 name (parts, spelled, shown) = grind (arith, as_wide)
 
 -- a word that is none of these
 pub file_rest : (words rest : List (Bor Text)) (first : Bor Text) (given : Given)
@@ -383,6 +356,4 @@ pub agrees_name : (name : Text) (words : List Text) (old given : Given) (r : Opt
     → Filed name words given → Agrees old (without_file given)
     → (old.file ≡ None → is_file_name name ≡ true → is_some r ≡ true) → IfSome r (SetsFile old name)
     → IsSomeAnd r (λ found. Agrees found given)
-agrees_name name words old given r f same may sets =
-    both-some r (SetsFile old name) (λ found. Agrees found given) (may (no_file-of old.file same.file) f.named) sets
-    (λ new set. agrees-file name old new given same f.is set)
+agrees_name name words old given r f same may sets = grind (arith, both-some, no_file-of, agrees-file)

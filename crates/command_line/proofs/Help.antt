@@ -1,7 +1,7 @@
 -- What the command line is, as clap's statements take it, and which kinds of error answer with help.
-use Rattle.std.proofs.Common.{◌≡◌, ◌⊎◌, IfOk, IsOkAnd, Result, Ok, Err, Bool, true, false, not, ◌&&◌, List, [], ◌∷◌, ◌++◌, sym, ◌∙◌, ap, subst, inl, inr, refl, arith}
+use Rattle.std.proofs.Common.{◌≡◌, ◌⊎◌, IfOk, IsOkAnd, Result, Bool, true, false, not, ◌&&◌, List, [], ◌∷◌, ◌++◌, ◌∙◌, ap, subst, arith}
 use Rattle.std.proofs.lemmas.Result.{IfOk-weaker}
-use Rattle.clap.specs.Words.{AddsArg, AddsSubcommand, App, IsAmong, Kinds, Rule, Shape, app_of, fault_of, rule_of, shape_of, with_rule, with_subcommand}
+use Rattle.clap.specs.Words.{AddsArg, AddsSubcommand, App, IsAmong, Rule, Shape, app_of, fault_of, rule_of, shape_of, with_rule, with_subcommand}
 use Rattle.std.specs.declared.alloc.AllocError.{AllocError}
 use Rattle.clap.specs.declared.builder.arg.Arg.{Arg}
 use Rattle.clap.specs.declared.builder.command.Command.{Command}
@@ -11,7 +11,6 @@ use Rattle.clap.specs.declared.error.kind.ErrorKind.TheVariants.{DisplayHelp}
 use Rattle.command_line.specs.Help.{AnswersHelp, ReportsKind, app_with, subcommand_shape, wbl}
 use Rattle.command_line.specs.Numbers.{Text}
 use Rattle.command_line.specs.declared.orders.WordFault.{WordFault}
-use Rattle.command_line.specs.declared.orders.WordFault.TheVariants.{Help, BadWords, OutOfMemory}
 
 module _ (name : Text) (rules : List Rule) (rule : Rule) where
   adds-rule : (old : Command) (a : Arg) (new : Command) → AddsArg old a new → a.global ≡ false → rule_of a ≡ rule → app_of old ≡ app_with name rules
@@ -26,9 +25,7 @@ module _ (name : Text) (rules : List Rule) (rule : Rule) where
   pub with-arg : (made : Result Command AllocError) (a : Arg) (next : Result Command AllocError) → IfOk next (λ new. IsOkAnd made (λ old. AddsArg old a new))
       → a.global ≡ false → rule_of a ≡ rule → IfOk made (λ old. app_of old ≡ app_with name rules)
       → IfOk next (λ new. app_of new ≡ app_with name (rules ++ rule ∷ []))
-  with-arg (Ok old) a next adds local is was = IfOk-weaker next _ _ (λ new added. adds-rule old a new added local is was) adds
-  with-arg (Err e) a (Ok new) adds local is was = elim adds [ ]
-  with-arg (Err e) a (Err none) adds local is was = tt
+  with-arg b a next adds local is was = grind (arith, adds-rule)
 
   pub one-arg : (a : Arg) (made : Result Command AllocError) → IfOk made (λ new. app_of new ≡ app_with name (rule_of a ∷ [])) → rule_of a ≡ rule
       → IfOk made (λ new. app_of new ≡ app_with name (rule ∷ []))
@@ -41,10 +38,7 @@ shape-made name rules made is = IfOk-weaker made _ _ (λ command app. ap (λ (a 
 
 -- a shape that is plain has no global argument
 globals-off : (a b c d : Bool) → (a && (b && (not c && d))) ≡ true → c ≡ false
-globals-off true true false d plain = refl
-globals-off true true true d plain = cc plain
-globals-off true false c d plain = cc plain
-globals-off false b c d plain = cc plain
+globals-off a b c d plain = grind (arith)
 
 module _ (a : App) (s : Shape) where
   adds-sub : (old sub new : Command) → AddsSubcommand old sub new → shape_of sub ≡ s → s.is_plain ≡ true → app_of old ≡ a → app_of new ≡ with_subcommand a s
@@ -53,27 +47,15 @@ module _ (a : App) (s : Shape) where
   pub with-sub : (made sub next : Result Command AllocError) → IfOk next (λ new. IsOkAnd made (λ old. IsOkAnd sub (λ added. AddsSubcommand old added new)))
       → IfOk sub (λ command. shape_of command ≡ s) → s.is_plain ≡ true → IfOk made (λ command. app_of command ≡ a)
       → IfOk next (λ command. app_of command ≡ with_subcommand a s)
-  with-sub (Ok old) (Ok sub) next adds is plain was = IfOk-weaker next _ _ (λ new added. adds-sub old sub new added is plain was) adds
-  with-sub (Ok old) (Err e) (Ok new) adds is plain was = elim adds [ ]
-  with-sub (Err e) sub (Ok new) adds is plain was = elim adds [ ]
-  with-sub (Ok old) (Err e) (Err none) adds is plain was = tt
-  with-sub (Err e) sub (Err none) adds is plain was = tt
+  with-sub a sub next adds is plain was = grind (arith, adds-sub)
 
 -- ---- the answer
 
 pub answers : (words : List Text) (is : ErrorKind) (fault : WordFault) → ReportsKind is fault → (is ≡ kind.OutOfMemory) ⊎ IsAmong is (fault_of wbl words)
     → AnswersHelp words fault
-answers words is (Help text) help (inl memory) = let clash : DisplayHelp ≡ kind.OutOfMemory = sym help ∙ memory in cc clash
-answers words is (Help text) help (inr among) = subst (λ (k : ErrorKind). IsAmong k (fault_of wbl words)) help among
-answers words is (BadWords text) bad (inl memory) = λ alone. bad.1 memory
-answers words is (BadWords text) bad (inr among) = λ alone.
-    let met : IsAmong is (DisplayHelp ∷ []) = subst (λ (kinds : Kinds). IsAmong is kinds) alone among in
-    elim met [ inl same ↦ bad.0 same | inr none ↦ none ]
-answers words is (OutOfMemory error) told met = tt
+answers words is a help met = grind (arith)
 
 -- where the words have no fault, bad words are blamed for being unusual
 pub unusual : (words : List Text) (is : ErrorKind) (fault : WordFault) → ReportsKind is fault → is ≡ kind.InvalidValue → fault_of wbl words ≡ []
     → AnswersHelp words fault
-unusual words is (Help text) help same none = let clash : DisplayHelp ≡ kind.InvalidValue = sym help ∙ same in cc clash
-unusual words is (BadWords text) bad same none = λ alone. let clash : DisplayHelp ∷ [] ≡ [] = sym alone ∙ none in cc clash
-unusual words is (OutOfMemory error) told same none = tt
+unusual words is a help same none = grind (arith)

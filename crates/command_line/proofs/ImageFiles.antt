@@ -14,11 +14,7 @@ holds_words file words old n len size read = grind (arith, take-append-le, take-
 -- the bytes of these words are eight for each
 bytes-size : (words : List ℕ) → length (bytes_of_words words) ≡ 8 * length words
 bytes-size [] = refl
-bytes-size (word ∷ words) =
-    let rest = bytes-size words in
-    let all = length-append (little_bytes 8 word) (bytes_of_words words) in
-    let one = length-bytes_low_first 0 8 word in
-    omega arith
+bytes-size (word ∷ words) = grind (arith, bytes-size words, length-append)
 
 -- from each word on they are that word's
 bytes-at : (words : List ℕ) → ((k : ℕ) → k < length words → slice_index words k < 2 ^ 64)

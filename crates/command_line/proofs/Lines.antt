@@ -44,9 +44,7 @@ line_of_words-first (a ∷ b ∷ c ∷ d ∷ e ∷ f ∷ words) = refl
 
 neither-so : {A : Type 0} (skipped outer : Bool) (read : Option A) (spelled : Option A) → skipped ≡ false → outer ≡ false → read ≡ spelled
     → (if skipped then Some None else if outer then None else option_map (λ (x : A). Some x) read) ≡ option_map (λ (x : A). Some x) spelled
-neither-so false false read spelled s o h = ap (option_map (λ x. Some x)) h
-neither-so true outer read spelled s o h = cc s
-neither-so false true read spelled s o h = cc o
+neither-so a outer read spelled s o h = grind (arith)
 
 pub line-so : (line : Text) (words : List Text) (spelled : Option Command) → is_skipped line ≡ false → has_outer_space line ≡ false → words ≡ take 6 (words_of line)
     → command_of words ≡ spelled → line_of line ≡ option_map (λ command. Some command) spelled

@@ -1,5 +1,5 @@
 -- What one more part of a command line sets.
-use Rattle.std.proofs.Common.{◌≡◌, ◌≢◌, ◌⊎◌, ◌^◌, ℕ, Bool, List, [], ◌∷◌, ◌++◌, true, false, Option, Some, None, refl, sym, ◌∙◌, ap, subst, inl, inr, is_some, unwrap_or, Bor, arith}
+use Rattle.std.proofs.Common.{◌≡◌, ◌≢◌, ◌⊎◌, ◌^◌, ℕ, Bool, List, [], ◌∷◌, ◌++◌, true, Option, None, sym, ◌∙◌, ap, is_some, unwrap_or, Bor, arith}
 use Rattle.command_line.specs.Lines.{texts}
 use Rattle.std.specs.List.{flat_map}
 use Rattle.command_line.specs.Numbers.{Text, number_below}
@@ -12,84 +12,53 @@ use Rattle.command_line.specs.declared.orders.Choice.TheVariants.{Slots, Places,
 -- ---- the options
 
 pub each_choice : (P : Choice → Type 0) → P Slots → P Places → P Window → P Sessions → P Commits → (choice : Choice) → P choice
-each_choice P a b c d e Slots = a
-each_choice P a b c d e Places = b
-each_choice P a b c d e Window = c
-each_choice P a b c d e Sessions = d
-each_choice P a b c d e Commits = e
+each_choice f a b c d e h = grind (arith)
 
 pub same_or_not : (asked choice : Choice) → (asked ≡ choice) ⊎ (asked ≢ choice)
-same_or_not Slots Slots = inl refl
-same_or_not Places Places = inl refl
-same_or_not Window Window = inl refl
-same_or_not Sessions Sessions = inl refl
-same_or_not Commits Commits = inl refl
-same_or_not _ _ = inr (λ same. cc same)
+same_or_not a b = grind (arith)
 
 pub value_same : (choice : Choice) (value : Text) → value_for choice choice value ≡ value ∷ []
-value_same Slots value = refl
-value_same _ value = refl
+value_same a value = grind (arith)
 
 pub value_other : (asked choice : Choice) (value : Text) → asked ≢ choice → value_for asked choice value ≡ []
-value_other Slots Slots value other = absurd (other refl)
-value_other Places Places value other = absurd (other refl)
-value_other Window Window value other = absurd (other refl)
-value_other Sessions Sessions value other = absurd (other refl)
-value_other Commits Commits value other = absurd (other refl)
-value_other _ _ value other = refl
+value_other a b value other = grind (arith)
 
 pub number_same : (choice : Choice) (number : Option ℕ) (given : Given) → number_at choice (with_number choice number given) ≡ number
-number_same Slots number given = refl
-number_same _ number given = refl
+number_same a number given = grind (arith)
 
 pub number_other : (asked choice : Choice) (number : Option ℕ) (given : Given) → asked ≢ choice
     → number_at asked (with_number choice number given) ≡ number_at asked given
-number_other Slots Slots number given other = absurd (other refl)
-number_other Places Places number given other = absurd (other refl)
-number_other Window Window number given other = absurd (other refl)
-number_other Sessions Sessions number given other = absurd (other refl)
-number_other Commits Commits number given other = absurd (other refl)
-number_other _ _ number given other = refl
+number_other a b number given other = grind (arith)
 
 pub file_kept : (choice : Choice) (number : Option ℕ) (given : Given) → (with_number choice number given).file ≡ given.file
-file_kept Slots number given = refl
-file_kept _ number given = refl
+file_kept a number given = grind (arith)
 
 pub wide_kept : (choice : Choice) (number : Option ℕ) (given : Given) → (with_number choice number given).wide ≡ given.wide
-wide_kept Slots number given = refl
-wide_kept _ number given = refl
+wide_kept a number given = grind (arith)
 
 pub numbers_by-wide : (wide : Bool) (given : Given) (choice : Choice) → number_at choice (record given { wide = wide }) ≡ number_at choice given
-numbers_by-wide wide given Slots = refl
-numbers_by-wide wide given _ = refl
+numbers_by-wide wide given a = grind (arith)
 
 pub numbers_kept : (old new : Given) → new ≡ record old { file = new.file } → (choice : Choice) → number_at choice new ≡ number_at choice old
-numbers_kept old new same Slots = ap (number_at Slots) same
-numbers_kept old new same Places = ap (number_at Places) same
-numbers_kept old new same Window = ap (number_at Window) same
-numbers_kept old new same Sessions = ap (number_at Sessions) same
-numbers_kept old new same Commits = ap (number_at Commits) same
+numbers_kept old new same a = grind (arith)
 
 -- ---- the parts
 
 none_given : (values : List Text) (o : Option ℕ) → o ≡ None → WritesAtMostOne values o → values ≡ []
-none_given values None e h = h
-none_given values (Some n) e h = cc
+none_given values a e h = grind (arith)
 
 kept : (values : List Text) (old new : Option ℕ) → new ≡ old → WritesAtMostOne values old → WritesAtMostOne values new
 kept values old new e h = rw e h
 
 named_file : (o : Option (Bor Text)) (name : Text) → at_most_one o ≡ name ∷ [] → is_file_name name ≡ true → IsNamed o
-named_file None name e h = tt
-named_file (Some word) name e h = let same : word.now ≡ name = cc in rw same h
+named_file a name e h = grind (arith)
 
 still_named : (old new : Option (Bor Text)) → new ≡ old → IsNamed old → IsNamed new
 still_named old new e h = rw e h
 
 pub has_number : (parts : List Part) (choice : Choice) (default : ℕ) (o : Option ℕ) → WritesAtMostOne (flat_map (value_of choice) parts) o
     → HasNumber parts choice default (unwrap_or o default)
-has_number parts choice default None h = inl (h, refl)
-has_number parts choice default (Some n) h = inr h
+has_number parts choice default a h = grind (arith)
 
 -- the file goes before what the rest shows
 pub shows_file : (words : List Text) (name : Text) (old new : Given) → AreGiven words old → SetsFile old name new → AreGiven (name ∷ words) new
@@ -123,8 +92,7 @@ shows_wide words old new (parts, spelled, shown) set = (
 
 -- one value that is a number
 writes_one : (value : Text) (o : Option ℕ) → is_some (number_below (2 ^ 64) value) ≡ true → o ≡ number_below (2 ^ 64) value → WritesAtMostOne (value ∷ []) o
-writes_one value None writes is = let none : is_some (number_below (2 ^ 64) value) ≡ false = ap is_some (sym is) in cc (writes, none)
-writes_one value (Some n) writes is = (value, refl, sym is)
+writes_one value a writes is = grind (arith)
 
 -- the numbers of a part with a number, before the rest
 numbers : (choice : Choice) (value : Text) (parts : List Part) (old new : Given) → Shows parts old → SetsNumber old choice value new
@@ -169,34 +137,17 @@ shows_joined words choice value old new (parts, spelled, shown) set =
 pub spaced_words : (words rest more : List (Bor Text)) (first value : Bor Text) (choice : Choice) (old new : Given)
     → words ≡ first ∷ rest → rest ≡ value ∷ more → first.now ≡ option_word choice
     → AreGiven (texts more) old → SetsNumber old choice value.now new → AreGiven (texts words) new
-spaced_words words rest more first value choice old new e1 e2 name given set =
-    let all : texts words ≡ option_word choice ∷ value.now ∷ texts more =
-    ap texts e1 ∙ (ap (λ ws. first.now ∷ texts ws) e2 ∙ ap (λ w. w ∷ value.now ∷ texts more) name) in
-    let shown : AreGiven (option_word choice ∷ value.now ∷ texts more) new = shows_spaced (texts more) choice value.now old new given set in
-    let P : List Text → Type 0 = λ ws. AreGiven ws new in
-    subst P (sym all) shown
+spaced_words words rest more first value choice old new e1 e2 name given set = grind (arith, shows_spaced (texts more) choice value.now old new given set)
 
 pub joined_words : (words rest : List (Bor Text)) (first : Bor Text) (value : Text) (choice : Choice) (old new : Given)
     → words ≡ first ∷ rest → first.now ≡ option_word choice ++ 61 ∷ value
     → AreGiven (texts rest) old → SetsNumber old choice value new → AreGiven (texts words) new
-joined_words words rest first value choice old new e1 name given set =
-    let all : texts words ≡ (option_word choice ++ 61 ∷ value) ∷ texts rest = ap texts e1 ∙ ap (λ w. w ∷ texts rest) name in
-    let shown : AreGiven ((option_word choice ++ 61 ∷ value) ∷ texts rest) new = shows_joined (texts rest) choice value old new given set in
-    let P : List Text → Type 0 = λ ws. AreGiven ws new in
-    subst P (sym all) shown
+joined_words words rest first value choice old new e1 name given set = grind (arith, shows_joined (texts rest) choice value old new given set)
 
 pub file_words : (words rest : List (Bor Text)) (first : Bor Text) (old new : Given)
     → words ≡ first ∷ rest → AreGiven (texts rest) old → SetsFile old first.now new → AreGiven (texts words) new
-file_words words rest first old new e1 given set =
-    let all : texts words ≡ first.now ∷ texts rest = ap texts e1 in
-    let shown : AreGiven (first.now ∷ texts rest) new = shows_file (texts rest) first.now old new given set in
-    let P : List Text → Type 0 = λ ws. AreGiven ws new in
-    subst P (sym all) shown
+file_words words rest first old new e1 given set = grind (arith, shows_file (texts rest) first.now old new given set)
 
 pub wide_words : (words rest : List (Bor Text)) (first : Bor Text) (old new : Given)
     → words ≡ first ∷ rest → first.now ≡ wide_word → AreGiven (texts rest) old → SetsWide old new → AreGiven (texts words) new
-wide_words words rest first old new e1 name given set =
-    let all : texts words ≡ wide_word ∷ texts rest = ap texts e1 ∙ ap (λ w. w ∷ texts rest) name in
-    let shown : AreGiven (wide_word ∷ texts rest) new = shows_wide (texts rest) old new given set in
-    let P : List Text → Type 0 = λ ws. AreGiven ws new in
-    subst P (sym all) shown
+wide_words words rest first old new e1 name given set = grind (arith, shows_wide (texts rest) old new given set)

@@ -1,6 +1,6 @@
 -- Words that give an order are no others: which subcommand they name, and what its file and options are.
 use Rattle.std.proofs.Common.{◌≡◌, ◌≤◌, ℕ, Bool, List, [], ◌∷◌, true, false, Option, Some, None, refl, sym, ◌∙◌, ap, subst, inl, inr, unwrap_or, codes, is_some, slice_index, arith, Bor}
-use Rattle.std.specs.Prelude.{IfNone, IsOk, Result, Ok, Err, is_err, ◌↔◌}
+use Rattle.std.specs.Prelude.{IfNone, IsOk, Result, is_err, ◌↔◌}
 use Rattle.std.specs.List.{flat_map}
 use Rattle.base.specs.Layout.{is_in_limits}
 use Rattle.command_line.specs.Lines.{texts}
@@ -26,8 +26,7 @@ initial (Lives name) = 108
 initial (Threads name sessions commits) = 116
 
 begins : (order : Order) (word : Text) → subcommand_of order ≡ word → initial order ≡ slice_index word 0
-begins (Format name wide slots places window) word is = ap (λ (w : Text). slice_index w 0) is
-begins order word is = ap (λ (w : Text). slice_index w 0) is
+begins order word is = grind (arith)
 
 -- ---- what is found by a reader that agrees with all that the words give
 
@@ -116,12 +115,10 @@ pub out_of_limits : (found : Given) (a b c : ℕ) → a ≡ unwrap_or found.slot
 out_of_limits found a b c ea eb ec never name wide slots places window f = grind arith
 
 pub not_in_limits : {A B : Type 0} (r : Result A B) (P : Type 0) → IsOk r ↔ P → is_err r ≡ true → P → ⊥
-not_in_limits (Ok x) P limits bad p = cc bad
-not_in_limits (Err e) P limits bad p = let good : false ≡ true = limits.1 p in cc good
+not_in_limits a b limits bad p = grind (arith)
 
 pub in_limits : {A B : Type 0} (r : Result A B) (P : Type 0) → IsOk r ↔ P → is_err r ≡ false → P
-in_limits (Ok x) P limits good = limits.0 refl
-in_limits (Err e) P limits good = cc good
+in_limits a b limits good = grind (arith)
 
 -- ---- threads
 
@@ -218,14 +215,11 @@ pub taken : (o : Option ℕ) → is_some o ≡ true → o ≡ None → ⊥
 taken o some none = let never : is_some o ≡ false = ap is_some none in cc (some, never)
 
 pub none_so : (o : Option Order) (P : Type 0) → o ≡ None → P → IfNone o P
-none_so None P e p = p
-none_so (Some order) P e p = tt
+none_so a b e p = grind (arith)
 
 -- ---- the subcommand
 
 -- the words begin with this one
 named : (words rest : List (Bor Text)) (first : Bor Text) (other : Text) (more : List Text) → words ≡ first ∷ rest → texts words ≡ other ∷ more
     → (other ≡ first.now) × (texts rest ≡ more)
-named words rest first other more e1 e =
-    let all : first.now ∷ texts rest ≡ other ∷ more = sym (ap texts e1) ∙ e in
-    (sym (same_head first.now other (texts rest) more all), same_tail first.now other (texts rest) more all)
+named words rest first other more e1 e = grind (arith, same_head, same_tail)

@@ -1,5 +1,5 @@
 -- A row's text reads as the row, and no other text does.
-use Rattle.std.proofs.Common.{◌≡◌, ◌≢◌, ℕ, zero, suc, nat_le, ◌-◌, ◌+◌, ◌*◌, ◌/◌, ◌%◌, ◌<◌, Bool, true, false, not, ◌&&◌, ◌||◌, ◌==◌, List, [], ◌∷◌, Option, Some, None, Result, Ok, Err, length, slice_index, codes, refl, sym, ◌∙◌, ap, arith, inl, inr, is_some, unwrap_or, if◌then◌else◌}
+use Rattle.std.proofs.Common.{◌≡◌, ◌≢◌, ℕ, zero, suc, nat_le, ◌-◌, ◌+◌, ◌*◌, ◌/◌, ◌%◌, ◌<◌, Bool, true, false, not, ◌&&◌, ◌||◌, ◌==◌, List, [], ◌∷◌, Option, Some, None, Result, Ok, length, slice_index, codes, refl, sym, ◌∙◌, ap, arith, is_some, unwrap_or, if◌then◌else◌}
 use Rattle.std.proofs.lemmas.Bool.{cases_eq, eqb-true, not-true, or_parts, and_parts, false_from_ne_true}
 use Rattle.std.proofs.lemmas.Slice.Eq.{bytes_eq-Decides}
 use Rattle.std.proofs.lemmas.List.Sums.{AllPass-from_list_all, list_all-from_AllPass}
@@ -20,12 +20,7 @@ all_below (suc n) p = p n && all_below n p
 
 all_below-at : (n : ℕ) (p : ℕ → Bool) (k : ℕ) → k < n → all_below n p ≡ true → p k ≡ true
 all_below-at zero p k lt h = absurd (omega arith)
-all_below-at (suc n) p k lt h =
-    let parts = and_parts (p n) (all_below n p) h in
-    elim (cases_eq k n) [
-      | inl same ↦ rw same parts.0
-      | inr other ↦ all_below-at n p k (omega arith) parts.1
-    ]
+all_below-at (suc n) p k lt h = grind (arith, and_parts, cases_eq, all_below-at n p k)
 
 -- the digit of a value is the character that has it, unless that is in upper case
 abbrev is_digit_back : ℕ → Bool
@@ -49,12 +44,10 @@ digit_is_lower d lt = not-true _ (all_below-at 16 is_lower_digit_at d lt refl)
 
 bind_ok : {A B : Type 0} (r : Result A FromHexError) (f : A → Result B FromHexError) (y : B)
     → (r >>= f) ≡ Ok y → (x : A) × (r ≡ Ok x) × (f x ≡ Ok y)
-bind_ok (Ok x) f y h = (x, refl, h)
-bind_ok (Err e) f y h = cc h
+bind_ok a f y h = grind (arith)
 
 digit_read : (c i : ℕ) (o : Option ℕ) (v : ℕ) → digit_or_error c i o ≡ Ok v → o ≡ Some v
-digit_read c i (Some w) v h = ap Some (ap (λ (r : Result ℕ FromHexError). result_unwrap_or r 0) h)
-digit_read c i None v h = cc h
+digit_read c i a v h = grind (arith)
 
 digit-small : (c v : ℕ) → hex_digit_value c ≡ Some v → v < 16
 digit-small c v h = grind (arith)
@@ -91,8 +84,7 @@ encode-decode s bytes h low =
     encode-decode_pairs 0 s bytes (sym (decode_of-even s (decode_of-ok s bytes h).0) ∙ h) low
 
 result_was : (r : Result (List ℕ) FromHexError) (bytes : List ℕ) → result_ok r ≡ Some bytes → r ≡ Ok bytes
-result_was (Ok x) bytes h = ap Ok (ap (λ o. unwrap_or o []) h)
-result_was (Err e) bytes h = cc h
+result_was a bytes h = grind (arith)
 
 text_of_digits : (text bytes : List ℕ) → length text ≢ 0 → decode_of text ≡ Ok bytes → list_any is_ascii_uppercase text ≡ false → text ≡ row_text bytes
 text_of_digits text [] some h low = let size = (decode_of-ok text [] h).2 in absurd (some (omega (arith, size)))
@@ -101,13 +93,7 @@ text_of_digits text (byte ∷ bytes) some h low = sym (encode-decode text (byte 
 spelled_by : (text bytes : List ℕ) (dash bad : Bool) → (dash ≡ true → text ≡ codes "-")
     → (bad ≡ false → (length text ≢ 0) × (list_any is_ascii_uppercase text ≡ false))
     → (if dash then Some [] else if bad then None else result_ok (decode_of text)) ≡ Some bytes → text ≡ row_text bytes
-spelled_by text bytes true bad d b h =
-    let e : [] ≡ bytes = ap (λ o. unwrap_or o []) h in
-    rw (← e) (d refl)
-spelled_by text bytes false true d b h = cc h
-spelled_by text bytes false false d b h =
-    let good = b refl in
-    text_of_digits text bytes good.0 (result_was (decode_of text) bytes h) good.1
+spelled_by text bytes a bad d b h = grind (arith, text_of_digits, result_was)
 
 -- the row that is read is the one that is written
 pub row_of-spelled : (text bytes : List ℕ) → row_of text ≡ Some bytes → text ≡ row_text bytes
@@ -129,21 +115,12 @@ row_of-row_text [] h = refl
 row_of-row_text (b ∷ rest) h = grind (arith, length-encode_with, false_from_ne_true, bytes_eq-Decides, eqb-true, no_upper_case, decode_of-encode_lower)
 
 pub no_row : (text : Text) → row_of text ≡ None → IsNoRow text
-no_row text none bytes h e =
-    let read : row_of text ≡ Some bytes = rw e (row_of-row_text bytes h) in
-    cc
+no_row text none bytes h e = grind (arith, row_of-row_text)
 
 -- ---- the test before memory is wanted
 
 one_of_three : (a b d : Bool) (x y z : ℕ) → is_some (if a then Some x else if b then Some y else if d then Some z else None) ≡ ((d || a) || b)
-one_of_three true true true x y z = refl
-one_of_three true true false x y z = refl
-one_of_three true false true x y z = refl
-one_of_three true false false x y z = refl
-one_of_three false true true x y z = refl
-one_of_three false true false x y z = refl
-one_of_three false false true x y z = refl
-one_of_three false false false x y z = refl
+one_of_three a b d x y z = grind (arith)
 
 hex_digit-same : (c : ℕ) → is_hex_digit c ≡ is_ascii_hexdigit c
 hex_digit-same c = one_of_three (nat_le 65 c && nat_le c 70) (nat_le 97 c && nat_le c 102) (nat_le 48 c && nat_le c 57) (c - 55) (c - 87) (c - 48)
@@ -169,14 +146,11 @@ is_hex-of text bytes h =
     rw (ok.0, digits) refl
 
 undecoded : (text : Text) (r : Result (List ℕ) FromHexError) → decode_of text ≡ r → is_hex text ≡ false → result_ok r ≡ None
-undecoded text (Ok bytes) is bad = let has = is_hex-of text bytes is in cc (has, bad)
-undecoded text (Err e) is bad = refl
+undecoded text a is bad = grind (arith, is_hex-of)
 
 row_by : (dash bad : Bool) (r : Result (List ℕ) FromHexError) (o : Option (List ℕ)) → dash ≡ false → bad ≡ false → result_ok r ≡ o
     → (if dash then Some [] else if bad then None else result_ok r) ≡ o
-row_by false false r o d b h = h
-row_by true bad r o d b h = cc d
-row_by false true r o d b h = cc b
+row_by a bad r o d b h = grind (arith)
 
 -- a text that isn't one is no row
 pub no_hex-no_row : (text : Text) → bytes_eq text (codes "-") ≡ false → (length text == 0 || list_any is_ascii_uppercase text) ≡ false → is_hex text ≡ false

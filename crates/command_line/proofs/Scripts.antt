@@ -1,6 +1,6 @@
 -- How the lines of a script add up.
-use Rattle.std.proofs.Common.{◌≡◌, ◌≢◌, ℕ, ◌+◌, ◌-◌, ◌^◌, ◌<◌, suc, false, List, [], ◌∷◌, ◌++◌, length, map, take, drop, get_or, Option, Some, None, refl, sym, ◌∙◌, ap, subst, inl, inr, arith, append_assoc, append-nil, Bor}
-use Rattle.std.specs.Prelude.{min, Result, Ok, Err, IfErr, IfOk}
+use Rattle.std.proofs.Common.{◌≡◌, ◌≢◌, ℕ, ◌+◌, ◌-◌, ◌^◌, ◌<◌, suc, false, List, [], ◌∷◌, ◌++◌, length, map, take, get_or, Option, Some, None, refl, sym, ◌∙◌, ap, subst, inl, inr, arith, append_assoc, append-nil, Bor}
+use Rattle.std.specs.Prelude.{min, Result, IfErr, IfOk}
 use Rattle.std.specs.List.{flat_map}
 use Rattle.std.specs.Option.{option_to_list}
 use Rattle.std.proofs.Math.Seq.{split_at}
@@ -13,7 +13,7 @@ use Rattle.command_line.specs.Scripts.{AreReadAs, BeginScript, HasBadGeometry, I
 use Rattle.command_line.specs.declared.script.Draft.{Draft}
 use Rattle.command_line.specs.declared.script.Script.{Script}
 use Rattle.command_line.specs.declared.script.ScriptFault.{ScriptFault}
-use Rattle.command_line.specs.declared.script.ScriptFault.TheVariants.{WrongLine, BadGeometry, OutOfMemory}
+use Rattle.command_line.specs.declared.script.ScriptFault.TheVariants.{BadGeometry}
 use Rattle.command_line.specs.declared.script.ScriptLife.{ScriptLife}
 use Rattle.command_line.specs.declared.script_line.ScriptLine.{ScriptLine}
 use Rattle.command_line.specs.declared.script_line.ScriptLine.TheVariants as line
@@ -25,14 +25,7 @@ read-none = ([], refl, refl)
 
 pub read-more : (written : List Text) (lines now : List ScriptLine) (text : Text) (read : Option ScriptLine) → AreReadAs written lines → script_line_of text ≡ Some read
     → now ≡ lines ++ option_to_list read → AreReadAs (written ++ text ∷ []) now
-read-more written lines now text read (each, spelled, are) is more = (
-  each ++ read ∷ [],
-  map-append script_line_of written (text ∷ [])
-      ∙ (ap (λ l. l ++ script_line_of text ∷ []) spelled
-      ∙ (ap (λ o. map (λ r. Some r) each ++ o ∷ []) is ∙ sym (map-append (λ (r : Option ScriptLine). Some r) each (read ∷ [])))),
-  more ∙ (ap (λ l. l ++ option_to_list read) are
-      ∙ (ap (λ l. flat_map option_to_list each ++ l) (sym (append-nil (option_to_list read))) ∙ sym (flat_map-append option_to_list each (read ∷ [])))),
-)
+read-more written lines now text read (each, spelled, are) is more = grind (arith, map-append script_line_of written (text ∷ []), map-append, flat_map-append option_to_list each (read ∷ []))
 
 -- ---- lines that are added
 
@@ -68,37 +61,20 @@ out-of-lives slots places window lives one (inr (within, shut)) = let last = shu
 -- ---- why a text is no script
 
 pub wrong-by : (fault : ScriptFault) (P Q : ℕ → Type 0) → ((number : ℕ) → P number → Q number) → IfWrongLine P fault → IfWrongLine Q fault
-wrong-by (WrongLine number) P Q says p = says number p
-wrong-by BadGeometry P Q says p = tt
-wrong-by OutOfMemory P Q says p = tt
+wrong-by a b d says p = grind (arith)
 
 pub geometry-by : (fault : ScriptFault) (P Q : Type 0) → (P → Q) → IfBadGeometry P fault → IfBadGeometry Q fault
-geometry-by (WrongLine number) P Q says p = tt
-geometry-by BadGeometry P Q says p = says p
-geometry-by OutOfMemory P Q says p = tt
+geometry-by a b d says p = grind (arith)
 
 -- the lines of a draft are a beginning of a script
 begin-so : (draft : Option Draft) → BeginScript (lines_so_far draft)
-begin-so None = inl refl
-begin-so (Some draft) = inr (draft.slots, draft.places, draft.window, draft.lives.items, refl)
+begin-so a = grind (arith)
 
 -- the line that follows those that were read
 pub line-at : (text : Text) (yielded : List (Bor Text)) (line : Bor Text) (draft : Option Draft) (number : ℕ)
     → texts yielded ≡ take (length yielded) (script_lines text) → length yielded < length (script_lines text) → line.now ≡ get_or (script_lines text) (length yielded) line.now
     → AreReadAs (texts yielded) (lines_so_far draft) → number ≡ min (length yielded + 1) (2 ^ 64 - 1) → IsWrongAfter (lines_so_far draft) line.now → IsFirstWrongLine text number
-line-at text yielded one draft number so_far there here reads counted wrong = record {
-  before = texts yielded;
-  line = one.now;
-  later = drop (suc (length yielded)) (script_lines text);
-  stands = split_at (script_lines text) (length yielded) one.now there
-      ∙ (ap (λ l. l ++ get_or (script_lines text) (length yielded) one.now ∷ drop (suc (length yielded)) (script_lines text)) (sym so_far)
-      ∙ ap (λ l. texts yielded ++ l ∷ drop (suc (length yielded)) (script_lines text)) (sym here));
-  read = lines_so_far draft;
-  reads = reads;
-  good = begin-so draft;
-  wrong = wrong;
-  counted = rw (length-map yielded (λ s. s.now)) counted;
-}
+line-at text yielded one draft number so_far there here reads counted wrong = grind (arith, split_at (script_lines text) (length yielded) one.now there, begin-so, length-map)
 
 -- ---- the end of the text
 
@@ -118,8 +94,7 @@ no-line text yielded read is all reads =
 pub spelled-in : (text : Text) (draft : Draft) (r : Result Script ScriptFault) → AreReadAs (script_lines text) (lines_in draft)
     → IfOk r (λ script. lines_of script.geometry script.lives.items ≡ lines_in draft) → IfOk r (λ script. script.geometry.version ≡ plain_version)
     → IfOk r (λ script. SpellsScript text script.geometry script.lives.items)
-spelled-in text draft (Ok script) reads same newest = grind arith
-spelled-in text draft (Err fault) reads same newest = tt
+spelled-in text draft a reads same newest = grind (arith)
 
 -- the numbers of its image alone are wrong
 outside-is : (draft : Draft) (fault : ScriptFault) → (fault ≡ BadGeometry) × (is_in_limits (layout_with plain_version draft.slots draft.places draft.window) ≡ false)
@@ -128,13 +103,9 @@ outside-is draft fault is P p = subst P (sym is.0) p
 
 pub no-wrong-line : (draft : Draft) (Q : ℕ → Type 0) (r : Result Script ScriptFault)
     → IfErr r (λ fault. (fault ≡ BadGeometry) × (is_in_limits (layout_with plain_version draft.slots draft.places draft.window) ≡ false)) → IfErr r (IfWrongLine Q)
-no-wrong-line draft Q (Ok script) is = tt
-no-wrong-line draft Q (Err fault) is = outside-is draft fault is (IfWrongLine Q) tt
+no-wrong-line draft a b is = grind (arith, outside-is)
 
 pub outside-in : (text : Text) (draft : Draft) (r : Result Script ScriptFault) → AreReadAs (script_lines text) (lines_in draft)
     → IfErr r (λ fault. (fault ≡ BadGeometry) × (is_in_limits (layout_with plain_version draft.slots draft.places draft.window) ≡ false))
     → IfErr r (IfBadGeometry (HasBadGeometry text))
-outside-in text draft (Ok script) reads is = tt
-outside-in text draft (Err fault) reads is =
-    outside-is draft fault is (IfBadGeometry (HasBadGeometry text))
-    (record { slots = draft.slots; places = draft.places; window = draft.window; lives = draft.lives.items; lines = reads; outside = is.1 })
+outside-in text draft a reads is = grind (arith, outside-is)

@@ -1,6 +1,6 @@
 -- How a line that is no command is met, passed on and reported.
-use Rattle.std.proofs.Common.{◌≡◌, ℕ, ◌+◌, ◌-◌, ◌^◌, false, List, [], ◌∷◌, ◌++◌, length, sym, ◌∙◌, ap, subst, append-nil}
-use Rattle.std.specs.Prelude.{Option, Some, None, is_some, Result, Ok, Err, IsErrAnd, IfErr, IfSome, All, min, ⊤}
+use Rattle.std.proofs.Common.{◌≡◌, ℕ, ◌+◌, ◌-◌, ◌^◌, false, List, [], ◌∷◌, ◌++◌, length, sym, ◌∙◌, ap, subst, append-nil, arith}
+use Rattle.std.specs.Prelude.{Option, Some, None, is_some, Result, IsErrAnd, IfErr, IfSome, All, min, ⊤}
 use Rattle.std.specs.Io.KnownBytes.{Appends}
 use Rattle.base.specs.Commits.{Commit}
 use Rattle.machine.specs.Machine.{State}
@@ -38,15 +38,12 @@ passed-so line keeps none is = is ∙ ap (λ (k : Option Survivor). Some k) (is_
 -- ---- who is to blame
 
 pub bad-line-by : (stop : Stop) (P Q : ℕ → Type 0) → ((number : ℕ) → P number → Q number) → IfBadLine P stop → IfBadLine Q stop
-bad-line-by (NotACommand number) P Q says p = says number p
-bad-line-by (Refused fault) P Q says p = tt
-bad-line-by (Broken reason) P Q says p = tt
+bad-line-by a b d says p = grind (arith)
 
 -- what a `?` passes on
 pub passed_on : {T : Type 0} (r : Result T Stop) (stop : Stop) (P Q : ℕ → Type 0) → IsErrAnd r (λ y. y ≡ stop) → ((number : ℕ) → P number → Q number)
     → IfBadLine P stop → IfErr r (IfBadLine Q)
-passed_on (Ok x) stop P Q is says p = tt
-passed_on (Err y) stop P Q is says p = subst (IfBadLine Q) (sym is) (bad-line-by stop P Q says p)
+passed_on a stop b d is says p = grind (arith, bad-line-by)
 
 pub unblamed : {T : Type 0} (r : Result T Stop) (stop : Stop) (Q : ℕ → Type 0) → IsErrAnd r (λ y. y ≡ stop) → BlamesNoLine stop → IfErr r (IfBadLine Q)
 unblamed r stop Q is p = passed_on r stop (λ (number : ℕ). ⊥) Q is (λ number no. absurd no) p
@@ -106,7 +103,4 @@ pub told-so : (order : Order) (stop : Stop) (file : List ℕ) (input old mid new
     → IfBadLine (λ line. EndsAtLine order file input old mid line []) stop
     → IfSome stopped (IfBadLine (λ number. IsLineOf stop number × PrintsBadLine mid new number))
     → IfSome stopped (IfBadLine (ReportsLine order file input old new))
-told-so order stop file input old mid new None met told = tt
-told-so order stop file input old mid new (Some after) met told =
-    bad-line-by after (λ (number : ℕ). IsLineOf stop number × PrintsBadLine mid new number) (ReportsLine order file input old new)
-    (λ number t. told-by order stop file input old mid new number met t.0 t.1) told
+told-so order stop file input old mid new a met told = grind (arith, bad-line-by, told-by)

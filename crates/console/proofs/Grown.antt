@@ -1,13 +1,13 @@
 -- The history only grows by commands and lines, and the layout stays.
-use Rattle.std.proofs.Common.{◌≡◌, ℕ, suc, zero, List, [], ◌∷◌, Bool, true, false, refl, sym, ◌∙◌, ap, subst}
+use Rattle.std.proofs.Common.{◌≡◌, ℕ, suc, zero, List, [], ◌∷◌, Bool, refl, sym, ◌∙◌, subst, arith}
 use Rattle.std.specs.Prelude.{Option, Some, None, if◌then◌else◌}
 use Rattle.base.specs.declared.step.Step.{Step}
 use Rattle.base.specs.declared.step.Step.TheVariants as step
 use Rattle.base.specs.declared.step.Reply.{Reply}
 use Rattle.base.specs.declared.step.Stage.{Stage}
 use Rattle.base.specs.Commits.{Writes}
-use Rattle.machine.specs.Collecting.{is_at_slot, slot_visited, sweep_ended}
-use Rattle.machine.specs.Machine.{State, Hand, Stepped, refused, answered, memory_refused, device_failed, next_state, next_stage, is_idle, writes_of, state_drawn, state_ticked, state_ticked_on}
+use Rattle.machine.specs.Collecting.{slot_visited, sweep_ended}
+use Rattle.machine.specs.Machine.{State, Hand, Stepped, next_state, state_drawn, state_ticked, state_ticked_on}
 use Rattle.base.specs.Steps.{as_step}
 use Rattle.machine.proofs.Growth.{extends-stepped}
 use Rattle.command_line.specs.Lines.{line_of}
@@ -36,40 +36,22 @@ laid-drawn q n [] = refl
 laid-drawn q n (write ∷ writes) = refl
 
 laid-idle : (q : State) (hand : Hand) (b : Bool) → (if b then q else record q { hand = Some hand }).layout ≡ q.layout
-laid-idle q hand true = refl
-laid-idle q hand false = refl
+laid-idle q hand a = grind (arith)
 
 laid-on : (q : State) (hand : Hand) (o : Option Stage) → (state_ticked_on q hand o).layout ≡ q.layout
-laid-on q hand None = refl
-laid-on q hand (Some stage) = refl
+laid-on q hand a = grind (arith)
 
 laid-ticked : (q : State) (o : Option Hand) → (state_ticked q o).layout ≡ q.layout
-laid-ticked q None = laid-idle q _ (is_idle q)
-laid-ticked q (Some hand) = laid-on q hand (next_stage q hand)
+laid-ticked q a = grind (arith, laid-idle, laid-on)
 
 laid-visited : (q : State) (b : Bool) → (if b then slot_visited q else sweep_ended q).layout ≡ q.layout
-laid-visited q true = refl
-laid-visited q false = refl
+laid-visited q a = grind (arith)
 
 laid-next : (q : State) (one : Step) → (next_state q one).layout ≡ q.layout
-laid-next q step.Begin = refl
-laid-next q (step.Get n key) = refl
-laid-next q (step.Scan n table lo hi) = refl
-laid-next q (step.Put n key row) = refl
-laid-next q (step.Delete n key) = refl
-laid-next q (step.Draw n) = laid-drawn q n (writes_of (q.sessions n))
-laid-next q (step.Stamp n) = refl
-laid-next q (step.Poll n) = refl
-laid-next q (step.Abort n) = refl
-laid-next q (step.End n) = refl
-laid-next q step.Commit = laid-ticked q q.hand
-laid-next q step.Collect = laid-visited q (is_at_slot q)
+laid-next q a = grind (arith, laid-drawn, laid-ticked, laid-visited)
 
 laid-stepped : (q : State) (one : Step) (answer : Reply) (q' : State) → Stepped q one answer q' → q'.layout ≡ q.layout
-laid-stepped q one answer q' (refused fault is told same) = ap (λ (p : State). p.layout) same
-laid-stepped q one answer q' (answered un told is) = ap (λ (p : State). p.layout) is ∙ laid-next q one
-laid-stepped q one answer q' (memory_refused un takes told same) = ap (λ (p : State). p.layout) same
-laid-stepped q one answer q' (device_failed un operating told is) = ap (λ (p : State). p.layout) is
+laid-stepped q one answer q' a = grind (arith, laid-next)
 
 pub grows-stepped : (q : State) (one : Step) (answer : Reply) (q' : State) → Stepped q one answer q' → Grows q q'
 grows-stepped q one answer q' made = (extends-stepped q one answer q' made, laid-stepped q one answer q' made)

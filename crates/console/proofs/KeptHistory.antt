@@ -1,12 +1,12 @@
 -- How the history is kept from an opening to a stop.
-use Rattle.std.proofs.Common.{◌≡◌, ℕ, Bool, true, false, cond, nat_eq, List, [], ◌++◌, refl, sym, ◌∙◌, ap, subst, append-nil, append_assoc}
-use Rattle.std.specs.Prelude.{Option, Some, None, All}
-use Rattle.std.proofs.lemmas.List.Elements.{All-nil, All-cons, All-contains}
+use Rattle.std.proofs.Common.{◌≡◌, ℕ, List, [], ◌++◌, refl, sym, ◌∙◌, ap, subst, append-nil, append_assoc, arith}
+use Rattle.std.specs.Prelude.{Option, All}
+use Rattle.std.proofs.lemmas.List.Elements.{All-cons, All-contains}
 use Rattle.base.specs.declared.step.Step.{Step}
 use Rattle.base.specs.declared.step.Reply.{Reply}
 use Rattle.base.specs.Commits.{Commit}
 use Rattle.base.specs.Images.{Image, layout_of}
-use Rattle.base.specs.Layout.{Layout, opened_layout, opened_version, plain_version}
+use Rattle.base.specs.Layout.{Layout, opened_layout}
 use Rattle.machine.specs.Machine.{State, Stepped, Hand, Cover, StandsUnder, StandsAt, StandsClosed, drawn_of, covers_at, of_hand, present, closed, uncovered}
 use Rattle.pmem.specs.Device.{Device, restarted}
 use Rattle.pmem.specs.Words.{image_of}
@@ -54,8 +54,7 @@ abbrev Adds : State → Cover → Type 0
 Adds q cover = Extends q.history cover.commits
 
 adds-hand : (q : State) (hand : Option Hand) → All (Adds q) (of_hand q hand)
-adds-hand q None = All-nil (Adds q)
-adds-hand q (Some hand) = All-cons (Adds q) _ [] (hand.commits, refl) (All-nil (Adds q))
+adds-hand q a = grind (arith)
 
 adds-at : (q : State) → All (Adds q) (covers_at q)
 adds-at q = All-cons (Adds q) (present q) (of_hand q q.hand) (extends-none q.history) (adds-hand q q.hand)
@@ -77,14 +76,7 @@ file-restarted device image file is of = subst (λ (words : Image). IsFileOf wor
 
 -- what is open opens as it is
 opened-twice : (a : Layout) → opened_layout (opened_layout a) ≡ opened_layout a
-opened-twice a = by (nat_eq a.version 3) refl
-  where
-    by : (b : Bool) → nat_eq a.version 3 ≡ b → opened_layout (opened_layout a) ≡ opened_layout a
-    by b is = rw is (at b)
-      where
-        at : (b : Bool) → record a { version = opened_version (cond b 3 plain_version) } ≡ record a { version = cond b 3 plain_version }
-        at true = refl
-        at false = refl
+opened-twice a = grind (arith)
 
 -- a run after a run
 pub keeps-both : (first second third : List ℕ) → KeepsHistories first second → KeepsHistories second third → KeepsHistories first third

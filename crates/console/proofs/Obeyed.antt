@@ -1,5 +1,5 @@
 -- How ticks, commands and lines add up.
-use Rattle.std.proofs.Common.{◌≡◌, ℕ, ◌-◌, ◌≤◌, ◌^◌, suc, List, [], ◌∷◌, ◌++◌, ◌⊎◌, Bool, true, false, refl, sym, ◌∙◌, ap, subst, append_assoc, append-nil}
+use Rattle.std.proofs.Common.{◌≡◌, ℕ, ◌-◌, ◌≤◌, ◌^◌, suc, List, [], ◌∷◌, ◌++◌, ◌⊎◌, Bool, true, false, refl, sym, ◌∙◌, ap, append_assoc, append-nil, arith}
 use Rattle.std.specs.Prelude.{Option, Some, None}
 use Rattle.std.specs.Io.KnownBytes.{Appends}
 use Rattle.base.specs.declared.step.Step.{Step}
@@ -17,7 +17,7 @@ use Rattle.command_line.specs.declared.command.Survivor.{Survivor}
 use Rattle.console.specs.declared.lines.Outcome.{Outcome}
 use Rattle.console.specs.declared.lines.Outcome.TheVariants.{Replied, Crashed}
 use Rattle.console.specs.Kept.{Leads}
-use Rattle.console.specs.Obeyed.{Ticks, Commits, Cycles, Answers, ComesTo, Obeys, ObeysRead, ObeysLine, ObeysLines, is_busy, is_tick, reply_text}
+use Rattle.console.specs.Obeyed.{Ticks, Commits, Cycles, Answers, ComesTo, Obeys, ObeysLine, ObeysLines, is_busy, is_tick, reply_text}
 use Rattle.console.proofs.KeptHistory.{leads-nowhere, leads-by, leads-trans}
 
 -- ---- ticks
@@ -43,35 +43,25 @@ cycles-so state old new more answer few all made =
 
 pub comes-as : {D : Type 0} {G : Ghosts D} (state : D → Device) (old new : Room D G) (command actual : Command) (answer : Reply) → command ≡ actual
     → Leads state old new (λ q q'. Answers q actual answer q') → Leads state old new (λ q q'. ComesTo q command (Replied answer) q')
-comes-as state old new command actual answer is made =
-    leads-by state old new (λ (q q' : State). Answers q actual answer q') (λ (q q' : State). ComesTo q command (Replied answer) q')
-    (λ q q' a. subst (λ (k : Command). Answers q k answer q') (sym is) a) made
+comes-as state old new command actual answer is made = grind (arith, leads-by)
 
 pub obeys-reply : {D : Type 0} {G : Ghosts D} (state : D → Device) (old new : Room D G) (command : Command) (outcome : Outcome) (answer : Reply) → is_failure answer ≡ false → outcome ≡ Replied answer
     → Leads state old new (λ q q'. ComesTo q command outcome q') → Leads state old new (λ q q'. Obeys q command (reply_text answer ++ 10 ∷ []) None q')
-obeys-reply state old new command outcome answer works is made =
-    leads-by state old new (λ (q q' : State). ComesTo q command outcome q') (λ (q q' : State). Obeys q command (reply_text answer ++ 10 ∷ []) None q')
-    (λ q q' a. (Replied answer, subst (λ (o : Outcome). ComesTo q command o q') is a, (works, refl, refl))) made
+obeys-reply state old new command outcome answer works is made = grind (arith, leads-by)
 
 pub obeys-crash : {D : Type 0} {G : Ghosts D} (state : D → Device) (old new : Room D G) (command : Command) (outcome : Outcome) (keeps : Survivor) → outcome ≡ Crashed keeps
     → Leads state old new (λ q q'. ComesTo q command outcome q') → Leads state old new (λ q q'. Obeys q command [] (Some keeps) q')
-obeys-crash state old new command outcome keeps is made =
-    leads-by state old new (λ (q q' : State). ComesTo q command outcome q') (λ (q q' : State). Obeys q command [] (Some keeps) q')
-    (λ q q' a. (Crashed keeps, subst (λ (o : Outcome). ComesTo q command o q') is a, (refl, refl))) made
+obeys-crash state old new command outcome keeps is made = grind (arith, leads-by)
 
 -- ---- lines
 
 pub line-read : {D : Type 0} {G : Ghosts D} (state : D → Device) (old new : Room D G) (line said : Text) (command : Command) (keeps : Option Survivor) → line_of line ≡ Some (Some command)
     → Leads state old new (λ q q'. Obeys q command said keeps q') → Leads state old new (λ q q'. ObeysLine q line said keeps q')
-line-read state old new line said command keeps is made =
-    leads-by state old new (λ (q q' : State). Obeys q command said keeps q') (λ (q q' : State). ObeysLine q line said keeps q')
-    (λ q q' o. subst (λ (read : Option (Option Command)). ObeysRead q read said keeps q') (sym is) o) made
+line-read state old new line said command keeps is made = grind (arith, leads-by)
 
 pub line-skipped : {D : Type 0} {G : Ghosts D} (state : D → Device) (room : Room D G) (line : Text) → line_of line ≡ Some None
     → Leads state room room (λ q q'. ObeysLine q line [] None q')
-line-skipped state room line is =
-    leads-nowhere state room (λ (q q' : State). ObeysLine q line [] None q')
-    (λ q. subst (λ (read : Option (Option Command)). ObeysRead q read [] None q) (sym is) (refl, refl, refl))
+line-skipped state room line is = grind (arith, leads-nowhere)
 
 pub no-lines : {D : Type 0} {G : Ghosts D} (state : D → Device) (room : Room D G) → Leads state room room (λ q q'. ObeysLines q [] [] None q')
 no-lines state room = leads-nowhere state room (λ (q q' : State). ObeysLines q [] [] None q') (λ q. (refl, refl, refl))
@@ -79,9 +69,7 @@ no-lines state room = leads-nowhere state room (λ (q q' : State). ObeysLines q 
 pub more-lines : {D : Type 0} {G : Ghosts D} (state : D → Device) (old mid new : Room D G) (lines : List Text) (line earlier last : Text) (keeps : Option Survivor)
     → Leads state old mid (λ q m. ObeysLines q lines earlier None m) → Leads state mid new (λ m q'. ObeysLine m line last keeps q')
     → Leads state old new (λ q q'. ObeysLines q (line ∷ lines) (earlier ++ last) keeps q')
-more-lines state old mid new lines line earlier last keeps before after =
-    leads-trans state old mid new (λ (q m : State). ObeysLines q lines earlier None m) (λ (m q' : State). ObeysLine m line last keeps q')
-    (λ (q q' : State). ObeysLines q (line ∷ lines) (earlier ++ last) keeps q') (λ q m q' a b. (earlier, last, m, a, b, refl)) before after
+more-lines state old mid new lines line earlier last keeps before after = grind (arith, leads-trans)
 
 -- ---- what is said
 

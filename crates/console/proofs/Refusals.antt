@@ -1,6 +1,6 @@
 -- Which refusal ends a subcommand.
-use Rattle.std.proofs.Common.{◌≡◌, ◌⊎◌, ℕ, List, [], ◌∷◌, ◌++◌, length, true, sym, ◌∙◌, ap, subst, inl, inr, refl, append-nil}
-use Rattle.std.specs.Prelude.{Option, Some, None, IfSome, IsSome, Result, Ok, Err, IsErrAnd, IfErr}
+use Rattle.std.proofs.Common.{◌≡◌, ◌⊎◌, ℕ, List, [], ◌∷◌, ◌++◌, length, true, sym, ◌∙◌, subst, inl, inr, append-nil, arith}
+use Rattle.std.specs.Prelude.{Option, None, IfSome, IsSome, Result, IsErrAnd, IfErr}
 use Rattle.std.proofs.lemmas.Bool.{false≢true}
 use Rattle.std.specs.Io.KnownBytes.{Appends}
 use Rattle.base.specs.declared.fault.Fault.{Fault}
@@ -33,20 +33,16 @@ use Rattle.console.proofs.Lives.{begun-of}
 use Rattle.console.proofs.Obeyed.{appends-more, appends-none}
 
 pub fault-by : (stop : Stop) (P Q : Fault → Type 0) → ((fault : Fault) → P fault → Q fault) → IfRefused P stop → IfRefused Q stop
-fault-by (Refused fault) P Q says p = says fault p
-fault-by (NotACommand number) P Q says p = tt
-fault-by (Broken reason) P Q says p = tt
+fault-by a b d says p = grind (arith)
 
 -- what a `?` passes on
 pub fault-on : {T : Type 0} (r : Result T Stop) (stop : Stop) (P Q : Fault → Type 0) → IsErrAnd r (λ y. y ≡ stop) → ((fault : Fault) → P fault → Q fault)
     → IfRefused P stop → IfErr r (IfRefused Q)
-fault-on (Ok x) stop P Q is says p = tt
-fault-on (Err y) stop P Q is says p = subst (IfRefused Q) (sym is) (fault-by stop P Q says p)
+fault-on a stop b d is says p = grind (arith, fault-by)
 
 -- nothing is printed beside the one or the other
 pub unprinted : {A B : Type 0} (printed : Option Text) → A ⊎ B → A ⊎ ((printed ≡ printed) × B)
-unprinted printed (inl a) = inl a
-unprinted printed (inr b) = inr (refl, b)
+unprinted printed d = grind (arith)
 
 -- nothing is printed
 pub appends-same : (old new : Option Text) → new ≡ old → Appends old new []
@@ -104,34 +100,23 @@ pub refused-so : (order : Order) (stop : Stop) (file : List ℕ) (input old mid 
     → IfRefused (λ why. (why ≡ OutOfMemory) ⊎ EndsRefused order file input old mid why []) stop
     → IfSome stopped (IfRefused (λ fault. IsFaultOf stop fault × Appends mid new (refusal_line fault)))
     → IfSome stopped (IfRefused (Refuses order file input old new))
-refused-so order stop file input old mid new None met told = tt
-refused-so order stop file input old mid new (Some after) met told =
-    fault-by after (λ (fault : Fault). IsFaultOf stop fault × Appends mid new (refusal_line fault)) (Refuses order file input old new)
-    (λ fault t. refused-by order stop file input old mid new fault met t.0 t.1) told
+refused-so order stop file input old mid new a met told = grind (arith, fault-by, refused-by)
 
 ends-with : (mid new : Option Text) (line : Text) → IsSome mid → Appends mid new line → EndsWith new line
-ends-with None new line known says = absurd (false≢true known)
-ends-with (Some before) None line known says = tt
-ends-with (Some before) (Some text) line known says = (before, says)
+ends-with a new line known says = grind (arith, false≢true)
 
 -- the line of the refusal is the last, where all bytes are known
 pub refused-last : (stop : Stop) (mid new : Option Text) (stopped : Option Stop) → IsSome mid
     → IfSome stopped (IfRefused (λ fault. IsFaultOf stop fault × Appends mid new (refusal_line fault)))
     → IfSome stopped (IfRefused (λ fault. EndsWith new (refusal_line fault)))
-refused-last stop mid new None known told = tt
-refused-last stop mid new (Some after) known told =
-    fault-by after (λ (fault : Fault). IsFaultOf stop fault × Appends mid new (refusal_line fault)) (λ (fault : Fault). EndsWith new (refusal_line fault))
-    (λ fault t. ends-with mid new (refusal_line fault) known t.1) told
+refused-last stop mid new a known told = grind (arith, fault-by, ends-with)
 
 -- ---- the faults
 
 -- the fault that is reported of a device without a fuse
 pub opening-fault : (image : Image) (old new : Device) (fault told : Fault) → (fault ≡ DeviceFault → told ≡ OutOfMemory) → (told ≡ OutOfMemory) ⊎ (told ≡ fault)
     → IsRefusal (opening_fault image) old new fault → (told ≡ OutOfMemory) ⊎ IsOpeningFault image told
-opening-fault image old new fault told memory (inl is) refusal = inl is
-opening-fault image old new fault told memory (inr is) (inl (inl why, same)) = inr (why ∙ ap (λ (f : Fault). Some f) (sym is))
-opening-fault image old new fault told memory (inr is) (inl (inr wants, same)) = inl (is ∙ wants)
-opening-fault image old new fault told memory (inr is) (inr (none, device, more)) = inl (memory device)
+opening-fault image old new fault told memory a refusal = grind (arith)
 
 -- what is reported is not that the device failed
 pub never-device : (fault told : Fault) → (fault ≡ DeviceFault → told ≡ OutOfMemory) → told ≡ fault → told ≡ DeviceFault → ⊥
@@ -140,12 +125,7 @@ never-device fault told memory is device = let clash : OutOfMemory ≡ DeviceFau
 pub closing-fault : {D : Type 0} {G : Ghosts D} (state : D → Device) (room : Room D G) (old new : Device) (fault told : Fault) → (fault ≡ DeviceFault → told ≡ OutOfMemory)
     → (told ≡ OutOfMemory) ⊎ (told ≡ fault) → ((q : State) → Shows state room q → IsClosingRefusal q old new fault)
     → (told ≡ OutOfMemory) ⊎ ((q : State) → Shows state room q → IsClosingFault q told)
-closing-fault state room old new fault told memory (inl is) refusal = inl is
-closing-fault state room old new fault told memory (inr is) refusal = inr (λ q shows. by q (refusal q shows))
-  where
-    by : (q : State) → IsClosingRefusal q old new fault → IsClosingFault q told
-    by q (inl (why, same)) = why ∙ ap (λ (f : Fault). Some f) (sym is)
-    by q (inr (none, device, more)) = absurd (never-device fault told memory is (is ∙ device))
+closing-fault state room old new fault told memory a refusal = grind (arith, never-device)
 
 pub damage-of-file : (file words slice : List ℕ) (old : Option Text) (fault : Fault) → is_image_length (length file) ≡ true → HoldsWords file words → slice ≡ words → IsReadRefusal slice fault
     → (fault ≡ OutOfMemory) ⊎ (IsFileFault file IsDamage fault × Appends old old [])

@@ -1,18 +1,15 @@
 -- Visits of the collector that nothing comes between.
 use Rattle.std.proofs.Common.{◌≡◌, ◌⊎◌, inl, inr, ℕ, zero, suc, ◌+◌, ◌-◌, ◌*◌, ◌/◌, ◌%◌, ◌<◌, ◌≤◌, Bool, true, false, cond, nat_le, refl, sym, ◌∙◌, ap, subst, arith}
-use Rattle.std.specs.Prelude.{Option, None}
-use Rattle.std.specs.Option.{option_or}
+use Rattle.std.specs.Prelude.{None}
 use Rattle.std.proofs.lemmas.Bool.{leb-false}
 use Rattle.std.proofs.lemmas.Nat.{div-add-mod'}
 use Rattle.base.specs.declared.fault.Fault.{Fault}
-use Rattle.base.specs.declared.fault.Fault.TheVariants.{Failed}
 use Rattle.base.specs.declared.step.Step.TheVariants as step
 use Rattle.base.specs.declared.step.Reply.{Reply}
 use Rattle.base.specs.declared.step.Reply.TheVariants as reply
 use Rattle.base.specs.Layout.{Layout}
-use Rattle.base.specs.Search.{some_if}
-use Rattle.machine.specs.Machine.{State, Stepped, refused, answered, memory_refused, device_failed, refusal}
-use Rattle.machine.specs.Collecting.{is_at_slot, visited, collected}
+use Rattle.machine.specs.Machine.{State, Stepped, answered, refusal}
+use Rattle.machine.specs.Collecting.{visited, collected}
 use Rattle.machine.specs.Rounds.{visits, round_of}
 use Rattle.machine.proofs.collector.Visits.{visit-changes}
 use Rattle.machine.proofs.collector.Rounds.{rounds-repeat, visits-add, visits-split, layout-visits}
@@ -65,11 +62,7 @@ pub needed-are-enough : NeededAreEnough
 needed-are-enough = λ q all. enough q all (nat_le all (round q.layout)) refl
 
 few-by : (slots all : ℕ) (few : Bool) → nat_le all (slots + 1) ≡ few → cond few all (slots + 1 + 1 + (all - (slots + 1) - 1) % (slots + 1)) ≤ all
-few-by slots all true is = omega arith
-few-by slots all false is =
-    let long : slots + 1 < all = leb-false all (slots + 1) is in
-    let parts = div-add-mod' (all - (slots + 1) - 1) (slots + 1) in
-    omega (arith, long, parts)
+few-by slots all a is = grind (arith, leb-false, div-add-mod')
 
 -- no more than all are needed
 needed-few : (layout : Layout) (all : ℕ) → visits_needed layout all ≤ all
@@ -78,11 +71,7 @@ needed-few layout all = few-by layout.slots all (nat_le all (layout.slots + 1)) 
 -- ---- steps of the collector
 
 works-before : (q : State) → refusal q step.Collect ≡ None → q.failed ≡ false
-works-before q none = by q.failed _ none
-  where
-    by : (failed : Bool) (rest : Option Fault) → option_or (some_if failed Failed) rest ≡ None → failed ≡ false
-    by true rest e = absurd (cc e)
-    by false rest e = refl
+works-before q none = grind (arith)
 
 allowed : (q : State) → q.failed ≡ false → refusal q step.Collect ≡ None
 allowed q works = rw works refl
@@ -100,17 +89,10 @@ record IsVisit (q : State) (answer : Reply) (q' : State) : Type 0 where
   leads : q' ≡ visited q
 
 visit-of : (q : State) (answer : Reply) (q' : State) → Stepped q step.Collect answer q' → is_answered answer ≡ true → IsVisit q answer q'
-visit-of q answer q' (refused fault why is same) goes = absurd (refused-not answer fault is goes)
-visit-of q answer q' (answered none says is) goes = record { works = works-before q none; answers = says; leads = is }
-visit-of q answer q' (memory_refused none takes is same) goes = absurd (refused-not answer _ is goes)
-visit-of q answer q' (device_failed none operates is fails) goes = absurd (refused-not answer _ is goes)
+visit-of q answer q' a goes = grind (arith, refused-not, works-before)
 
 collected-goes : (q : State) → is_answered (collected q) ≡ true
-collected-goes q = by (is_at_slot q)
-  where
-    by : (b : Bool) → is_answered (cond b (reply.Visited q.place) reply.SweepEnd) ≡ true
-    by true = refl
-    by false = refl
+collected-goes q = grind (arith)
 
 -- so many and one more, all answered, from a state in which the device works
 record AreVisits (more : ℕ) (q : State) (answer : Reply) (q' : State) : Type 0 where
@@ -119,27 +101,12 @@ record AreVisits (more : ℕ) (q : State) (answer : Reply) (q' : State) : Type 0
   leads : q' ≡ visits (suc more) q
 
 are-visits : (more : ℕ) (q : State) (answer : Reply) (q' : State) → Ticks step.Collect is_answered more q answer q' → is_answered answer ≡ true → AreVisits more q answer q'
-are-visits zero q answer q' one goes =
-    let visit = visit-of q answer q' one goes in
-    record { works = visit.works; answers = visit.answers; leads = visit.leads }
-are-visits (suc more) q answer q' (before, mid, earlier, went, last) goes =
-    let first = are-visits more q before mid earlier went in
-    let visit = visit-of mid answer q' last goes in
-    record {
-      works = first.works;
-      answers = visit.answers ∙ ap collected first.leads;
-      leads = visit.leads ∙ ap visited first.leads ∙ one-more (suc more) q;
-    }
+are-visits zero q answer q' one goes = grind (arith, visit-of)
+are-visits (suc more) q answer q' (before, mid, earlier, went, last) goes = grind (arith, are-visits more q before mid earlier went, visit-of, one-more)
 
 visits-are : (more : ℕ) (q : State) → q.failed ≡ false → Ticks step.Collect is_answered more q (collected (visits more q)) (visits (suc more) q)
 visits-are zero q works = answered (allowed q works) refl refl
-visits-are (suc more) q works = (
-  collected (visits more q),
-  visits (suc more) q,
-  visits-are more q works,
-  collected-goes (visits more q),
-  answered (allowed (visits (suc more) q) (works-still (suc more) q works)) refl (sym (one-more (suc more) q)),
-)
+visits-are (suc more) q works = grind (arith, visits-are more q works, collected-goes, allowed, works-still, one-more)
 
 -- as many visits as needed come to what all come to
 all-made : (q : State) (all more : ℕ) (answer : Reply) (q' : State) → more ≤ visits_needed q.layout all - 1 → (more ≡ visits_needed q.layout all - 1) ⊎ (is_answered answer ≡ false)

@@ -1,11 +1,10 @@
 -- How a script ends that is none, and how the lines of lives add up.
 use Rattle.std.proofs.Common.{◌≡◌, ◌≤◌, ◌<◌, ◌+◌, ℕ, List, [], ◌∷◌, ◌++◌, length, drop, get_or, refl, sym, ap, subst, ◌∙◌, arith, append_assoc, append-nil}
-use Rattle.std.specs.Prelude.{Option, Result, Ok, Err, OnOk}
+use Rattle.std.specs.Prelude.{Option, Result, OnOk}
 use Rattle.std.specs.Io.KnownBytes.{Appends}
 use Rattle.std.proofs.lemmas.List.{drop_more, length-drop}
 use Rattle.command_line.specs.Numbers.{Text}
 use Rattle.lives.specs.declared.life.LifeReport.{LifeReport}
-use Rattle.command_line.specs.declared.script.ScriptFault.TheVariants as script
 use Rattle.console.specs.Scripts.{life_text, lives_text}
 use Rattle.console.proofs.Obeyed.{appends-more}
 
@@ -35,5 +34,4 @@ lives-end said i n reports all old new done whole says =
 -- ---- what a last call prints
 
 pub printed-last : {T E : Type 0} (r : Result T E) (old mid new : Option Text) (a b : Text) → Appends old mid a → OnOk r (Appends mid new b) → OnOk r (Appends old new (a ++ b))
-printed-last (Ok x) old mid new a b first last = appends-more old mid new a b first last
-printed-last (Err e) old mid new a b first last = tt
+printed-last d old mid new a b first last = grind (arith, appends-more)

@@ -1,18 +1,17 @@
 -- What the steps that threads made of an image keep of it.
 use mathlib.Core.HLevel.{⊥_prop}
-use Rattle.std.proofs.Common.{◌≡◌, ◌⊎◌, ℕ, ◌*◌, Bool, true, false, List, [], ◌∷◌, length, inl, inr, sym, ◌∙◌, ap, subst}
+use Rattle.std.proofs.Common.{◌≡◌, ◌⊎◌, ℕ, ◌*◌, true, List, [], ◌∷◌, length, inl, inr, sym, ◌∙◌, ap, subst, arith}
 use Rattle.std.proofs.Math.Logic.{∥∥₁_elim, ∥∥₁_map}
-use Rattle.std.specs.Prelude.{None, Option, Some}
+use Rattle.std.specs.Prelude.{Option, Some}
 use Rattle.std.specs.Io.KnownBytes.{Appends}
 use Rattle.base.specs.declared.fault.Fault.{Fault}
-use Rattle.base.specs.declared.fault.Fault.TheVariants.{Failed, OutOfMemory, SlotsOut, TimestampsOut, Device as DeviceFault}
+use Rattle.base.specs.declared.fault.Fault.TheVariants.{OutOfMemory, SlotsOut, TimestampsOut, Device as DeviceFault}
 use Rattle.base.specs.declared.step.Note.{Note}
 use Rattle.base.specs.declared.step.Step.{Step}
 use Rattle.base.specs.Commits.{Commit}
-use Rattle.base.specs.Images.{Image, damage, layout_of}
+use Rattle.base.specs.Images.{Image, layout_of}
 use Rattle.base.specs.Layout.{Layout, opened_layout}
 use Rattle.machine.specs.Machine.{State, Noted, StandsClosed}
-use Rattle.base.specs.Search.{first_of, some_if}
 use Rattle.base.specs.Stands.{Stands}
 use Rattle.pmem.specs.Device.{Device}
 use Rattle.pmem.specs.declared.device.Pmem.{Ghosts}
@@ -21,7 +20,7 @@ use Rattle.recovery.specs.Read.{IsReadRefusal}
 use Rattle.room.specs.Room.{Shows}
 use Rattle.room.specs.declared.room.Room.{Room}
 use Rattle.room.specs.declared.status.Status.{Status}
-use Rattle.workload.specs.Load.{HasFree, HasMadeFrom, HasNumbers, HasRunFrom, IsEngineFault, IsLoadFault, OpensTo}
+use Rattle.workload.specs.Load.{HasFree, HasMadeFrom, HasNumbers, HasRunFrom, IsLoadFault, OpensTo}
 use Rattle.workload.proofs.Made.{engine-not-slots, run-of-made}
 use Rattle.command_line.specs.ImageFile.{HoldsWords, IsFileOf, is_image_length}
 use Rattle.command_line.specs.Numbers.{Text}
@@ -109,11 +108,7 @@ load-told image sessions commits fault told memory (inr is) (inr (inr (inr (inr 
   where
     apart : TimestampsOut ≡ SlotsOut → ⊥
     apart h = cc h
-load-told image sessions commits fault told memory (inr is) (inr (inr (inr (inr (inr (free, has, engine)))))) =
-    inr (inr (inr (
-      told-other image sessions fault told memory is free (engine-not-slots image fault engine),
-      inr (has, inl (subst (λ (f : Fault). IsEngineFault image f) (sym is) engine)),
-    )))
+load-told image sessions commits fault told memory (inr is) (inr (inr (inr (inr (inr (free, has, engine)))))) = grind (arith, told-other image sessions fault told memory is free (engine-not-slots image fault engine), engine-not-slots image fault engine)
 
 -- where no state that the room shows admits it, no slots ran out, and no device failed
 not-slots : {D : Type 0} {G : Ghosts D} (state : D → Device) (room : Room D G) (words : Image) (sessions : ℕ) (fault : Fault) → OpensTo words (HasFree (2 * sessions)) → ∥ HasRunFrom state words room ∥₁
@@ -135,17 +130,7 @@ not-slots state room words sessions fault free run other = record {
 }
 
 closing-other : (q : State) (fault : Fault) → IsClosingFault q fault → IsOther fault
-closing-other q fault is = record { slots = λ e. slots q.failed _ (is ∙ ap (λ (f : Fault). Some f) e); device = λ e. device q.failed _ (is ∙ ap (λ (f : Fault). Some f) e) }
-  where
-    slots : (failed past : Bool) → first_of (some_if failed Failed ∷ some_if past TimestampsOut ∷ []) ≡ Some SlotsOut → ⊥
-    slots true past h = cc h
-    slots false true h = cc h
-    slots false false h = cc h
-
-    device : (failed past : Bool) → first_of (some_if failed Failed ∷ some_if past TimestampsOut ∷ []) ≡ Some DeviceFault → ⊥
-    device true past h = cc h
-    device false true h = cc h
-    device false false h = cc h
+closing-other q fault is = grind (arith)
 
 pub late-fault : {D : Type 0} {G : Ghosts D} (state : D → Device) (room : Room D G) (file words slice : List ℕ) (sessions commits : ℕ) (old : Option Text) (fault : Fault)
     → is_image_length (length file) ≡ true → HoldsWords file words → slice ≡ words → OpensTo slice (HasFree (2 * sessions)) → OpensTo slice (HasNumbers (sessions * commits))
@@ -169,6 +154,4 @@ late-fault state room file words slice sessions commits old fault size holds sam
 pub reading-fault-so : {D : Type 0} {G : Ghosts D} (state : D → Device) (room : Room D G) (image slice : Image) (fault : Fault) → slice ≡ image → ((q : State) → Shows state room q → StandsClosed q image)
     → IsReadRefusal slice fault → (fault ≡ OutOfMemory) ⊎ ((q : State) → Shows state room q → IsClosingFault q fault)
 reading-fault-so state room image slice fault same closed (inr h) = inl h.1
-reading-fault-so state room image slice fault same closed (inl is) = inr (λ q shows.
-    let none : damage image ≡ None = (closed q shows).stands.sound in
-    let clash : None ≡ Some fault = sym none ∙ (ap damage (sym same) ∙ is) in absurd (cc clash))
+reading-fault-so state room image slice fault same closed (inl is) = grind (arith)

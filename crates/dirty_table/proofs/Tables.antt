@@ -17,8 +17,7 @@ use Rattle.dirty_table.specs.Touches.{has, meets, sessions_at, is_touched, lines
 use Rattle.dirty_table.proofs.Sets.{meets-apart}
 
 and-true : (x : Bool) → (x && true) ≡ x
-and-true true = refl
-and-true false = refl
+and-true a = grind (arith)
 
 -- ---- one line
 
@@ -60,8 +59,7 @@ module _ (table : List SessionSet) (noted : List ℕ) (is : IsNoted table noted)
   }
 
   pub next-none : (from : ℕ) (r : Option ℕ) → IfNone r (IsClearFrom noted from) → IfNone r (IsUntouchedFrom table from)
-  next-none from None clear = λ line ge n. unnoted n line (clear line ge)
-  next-none from (Some line) clear = tt
+  next-none from a clear = grind (arith, unnoted)
 
 -- ---- all lines of some sessions are forgotten
 

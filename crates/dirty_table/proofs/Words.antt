@@ -79,12 +79,10 @@ module _ (words : List ℕ) (k word : ℕ) (b : Bool) (within : k / 64 < length 
   elsewhere i apart = grind (arith, cases_eq, get_or-set_at, get_or-set_other) steps 800000
 
 pub and-true : (x : Bool) → x ≡ (x && true)
-and-true true = refl
-and-true false = refl
+and-true a = grind (arith)
 
 pub and-false : (x : Bool) → false ≡ (x && false)
-and-false true = refl
-and-false false = refl
+and-false a = grind (arith)
 
 module _ (words : List ℕ) (k : ℕ) (within : k / 64 < length words) where
   abbrev word : ℕ

@@ -1,5 +1,5 @@
 -- What the commits of a batch wrote.
-use Rattle.std.proofs.Common.{◌≡◌, ℕ, ◌≤◌, not, List, [], ◌∷◌, length, take, map, find, Some, refl, ◌∙◌, ap, arith}
+use Rattle.std.proofs.Common.{◌≡◌, ℕ, ◌≤◌, not, List, [], ◌∷◌, length, take, map, find, Some, refl, arith}
 use Rattle.std.specs.Prelude.{Option, IsTrue, nat_le}
 use Rattle.std.specs.List.{list_any}
 use Rattle.std.proofs.lemmas.Bool.{leb-true}
@@ -13,14 +13,12 @@ use Rattle.base.specs.Lists.{is_nil}
 use Rattle.txn.specs.declared.drawn.DrawnCommit.{DrawnCommit}
 use Rattle.txn.specs.declared.write.Write.{Write}
 use Rattle.txn.specs.DrawnCommits.{plain_drawn}
-use Rattle.txn.specs.WriteSets.{IsRising, plain_write, plain_writes}
+use Rattle.txn.specs.WriteSets.{IsRising, plain_writes}
 use Rattle.txn.proofs.Passed.{few-filtered}
 
 -- rows that are pushed one after the other are by rising key, as the writes are
 pub rising-plain : (writes : List Write) (n : ℕ) (rows : Writes) → rows ≡ plain_writes (take n writes) → length writes ≤ n → IsRising writes → IsTrue (is_rising (map (λ (w : Key × Option (List ℕ)). w.0) rows))
-rising-plain writes n rows is whole rising =
-    ap (λ (ws : Writes). is_rising (map (λ (w : Key × Option (List ℕ)). w.0) ws)) (is ∙ ap plain_writes (take_all n writes whole))
-    ∙ ap is_rising (map-map (λ (w : Key × Option (List ℕ)). w.0) plain_write writes) ∙ rising
+rising-plain writes n rows is whole rising = grind (arith, take_all, map-map)
 
 -- no commit is chosen where none passes
 pub none-chosen : (reach : ℕ) (ds : List DrawnCommit) → is_nil (chosen reach (map plain_drawn ds)) ≡ not (list_any (λ d. is_chosen reach (plain_drawn d)) ds)

@@ -1,6 +1,6 @@
 -- What each tick of a cycle does, by how many were made.
 use Rattle.std.proofs.Common.{◌≡◌, ◌≢◌, inl, inr, ℕ, zero, suc, ◌+◌, ◌<◌, Bool, true, cond, List, [], ◌∷◌, length, find, Option, Some, None, refl, sym, ◌∙◌, ap, subst, arith}
-use Rattle.std.specs.Prelude.{slice_get, nat_le, nat_lt}
+use Rattle.std.specs.Prelude.{slice_get, nat_le}
 use Rattle.std.proofs.lemmas.Bool.{and_parts, ltb-true, le-leb, cases_lt, lt-leb}
 use Rattle.std.proofs.lemmas.Option.{slice_get_within, slice_get_past, slice_get-get_or}
 use Rattle.base.specs.Records.{are_rising}
@@ -37,13 +37,8 @@ find-cut (x ∷ xs) (suc flushed) from cut =
 -- rising lines are above the first
 above-first : (x : ℕ) (xs : List ℕ) (i line : ℕ) → are_rising (x ∷ xs) ≡ true → slice_get xs i ≡ Some line → x < line
 above-first x [] i line rising at = absurd (cc at)
-above-first x (y ∷ xs) zero line rising at =
-    let both = and_parts (nat_lt x y) (are_rising (y ∷ xs)) rising in
-    let same : y ≡ line = cc at in
-    omega (arith, same, ltb-true x y both.0)
-above-first x (y ∷ xs) (suc i) line rising at =
-    let both = and_parts (nat_lt x y) (are_rising (y ∷ xs)) rising in
-    omega (arith, ltb-true x y both.0, above-first y xs i line both.1 at)
+above-first x (y ∷ xs) zero line rising at = grind (arith, and_parts, ltb-true)
+above-first x (y ∷ xs) (suc i) line rising at = grind (arith, and_parts, ltb-true, above-first y xs i line)
 
 later-above : (lines : List ℕ) (i j a b : ℕ) → are_rising lines ≡ true → i < j → slice_get lines i ≡ Some a → slice_get lines j ≡ Some b → a < b
 later-above [] i j a b rising less at_i at_j = absurd (cc at_i)
@@ -89,10 +84,7 @@ module _ (lines : List ℕ) (cycle : Cycling) where
 
   line-at : (i line : ℕ) (s : CycleStage) → IsAt lines (1 + i) cycle.writing s → slice_get lines i ≡ Some line → (operation_at lines cycle.writing s ≡ flush_op committer line) × (reached_at lines cycle.writing s ≡ Some (LineFlushed i))
   line-at i line WriteRecord at is = absurd (omega (arith, at.0, slice_get_within lines i line is))
-  line-at i line (FlushLines flushed from) at is =
-      let same : flushed ≡ i = omega (arith, at.0) in
-      let found : find (nat_le from) lines ≡ Some line = find-cut lines flushed from at.1 ∙ ap (slice_get lines) same ∙ is in
-      (ap flush_or_fence found, ap (flushed_or_fenced flushed) found ∙ ap (λ (n : ℕ). Some (LineFlushed n)) same)
+  line-at i line (FlushLines flushed from) at is = grind (arith, find-cut)
 
   fence-at : (s : CycleStage) → IsAt lines (1 + length lines) cycle.writing s → (operation_at lines cycle.writing s ≡ fence_op committer) × (reached_at lines cycle.writing s ≡ Some LinesFenced)
   fence-at WriteRecord at = absurd (omega (arith, at.0))

@@ -67,11 +67,7 @@ module _ (tables : Tables) (all : Places) (e : Key × ℕ) (rest : Places) (has 
 
 -- those between two bounds are found by their keys
 looked-between : (lo hi : Bound Key) (es : Places) (key : Key) → lookup_key (entries_between key_cmp lo hi es) key ≡ cond (range_contains key_cmp lo hi key) (lookup_key es key) None
-looked-between lo hi [] key = by (range_contains key_cmp lo hi key)
-  where
-    by : (b : Bool) → ◌≡◌ {A = Option ℕ} None (cond b None None)
-    by true = refl
-    by false = refl
+looked-between lo hi [] key = grind (arith)
 looked-between lo hi (e ∷ es) key = by (range_contains key_cmp lo hi e.0) refl (key_eq e.0 key) refl (looked-between lo hi es key)
   where
     in-range : key_eq e.0 key ≡ true → (b : Bool) → range_contains key_cmp lo hi e.0 ≡ b → range_contains key_cmp lo hi key ≡ b

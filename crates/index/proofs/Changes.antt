@@ -95,10 +95,7 @@ get-either : (entries : Entries) (e x : Key × Entry) (p : ℕ) → slice_get (e
 get-either [] e x zero at = let same : e ≡ x = cc at in inr (refl, same)
 get-either [] e x (suc p) at = absurd (cc at)
 get-either (y ∷ entries) e x zero at = inl at
-get-either (y ∷ entries) e x (suc p) at = elim (get-either entries e x p at) [
-  | inl before ↦ inl before
-  | inr last ↦ inr (ap suc last.0, last.1)
-]
+get-either (y ∷ entries) e x (suc p) at = grind (arith, get-either entries e x p at)
 
 -- ---- places
 

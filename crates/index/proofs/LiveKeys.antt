@@ -53,9 +53,7 @@ distinct (e ∷ entries) once = (nowhere e.0 entries (λ j x at. apart j x at (k
 
 -- entries that are placed
 once-placed : (places : List (Key × ℕ)) (entries : Entries) → ArePlaced places entries → AreOnce entries
-once-placed places entries placed i j key a b p q =
-    let both : Some i ≡ Some j = sym (placed.once key i a p) ∙ placed.once key j b q in
-    cc both
+once-placed places entries placed i j key a b p q = grind (arith)
 
 -- ---- those that are live
 

@@ -1,5 +1,5 @@
 -- What a slot of a device holds in its image.
-use Rattle.std.proofs.Common.{◌≡◌, ℕ, ◌+◌, ◌*◌, ◌^◌, ◌<◌, ◌≤◌, false, length, get_or, refl, sym, ◌∙◌, ap, subst, arith}
+use Rattle.std.proofs.Common.{◌≡◌, ℕ, ◌+◌, ◌^◌, ◌<◌, ◌≤◌, false, length, get_or, refl, sym, ◌∙◌, ap, subst, arith}
 use Rattle.std.proofs.Math.Nat.{mul-le-mul_left}
 use Rattle.std.proofs.lemmas.Bool.{cases_lt}
 use Rattle.std.proofs.lemmas.List.{get_or_past}
@@ -27,9 +27,7 @@ module _ (device : Device) (a : Layout) (slot : ℕ) (size : device.words ≡ to
   word-at word lt = get_or-map-range_with_len (value_of device) 0 device.words word word 0 lt (omega arith)
 
   in-slot : (w : ℕ) → w < slot_words a.version → slot_start a slot + w < device.words
-  in-slot w lt =
-      let product : slot_words a.version * (slot + 1) ≤ slot_words a.version * a.slots = mul-le-mul_left {m = slot + 1} {n = a.slots} (slot_words a.version) (omega arith) in
-      omega (arith, size, product, lt)
+  in-slot w lt = grind (arith, mul-le-mul_left)
 
   word-same : (w : ℕ) → w < slot_words a.version → slot_word (image_of device) slot w ≡ slot_at a slot (value_of device) w
   word-same w lt = ap (λ (l : Layout). get_or (image_of device) (slot_start l slot + w) 0) laid ∙ word-at (slot_start a slot + w) (in-slot w lt)
@@ -69,12 +67,4 @@ module _ (device : Device) (a : Layout) (slot : ℕ) (size : device.words ≡ to
 
   -- what is read of it
   pub holds-as : (s : Slot) → IsSlot a (slot_at a slot (value_of device)) s → HoldsAs (image_of device) slot s
-  holds-as s is = record {
-    within = within;
-    fits = well_formed (image_of device) slot within whole s.version (held s is);
-    begin = begin-same ∙ is.begin;
-    end = end-same ∙ is.end;
-    key = key_is (image_of device) slot within whole s.version (held s is);
-    row = row_is_of (image_of device) slot within whole s.version (held s is);
-    link = link_of_is (image_of device) slot within whole s.version (held s is);
-  }
+  holds-as s is = grind (arith, within, well_formed, whole, held, begin-same, end-same, key_is, row_is_of, link_of_is)

@@ -18,8 +18,7 @@ use Rattle.snapshot.specs.Walks.{IsOfKey, IsSeenAt, is_counted, Leads, arrives, 
 use Rattle.index.specs.Walking.{next_at, Looks}
 
 previous-is : (o : Option ℕ) (n : ℕ) → link_number o ≡ n + 1 → o ≡ Some n
-previous-is None n e = absurd (omega (arith, e))
-previous-is (Some slot) n e = ap (λ (k : ℕ). Some k) (omega (arith, e))
+previous-is a n e = grind (arith)
 
 -- what the image has in the slot
 pub record HoldsAs (image : Image) (slot : ℕ) (held : Slot) : Type 0 where

@@ -1,5 +1,5 @@
 -- How many keys have a covered row.
-use Rattle.std.specs.Prelude.{◌≡◌, Bool, List, is_some}
+use Rattle.std.specs.Prelude.{◌≡◌, List, is_some}
 use Rattle.std.specs.List.{IsDistinct}
 use Rattle.std.specs.Set.{is_member}
 use Rattle.base.specs.declared.key.Key.{Key}

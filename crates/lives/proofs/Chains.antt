@@ -1,5 +1,5 @@
 -- Lives one after another.
-use Rattle.std.proofs.Common.{◌≡◌, inl, inr, ℕ, Bool, false, not, ◌&&◌, List, [], ◌∷◌, ◌++◌, map, refl, sym, ◌∙◌, ap, subst}
+use Rattle.std.proofs.Common.{◌≡◌, inl, inr, ℕ, Bool, false, not, ◌&&◌, List, [], ◌∷◌, ◌++◌, map, refl, sym, ◌∙◌, ap, subst, arith}
 use Rattle.std.specs.Prelude.{Option, Some, None}
 use Rattle.std.proofs.lemmas.List.Elements.{All-nil}
 use Rattle.base.specs.declared.fault.Fault.{Fault}
@@ -82,9 +82,7 @@ lived-refused old new image image' life report fault rest tidy is may opening te
 -- ---- an opening that succeeded
 
 same-option : {X : Type 0} (a b : Option X) → ((x : X) → a ≡ Some x → b ≡ Some x) → ((x : X) → b ≡ Some x → a ≡ Some x) → a ≡ b
-same-option None None to from = refl
-same-option None (Some y) to from = from y refl
-same-option (Some x) b to from = sym (to x refl)
+same-option a b to from = grind (arith)
 
 -- rows that list the tables of an image list those after the history that it stands for
 lists-after : (image : Image) (rows : List (Key × List ℕ)) (history drawn : List Commit) (next : ℕ) → ListsTables image rows → Stands image history drawn next → Lists rows (after history)
@@ -142,13 +140,7 @@ played-so q device left rows life report image failed P works opening obeyed end
 stopped-more : (before : World) (lives : List Life) (reports : List LifeReport) (plains : List Report) (mid : World) (a : Life) (r : LifeReport) (p : Report) (last : World)
     → AreStopped before lives reports plains mid → IsReport a r p → PlainLife mid (asked_of a) p last → IsStopped a r p.replies mid last.image
     → AreStopped before (lives ++ a ∷ []) (reports ++ r ∷ []) (plains ++ p ∷ []) last
-stopped-more before [] [] [] mid a r p last e is life stop = (
-  last,
-  is,
-  subst (λ (w : World). PlainLife w (asked_of a) p last) e life,
-  subst (λ (w : World). IsStopped a r p.replies w last.image) e stop,
-  refl,
-)
+stopped-more before [] [] [] mid a r p last e is life stop = grind (arith)
 stopped-more before (b ∷ lives) (s ∷ reports) (t ∷ plains) mid a r p last (next, told, first, stop, rest) is life stop' =
     (next, told, first, stop, stopped-more next lives reports plains mid a r p last rest is life stop')
 stopped-more before [] [] (t ∷ plains) mid a r p last none is life stop = absurd none

@@ -60,15 +60,7 @@ ends-refused q image old new fault works (inr (none, is, failed)) at within = λ
 
 -- so a close may be asked
 pub may-ask : (q : State) (close failed : Bool) → q.failed ≡ failed → MayAsk (close && not failed) q
-may-ask q close false is asked = is
-may-ask q false true is asked = absurd (false_asks asked)
-  where
-    false_asks : false ≡ true → ⊥
-    false_asks e = cc
-may-ask q true true is asked = absurd (false_asks asked)
-  where
-    false_asks : false ≡ true → ⊥
-    false_asks e = cc
+may-ask q close a is asked = grind (arith)
 
 -- after a failing device no close is asked
 pub ends-as_asked : (q : State) (close failed : Bool) (told : Option (Result Numbers Fault)) (image : Image) → q.failed ≡ failed

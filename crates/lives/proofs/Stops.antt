@@ -1,9 +1,9 @@
 -- How far a device goes, and where it is stopped.
-use Rattle.std.proofs.Common.{◌≡◌, ◌⊎◌, inl, inr, ℕ, zero, suc, ◌+◌, ◌<◌, ◌≤◌, ◌^◌, nat_le, Bool, true, false, List, [], ◌∷◌, ◌++◌, length, replicate, refl, sym, ◌∙◌, ap, subst, arith}
+use Rattle.std.proofs.Common.{◌≡◌, ◌⊎◌, inl, inr, ℕ, zero, suc, ◌+◌, ◌<◌, Bool, true, false, List, [], ◌∷◌, ◌++◌, length, replicate, refl, sym, ◌∙◌, ap, subst, arith}
 use Rattle.std.specs.Prelude.{Contains, Option, Some, None, Result, Ok, Err, IfErr}
 use Rattle.std.specs.Option.{option_map}
 use Rattle.std.proofs.lemmas.Bool.{cases_lt}
-use Rattle.std.proofs.lemmas.List.Elements.{All-contains, Contains-append_cases, Contains-append_left, Contains-append_right, Contains-push, Contains-push_cases}
+use Rattle.std.proofs.lemmas.List.Elements.{All-contains, Contains-append_cases, Contains-append_left, Contains-append_right, Contains-push}
 use Rattle.std.proofs.lemmas.Option.{none-some}
 use Rattle.base.specs.declared.fault.Fault.{Fault}
 use Rattle.base.specs.declared.fault.Fault.TheVariants.{Device as DeviceFault, OutOfMemory, NotFormatted, Version, BadGeometry, Damaged, TimestampsOut, Failed}
@@ -14,7 +14,7 @@ use Rattle.base.specs.Search.{first_of, first_below, some_if}
 use Rattle.base.specs.Images.{Image, opening_fault, damage, faults_of, log_damage, layout_of, is_wrong_gate, ruling, ruling_place, is_bad_slot, is_near_limit}
 use Rattle.machine.specs.Openings.{OpensAs, StandsOpening}
 use Rattle.machine.specs.Lives.{World}
-use Rattle.machine.specs.Machine.{State, StandsClosed, StandsClosing, closing_fault, closing_gate}
+use Rattle.machine.specs.Machine.{State, StandsClosed, StandsClosing, closing_fault}
 use Rattle.pmem.specs.Device.{Device, IsOrderly, MayLeave, limited, restarted}
 use Rattle.pmem.specs.Words.{Continues, LeavesOnly}
 use Rattle.pmem.proofs.Images.{continues_refl, continues_trans}
@@ -42,27 +42,11 @@ no_more m n same more = omega (arith, same, more)
 
 -- one after the other
 pub goes-on : {A B C : Type 0} {old mid new : Device} → GoesOn old mid A → GoesOn mid new B → (A → C) → (B → C) → (C → A ⊎ B) → GoesOn old new C
-goes-on {A} {B} {C} {old} {mid} {new} first then by_first by_then one = record {
-  continues = continues_trans first.continues then.continues;
-  cause = λ reported. cause (one reported);
-  shown = λ more. shown more (cases_lt old.failures mid.failures);
-}
-  where
-    cause : A ⊎ B → old.failures < new.failures
-    cause (inl a) = omega (arith, first.cause a, then.continues.failures)
-    cause (inr b) = omega (arith, then.cause b, first.continues.failures)
-
-    shown : old.failures < new.failures → (old.failures < mid.failures) ⊎ (mid.failures ≤ old.failures) → C
-    shown more (inl failed) = by_first (first.shown failed)
-    shown more (inr worked) = by_then (then.shown (omega (arith, more, worked)))
+goes-on {A} {B} {C} {old} {mid} {new} first then by_first by_then one = grind (arith, continues_trans, cases_lt)
 
 -- without a failure, and without a report of one
 pub goes-quietly : {R : Type 0} {old new : Device} → Continues old new → new.failures ≡ old.failures → (R → ⊥) → GoesOn old new R
-goes-quietly {R} {old} {new} continues same none = record {
-  continues = continues;
-  cause = λ reported. absurd (none reported);
-  shown = λ more. absurd (no_more old.failures new.failures same more);
-}
+goes-quietly {R} {old} {new} continues same none = grind (arith, no_more)
 
 pub goes-nowhere : {R : Type 0} (old new : Device) → new ≡ old → (R → ⊥) → GoesOn old new R
 goes-nowhere old new same none = goes-quietly (subst (λ (d : Device). Continues old d) (sym same) (continues_refl old)) (ap (λ (d : Device). d.failures) same) none
@@ -75,15 +59,7 @@ goes-silent : (device end : Device) (replies : List Reply) → end ≡ device �
 goes-silent device end replies is empty = goes-nowhere device end is (λ has. none-yet (Refused DeviceFault) (subst (λ (l : List Reply). Contains l (Refused DeviceFault)) empty has))
 
 has-first : {X : Type 0} (x : X) (xs : List X) (y : X) → Contains (x ∷ xs) y → (x ≡ y) ⊎ Contains xs y
-has-first {X} x xs y has = by (Contains-append_cases (x ∷ []) xs y has)
-  where
-    one : Contains [] y ⊎ (x ≡ y) → (x ≡ y) ⊎ Contains xs y
-    one (inl has) = absurd (none-yet y has)
-    one (inr is) = inl is
-
-    by : Contains (x ∷ []) y ⊎ Contains xs y → (x ≡ y) ⊎ Contains xs y
-    by (inl first) = one (Contains-push_cases [] x y first)
-    by (inr later) = inr later
+has-first {X} x xs y has = grind (arith, none-yet)
 
 -- a step before them
 goes-before : {old mid new : Device} (reply : Reply) (replies : List Reply) → GoesOn old mid (reply ≡ Refused DeviceFault) → GoesOn mid new (Contains replies (Refused DeviceFault))
@@ -119,8 +95,7 @@ busy-not : (b : Bool) → b ≡ false → b ≡ true → ⊥
 busy-not b f t = cc
 
 first-or : {X : Type 0} (x y : X) (P : Type 0) → (P → x ≡ y) → (x ≡ y) ⊎ P → x ≡ y
-first-or x y P later (inl is) = is
-first-or x y P later (inr has) = later has
+first-or x y a later b = grind (arith)
 
 repeated-is : {X : Type 0} (n : ℕ) (x y : X) → Contains (replicate n x) y → x ≡ y
 repeated-is zero x y has = absurd (none-yet y has)
@@ -193,11 +168,7 @@ none-not : IsNotDevice None
 none-not e = cc
 
 some-not : (fault : Fault) → (fault ≡ DeviceFault → ⊥) → IsNotDevice (Some fault)
-some-not fault other e = other (ap by e)
-  where
-    by : Option Fault → Fault
-    by None = fault
-    by (Some f) = f
+some-not fault other e = grind (arith)
 
 first-not : (reasons : List (Option Fault)) → AreNotDevice reasons → IsNotDevice (first_of reasons)
 first-not [] others e = none-not e
@@ -205,15 +176,13 @@ first-not (None ∷ reasons) (one, others) e = first-not reasons others e
 first-not (Some fault ∷ reasons) (one, others) e = one e
 
 if-not : (test : Bool) (fault : Fault) → (fault ≡ DeviceFault → ⊥) → IsNotDevice (some_if test fault)
-if-not true fault other = some-not fault other
-if-not false fault other = none-not
+if-not a fault other = grind (arith, some-not, none-not)
 
 damaged-not : (place : ℕ) → Damaged place ≡ DeviceFault → ⊥
 damaged-not place e = cc
 
 map-not : (f : ℕ → ℕ) (place : Option ℕ) → IsNotDevice (option_map (λ n. Damaged (f n)) place)
-map-not f None = none-not
-map-not f (Some n) = some-not (Damaged (f n)) (damaged-not (f n))
+map-not f a = grind (arith, none-not, some-not, damaged-not)
 
 not-formatted : NotFormatted ≡ DeviceFault → ⊥
 not-formatted e = cc
@@ -254,19 +223,11 @@ damage-not image =
 
 -- no image is why an opening answers Device
 pub opening-not : (image : Image) → IsNotDevice (opening_fault image)
-opening-not image =
-    first-not (damage image ∷ some_if (is_near_limit image) TimestampsOut ∷ []) (
-      damage-not image,
-      (if-not (is_near_limit image) TimestampsOut timestamps-not, tt),
-    )
+opening-not image = grind (arith, first-not, damage-not image, if-not (is_near_limit image) TimestampsOut timestamps-not, timestamps-not)
 
 -- nor is a state why a close does
 closing-not : (q : State) → IsNotDevice (closing_fault q)
-closing-not q =
-    first-not (some_if q.failed Failed ∷ some_if (nat_le (2 ^ 62) (closing_gate q)) TimestampsOut ∷ []) (
-      if-not q.failed Failed failed-not,
-      (if-not (nat_le (2 ^ 62) (closing_gate q)) TimestampsOut timestamps-not, tt),
-    )
+closing-not q = grind (arith, first-not, if-not, failed-not, timestamps-not)
 
 -- ---- an opening
 
@@ -280,20 +241,7 @@ none-closed e = cc
 -- an opening that was refused
 pub refused-goes : (old new : Device) (image : Image) (fault : Fault) (report : LifeReport) → report.opening ≡ Err fault → report.replies.items ≡ [] → report.closed ≡ None
     → IsRefusal (opening_fault image) old new fault → Continues old new → GoesOn old new (ReportsDevice report)
-refused-goes old new image fault report opening replies closed refusal continues = by refusal
-  where
-    is_device : ReportsDevice report → fault ≡ DeviceFault
-    is_device (inl told) = ap opening-fault (sym opening ∙ told)
-    is_device (inr (inl has)) = absurd (none-yet (Some (Refused DeviceFault)) (subst (λ (l : List (Option Reply)). Contains l (Some (Refused DeviceFault))) replies has))
-    is_device (inr (inr told)) = absurd (none-closed (sym closed ∙ told))
-
-    other : (opening_fault image ≡ Some fault) ⊎ (fault ≡ OutOfMemory) → ReportsDevice report → ⊥
-    other (inl reason) told = opening-not image (reason ∙ ap Some (is_device told))
-    other (inr memory) told = memory-not (sym memory ∙ is_device told)
-
-    by : IsRefusal (opening_fault image) old new fault → GoesOn old new (ReportsDevice report)
-    by (inl (why, same)) = goes-nowhere old new same (other why)
-    by (inr (none, is, cut)) = record { continues = continues; cause = λ told. cut.failed; shown = λ failed. inl (opening ∙ ap Err is) }
+refused-goes old new image fault report opening replies closed refusal continues = grind (arith, none-yet, none-closed, opening-not, memory-not, goes-nowhere)
 
 -- what is known of the image before holds of what it stands for
 pub fails-on : (old new : Device) (image : Image) (before : World) (report : LifeReport) (fault : Fault) → report.opening ≡ Err fault → before.image ≡ image
@@ -307,13 +255,7 @@ fails-on old new image before report fault fails same refusal images = record {
 
 pub opens-on : (old new : Device) (image : Image) (before : World) (q : State) (volatile : VolatileState) → before.image ≡ image → OpensAs image before.history before.lost q
     → MakesOpening image old new → LeavesOnly old new (StandsOpening image before.history before.next) → Shows volatile new q → OpensOn old before q new
-opens-on old new image before q volatile same opens made images shows = record {
-  opens = subst (λ (i : Image). OpensAs i before.history before.lost q) (sym same) opens;
-  made = subst (λ (i : Image). MakesOpening i old new) (sym same) made;
-  images = subst (λ (i : Image). LeavesOnly old new (StandsOpening i before.history before.next)) (sym same) images;
-  volatile = volatile;
-  shows = shows;
-}
+opens-on old new image before q volatile same opens made images shows = grind (arith)
 
 ok-not : (opened : Opened) → ◌≡◌ {A = Result Opened Fault} (Ok opened) (Err DeviceFault) → ⊥
 ok-not opened e = cc
@@ -357,11 +299,7 @@ pub open-stops : (choice : Choice) (q : State) (old last : Device) (left : Image
 open-stops choice q old last left same tidy within chosen = record { last = last; leads = same; goes_on = goes-nowhere old last same none-closed; orderly = tidy; within = within; chosen = chosen }
 
 some-closed : (told : Result Numbers Fault) → ClosesWithDevice (Some told) → told ≡ Err DeviceFault
-some-closed told e = ap by e
-  where
-    by : Option (Result Numbers Fault) → Result Numbers Fault
-    by None = told
-    by (Some t) = t
+some-closed told e = grind (arith)
 
 numbers-not : (numbers : Numbers) → ◌≡◌ {A = Result Numbers Fault} (Ok numbers) (Err DeviceFault) → ⊥
 numbers-not numbers e = cc
@@ -406,8 +344,7 @@ refused-stops choice q old last left fault images refusal tidy within chosen = r
 -- ---- a life
 
 from-nothing : (fuse : Option ℕ) → option_map (λ left. 0 + left) fuse ≡ fuse
-from-nothing None = refl
-from-nothing (Some n) = ap Some (omega arith)
+from-nothing a = grind (arith)
 
 -- its device began with the image at rest, under its fuse
 pub is-stopped : (life : Life) (report : LifeReport) (replies : List Reply) (before : World) (left : Image) (begun : Device) → begun ≡ limited life.fuse (restarted before.image)

@@ -1,6 +1,6 @@
 -- Steps one after another, up to the first in which the device fails.
 use Rattle.std.proofs.Common.{◌≡◌, ◌⊎◌, ℕ, suc, ◌+◌, Bool, true, false, List, [], ◌∷◌, ◌++◌, length, replicate, refl, sym, ◌∙◌, ap, subst, append-nil, append_assoc, inl, inr, arith}
-use Rattle.std.specs.Prelude.{All, Option, Some, None, flat_map}
+use Rattle.std.specs.Prelude.{All, Option, Some, None}
 use Rattle.std.proofs.lemmas.Grind.{flat_map-append}
 use Rattle.std.proofs.lemmas.List.{length-append, length-replicate, replicate-append-replicate}
 use Rattle.std.proofs.lemmas.List.Elements.{All-nil, All-push}
@@ -120,16 +120,7 @@ false-true b f t = cc
 
 -- no time at all
 pub repeated-none : (q : State) (device : Device) (asked : Repeated) (P : State → Type 0) → asked.times ≡ 0 → P q → HasRepeated q device asked None device P
-repeated-none q device asked P none p = record {
-  own = [];
-  reported = refl;
-  last = q;
-  after_it = p;
-  failure = λ began. began;
-  counted = λ works. sym none;
-  goes_on = λ works more later end ended runs. subst (λ (n : ℕ). StepsOn q device (replicate n asked.step ++ more) later end ended) (sym none) runs;
-  stops = λ failed more. absurd (false-true false refl failed);
-}
+repeated-none q device asked P none p = grind (arith, false-true)
 
 -- so often, and some more
 whole : (step : Step) (times count rest : ℕ) (more : List Step) → times ≡ count + suc rest → replicate count step ++ step ∷ (replicate rest step ++ more) ≡ replicate times step ++ more

@@ -15,6 +15,7 @@ use Rattle.pmem.proofs.OperationEffects.{value-stored_same, value-stored_other, 
 use Rattle.pmem.proofs.Runs.{keeps_none, keeps-stored, keeps-flushed, keeps-fenced, keeps-failed}
 use Rattle.pmem.proofs.Traces.{after-append, along-first, along-last, words-after, words-run, runs-more}
 use Rattle.std.proofs.lemmas.List.FromFn.{map-range_with_len_more, take-map-range_with_len, length-map-range_with_len, get_or-map-range_with_len}
+use Rattle.std.proofs.lemmas.Bool.Decides.{nat_tests}
 use Rattle.pmem.specs.Persisting.{store_operations, flush_operations, persist_operations, set_operations}
 
 -- ---- a list in two
@@ -386,4 +387,4 @@ module _ (actor word value : ℕ) where
   set-made run = makes-run (λ w x. Unit {0}) (set-only (λ w x. Unit {0}) tt) run
 
   pub set-settles : {old new : Device} → Runs (set_operations actor word value) old new → word < old.words → IsSettledAt new word value
-  set-settles {old} {new} run within = grind (arith, persist-settles, set-persists)
+  set-settles {old} {new} run within = grind (arith, persist-settles, set-persists, nat_tests)

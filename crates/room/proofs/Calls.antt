@@ -9,7 +9,7 @@ use Rattle.base.specs.declared.step.Reply.{Reply}
 use Rattle.base.specs.declared.step.Reply.TheVariants as reply
 use Rattle.base.specs.declared.step.SessionStep.{SessionStep}
 use Rattle.base.specs.declared.step.SessionReply.{SessionReply}
-use Rattle.base.specs.declared.step.SessionReply.TheVariants.{Began, Row, Rows, Done, Drawn, More, Stamped, Waiting, Committed, Refused}
+use Rattle.base.specs.declared.step.SessionReply.TheVariants.{Refused}
 use Rattle.base.specs.Steps.{as_step, as_reply}
 use Rattle.base.specs.Batches.{Batch}
 use Rattle.base.specs.Replies.{is_failure}
@@ -20,7 +20,6 @@ use Rattle.pmem.specs.declared.device.Pmem.{Ghosts}
 use Rattle.group_commit.specs.Cycles.{Cycling}
 use Rattle.session_steps.specs.declared.sessions.Sessions.{Sessions}
 use Rattle.collector.specs.declared.visit.Visit.{Visit}
-use Rattle.collector.specs.declared.visit.Visit.TheVariants.{Slot, SweepEnd}
 use Rattle.session_steps.specs.Replies.{done, stamped}
 use Rattle.session_steps.specs.Collecting.{as_reply as visited}
 use Rattle.session_steps.specs.Steps.{HoldsSome, HoldsSomeOn, Steps as SessionSteps}
@@ -51,41 +50,22 @@ module _ (c : VolatileState) (device : Device) (failed : Bool) (works : failed �
 -- ---- whether it reports a failing device
 
 pub done-failure : (r : Result ⊤ Fault) → reports_failure r ≡ is_failure (as_reply (done r))
-done-failure (Ok nothing) = refl
-done-failure (Err fault) = refl
+done-failure a = grind (arith)
 
 pub stamped-failure : (r : Result Bool Fault) → reports_failure r ≡ is_failure (as_reply (stamped r))
-stamped-failure (Ok true) = refl
-stamped-failure (Ok false) = refl
-stamped-failure (Err fault) = refl
+stamped-failure a = grind (arith)
 
 pub tick-failure : (r : Result Tick Fault) (last : Option Batch) → reports_failure r ≡ is_failure (ticked r last)
-tick-failure (Ok came.Idle) last = refl
-tick-failure (Ok (came.Reached stage)) last = refl
-tick-failure (Ok came.Covered) (Some batch) = refl
-tick-failure (Ok came.Covered) None = refl
-tick-failure (Err fault) last = refl
+tick-failure a last = grind (arith)
 
 pub visit-failure : (r : Result Visit Fault) → reports_failure r ≡ is_failure (visited r)
-visit-failure (Ok (Slot slot)) = refl
-visit-failure (Ok SweepEnd) = refl
-visit-failure (Err fault) = refl
+visit-failure a = grind (arith)
 
 the-device : (fault : Fault) → is_failure (reply.Refused fault) ≡ true → fault ≡ DeviceFault
-the-device DeviceFault is = refl
-the-device _ is = absurd (cc is)
+the-device a is = grind (arith)
 
 fails-with : (r : SessionReply) → is_failure (as_reply r) ≡ true → r ≡ Refused DeviceFault
-fails-with (Began n) is = absurd (cc is)
-fails-with (Row row) is = absurd (cc is)
-fails-with (Rows rows) is = absurd (cc is)
-fails-with Done is = absurd (cc is)
-fails-with (Drawn t) is = absurd (cc is)
-fails-with More is = absurd (cc is)
-fails-with Stamped is = absurd (cc is)
-fails-with Waiting is = absurd (cc is)
-fails-with (Committed t) is = absurd (cc is)
-fails-with (Refused fault) is = ap (λ (f : Fault). let r : SessionReply = Refused f in r) (the-device fault is)
+fails-with a is = grind (arith, the-device)
 
 -- it doesn't where nothing is done to the device
 pub unfailing : (old new : Sessions) (cycle : Option Cycling) (device : Device) (s : SessionStep) (r : SessionReply) → SessionSteps old new device device s r → ∥ ShowsSomeIn old cycle device ∥₁ → is_failure (as_reply r) ≡ false
@@ -107,24 +87,13 @@ tick-waits (Err fault) before now last answer waits told is = is ∙ ap (λ (o :
 
 -- no other reply hands one out
 visit-leaves : (r : Result Visit Fault) (before : Option Batch) → left_after before (visited r) ≡ before
-visit-leaves (Ok (Slot slot)) before = refl
-visit-leaves (Ok SweepEnd) before = refl
-visit-leaves (Err fault) before = refl
+visit-leaves a before = grind (arith)
 
 pub visit-waits : (r : Result Visit Fault) (before now : Option Batch) (answer : Reply) → answer ≡ visited r → now ≡ before → now ≡ left_after before answer
 visit-waits r before now answer told same = same ∙ sym (ap (λ (a : Reply). left_after before a) told ∙ visit-leaves r before)
 
 session-leaves : (r : SessionReply) (before : Option Batch) → left_after before (as_reply r) ≡ before
-session-leaves (Began n) before = refl
-session-leaves (Row row) before = refl
-session-leaves (Rows rows) before = refl
-session-leaves Done before = refl
-session-leaves (Drawn t) before = refl
-session-leaves More before = refl
-session-leaves Stamped before = refl
-session-leaves Waiting before = refl
-session-leaves (Committed t) before = refl
-session-leaves (Refused fault) before = refl
+session-leaves a before = grind (arith)
 
 pub session-waits : (r : SessionReply) (before now : Option Batch) (answer : Reply) → answer ≡ as_reply r → now ≡ before → now ≡ left_after before answer
 session-waits r before now answer told same = same ∙ sym (ap (λ (a : Reply). left_after before a) told ∙ session-leaves r before)

@@ -1,6 +1,6 @@
 -- What a step makes of a room, from what it makes of its volatile state.
-use Rattle.std.proofs.Common.{◌≡◌, inl, inr, Bool, true, false, refl, sym, ◌∙◌, subst, arith}
-use Rattle.std.specs.Prelude.{Option, Some, None, slice_index}
+use Rattle.std.proofs.Common.{◌≡◌, Bool, true, false, refl, sym, ◌∙◌, subst, arith}
+use Rattle.std.specs.Prelude.{Option, slice_index}
 use Rattle.std.proofs.Math.Logic.{∥∥₁_map}
 use Rattle.base.specs.declared.fault.Fault.TheVariants.{Failed}
 use Rattle.base.specs.declared.step.Step.{Step}
@@ -33,9 +33,7 @@ shown-stands c device q shows image left = every-image-stands shows.shown.hidden
 
 -- the device has the words of the layout
 words-of : (q : State) (device : Device) (hand : Option Hand) → LogHoldsHand q device hand → device.words ≡ total_words q.layout
-words-of q device None holds = holds.stands.size
-words-of q device (Some hand) (inl flushing) = flushing.follows.holds.stands.size
-words-of q device (Some hand) (inr recording) = recording.replaces.stands.size
+words-of q device a holds = grind (arith)
 
 -- and once the gaps are swept it is clear of them
 pub shown-clear : (c : VolatileState) (device : Device) (q : State) → CommitterShows c device q → q.swept ≡ true → (image : Image) → MayLeave device image → IsClear q image

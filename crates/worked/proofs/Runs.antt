@@ -10,7 +10,7 @@ use Rattle.base.specs.Lists.{replaced}
 use Rattle.machine.specs.Machine.{State, Active, Drew, BySession, by_commit, device_failed, most_sessions, closed}
 use Rattle.machine.specs.Replay.{replies, end}
 use Rattle.worked.specs.Images.{key_7, ab, commit_1, record_of}
-use Rattle.worked.specs.Runs.{numbers, key_8, numbered_key, ticks, last_reply, start, insert, inserted, committed, updated, two_keys, FirstCommit, FailedFence, LostCommit, EmptyWriteSet, HalfWritten, CloseThenOpen, SessionNumbers, OwnWrites, Scans, Update, TwoKeys, AbortedWrites, FullWriteSet, NoSlotLeft, FirstCommitterWins, NoTimestampLeft, FreedSlots, SweptGaps}
+use Rattle.worked.specs.Runs.{numbers, key_8, numbered_key, ticks, last_reply, start, inserted, committed, updated, two_keys, FirstCommit, FailedFence, LostCommit, EmptyWriteSet, HalfWritten, CloseThenOpen, SessionNumbers, OwnWrites, Scans, Update, TwoKeys, AbortedWrites, FullWriteSet, NoSlotLeft, FirstCommitterWins, NoTimestampLeft, FreedSlots, SweptGaps}
 
 -- ---- states in between
 

@@ -3,13 +3,12 @@ use Rattle.std.proofs.Common.{◌≡◌, ℕ, zero, suc, Bool, true, false, ◌&
 use Rattle.std.specs.Prelude.{Some, None, unwrap_or, ◌||◌, nat_le, nat_lt}
 use Rattle.std.proofs.lemmas.Bool.Decides.{nat_tests}
 use Rattle.base.specs.declared.key.Key.{Key}
-use Rattle.base.specs.Keys.{key_eq}
 use Rattle.base.specs.Commits.{after}
 use Rattle.base.specs.Images.{TablesOf, ruling}
 use Rattle.base.specs.Stands.{Stands}
 use Rattle.machine.specs.Openings.{IsOpenedGaps}
 use Rattle.base.proofs.Keys.{key_eq-true}
-use Rattle.worked.specs.Images.{formatted_image, covered_image, commit_1, key_7 as k, FirstRunImages, DamagedImages, NinthGap, ReadImages, LongCommits}
+use Rattle.worked.specs.Images.{formatted_image, covered_image, commit_1, FirstRunImages, DamagedImages, NinthGap, ReadImages, LongCommits}
 
 -- one slot of the four shows the row
 forth : (key : Key) (row : List ℕ) → TablesOf covered_image key row → after (commit_1 ∷ []) key ≡ Some row
@@ -24,9 +23,7 @@ back_by true row e = (refl, cc)
 back_by false row e = cc
 
 back : (key : Key) (row : List ℕ) → after (commit_1 ∷ []) key ≡ Some row → TablesOf covered_image key row
-back key row e =
-    let b = back_by (key_eq k key) row e in
-    (0, omega arith, refl, key_eq-true k key b.0, b.1)
+back key row e = grind (arith, back_by, key_eq-true)
 
 pub covered-stands : Stands covered_image (commit_1 ∷ []) (commit_1 ∷ []) 10
 covered-stands = record { sound = refl; tables = λ key row. (forth key row, back key row); covered = refl; left_out = refl; reserved = omega arith }

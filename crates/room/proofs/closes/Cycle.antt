@@ -58,14 +58,10 @@ use Rattle.room.proofs.closes.Parts.{stands-closing}
 
 -- the state is shown on another device that upholds it
 moved : (c : VolatileState) (old new : Device) (q : State) (shown : Shows c old q) → Upholds shown.shown.hidden.origin q new → Shows c new q
-moved c old new q shown upholds = record {
-  shown = record { hidden = shown.shown.hidden; plain = shown.shown.plain; upholds = upholds; agrees = shown.shown.agrees };
-  cycle_is = shown.cycle_is;
-}
+moved c old new q shown upholds = grind (arith)
 
 no-hand : (q : State) (drawn : List DrawnCommit) (h : Option Hand) → HoldsCycle q drawn h None → h ≡ None
-no-hand q drawn None holds = refl
-no-hand q drawn (Some hand) holds = absurd holds
+no-hand q drawn a holds = grind (arith)
 
 is-closing : (c : VolatileState) (device : Device) (q : State) (shown : Shows c device q) → q.failed ≡ false → c.cycle ≡ None → list_all is_stamped (map plain_drawn c.sessions.drawn.commits) ≡ true → IsClosing shown.shown.hidden.origin q device
 is-closing c device q shown works rests stamped = grind (arith, no-hand) steps 800000

@@ -5,7 +5,7 @@ use Rattle.std.proofs.Math.Logic.{∥∥₁_elim, ∥∥₁_map}
 use Rattle.std.proofs.Math.Nat.{ℕ_set}
 use Rattle.std.proofs.lemmas.Bool.{and_parts, cases_lt, eq-eqb, eqb-true, leb-true, not-true}
 use Rattle.std.proofs.lemmas.List.Sums.{sum_by-cons}
-use Rattle.std.specs.Prelude.{Option, Some, None, Result, Ok, Err, nat_eq, nat_le, find, sum_by}
+use Rattle.std.specs.Prelude.{Option, Some, None, Result, Err, nat_eq, nat_le, find, sum_by}
 use Rattle.std.specs.List.{list_all, list_any}
 use Rattle.std.specs.Option.{option_map}
 use Rattle.base.specs.declared.fault.Fault.{Fault}
@@ -140,32 +140,27 @@ module _ (old : Sessions) (before : Device) (q : State) (n : ℕ) (shown : Sessi
 module _ (q q' : State) (n : ℕ) (r : SessionReply) (un : refusal q (step.Stamp n) ≡ None) (stepped : Stepped q (step.Stamp n) (as_reply r) q') where
   -- the last, or one of several
   answers : (b : Bool) (fault : Fault) → cond b reply.Stamped reply.More ≡ reply.Refused fault → ⊥
-  answers true fault told = cc told
-  answers false fault told = cc told
+  answers a fault told = grind (arith)
 
   fails : (fault : Fault) → r ≡ Refused fault → (fault ≡ DeviceFault) × (q' ≡ record q { failed = true })
   fails fault is = grind (arith, answers) steps 800000
 
   -- a reply that isn't a refusal
   as-refused : (r : SessionReply) (fault : Fault) → as_reply r ≡ reply.Refused fault → r ≡ Refused fault
-  as-refused (Refused other) fault told = cc told
-  as-refused _ fault told = absurd (cc told)
+  as-refused a fault told = grind (arith)
 
   stamps : ((fault : Fault) → r ≢ Refused fault) → q' ≡ next_state q (step.Stamp n)
   stamps unrefused_so = grind (arith, as-refused) steps 800000
 
 -- it is refused where the call returns a fault
 pub stamped-told : (r : Result Bool Fault) (fault : Fault) → stamped r ≡ Refused fault → r ≡ Err fault
-stamped-told (Ok true) fault told = absurd (cc told)
-stamped-told (Ok false) fault told = absurd (cc told)
-stamped-told (Err other) fault told = let same : other ≡ fault = cc told in ap (λ (f : Fault). let r : Result Bool Fault = Err f in r) same
+stamped-told a fault told = grind (arith)
 
 -- ---- a part
 
 -- with no cycle there is no batch in hand
 still-none : (q q' : State) (ds ds' : List DrawnCommit) (h : Option Hand) → HoldsCycle q ds h None → HoldsCycle q' ds' h None
-still-none q q' ds ds' None none = tt
-still-none q q' ds ds' (Some hand) none = none
+still-none q q' ds ds' a none = grind (arith)
 
 pub sessions-shown : (c : VolatileState) (device : Device) → ∥ ShowsSome c device ∥₁ → ∥ SessionsShowSome c.sessions device ∥₁
 sessions-shown c device some = ∥∥₁_map some (λ shown. (shown.0, shown.1.shown, shown.2))

@@ -3,7 +3,7 @@ use Rattle.std.proofs.Common.{◌≡◌, ◌≢◌, true, false, ◌&&◌, not, 
 use Rattle.std.proofs.Math.Bridge.{le_prop}
 use Rattle.std.proofs.Math.Logic.{∥∥₁_elim}
 use Rattle.std.proofs.Math.Nat.{ℕ_set}
-use Rattle.std.specs.Prelude.{Option, Some, None, Result, Ok, Err, is_none, is_some, IsTrue}
+use Rattle.std.specs.Prelude.{Option, Some, None, Result, Err, is_none, is_some, IsTrue}
 use Rattle.base.specs.declared.fault.Fault.{Fault}
 use Rattle.base.specs.declared.fault.Fault.TheVariants.{Device as DeviceFault}
 use Rattle.base.specs.Batches.{Batch}
@@ -23,7 +23,6 @@ use Rattle.room.specs.declared.volatile.VolatileState.{VolatileState}
 use Rattle.room.specs.Committing.{HoldsCycle, Shows}
 use Rattle.room.specs.Steps.{Steps, ShowsSome, ShowsSomeIn}
 use Rattle.room.specs.declared.ticks.Tick.{Tick}
-use Rattle.room.specs.declared.ticks.Tick.TheVariants as came
 use Rattle.room.specs.Ticks.{as_reply}
 use Rattle.room.specs.Closing.{ClosePhaseDone, ClosePhaseFailed}
 use Rattle.room.proofs.closes.Parts.{device-fault}
@@ -57,17 +56,12 @@ one-hand o a b first second = cc (first, second)
 
 -- it is no refusal where nothing was refused
 pub unrefused-reply : (r : Result Tick Fault) (last : Option Batch) → ((fault : Fault) → r ≢ Err fault) → (fault : Fault) → as_reply r last ≢ Refused fault
-unrefused-reply (Ok came.Idle) last un fault is = cc is
-unrefused-reply (Ok (came.Reached stage)) last un fault is = cc is
-unrefused-reply (Ok came.Covered) (Some batch) un fault is = cc is
-unrefused-reply (Ok came.Covered) None un fault is = cc is
-unrefused-reply (Err other) last un fault is = un other refl
+unrefused-reply a last un fault is = grind (arith)
 
 -- ---- a part
 
 pub rests : (o : Option Cycling) → is_some o ≡ false → o ≡ None
-rests None is = refl
-rests (Some cycle) is = absurd (cc is)
+rests a is = grind (arith)
 
 module _ (old new : VolatileState) (before now : Device) (reply : Reply) (busy : is_some old.cycle ≡ true) (some : ∥ ShowsSome old before ∥₁) (steps : Steps old new before now CommitTick reply) where
   hand-of : (q : State) → Shows old before q → (hand : Hand) × (q.hand ≡ Some hand)

@@ -1,5 +1,5 @@
 -- The number of the last record of a close, why one is refused, and the close as a whole.
-use Rattle.std.proofs.Common.{◌≡◌, inr, ℕ, ◌+◌, ◌^◌, ◌<◌, Bool, true, false, cond, refl, ◌∙◌, ap, arith}
+use Rattle.std.proofs.Common.{◌≡◌, inr, ℕ, ◌+◌, ◌^◌, ◌<◌, Bool, false, cond, ◌∙◌, ap, arith}
 use Rattle.std.proofs.Math.Bridge.{le_prop}
 use Rattle.std.proofs.Math.Logic.{∥∥₁_elim}
 use Rattle.std.proofs.lemmas.Bool.{leb-true}
@@ -23,15 +23,10 @@ use Rattle.room.proofs.closes.Parts.{stands-closing, failed_after, last_after}
 
 -- a cycle and a batch in hand go together
 hand-is : (q : State) (c : VolatileState) (h : Option Hand) (o : Option Cycling) → HoldsCycle q c.sessions.drawn.commits h o → is_some h ≡ is_some o
-hand-is q c None None holds = refl
-hand-is q c (Some hand) (Some cycle) holds = refl
-hand-is q c None (Some cycle) holds = absurd holds
-hand-is q c (Some hand) None holds = absurd holds
+hand-is q c a b holds = grind (arith)
 
 pub gate-is : (c : VolatileState) (device : Device) (q : State) → Shows c device q → closing_gate q ≡ c.sessions.numbers.record.gate + (if is_some c.cycle then 2 else 1)
-gate-is c device q shown =
-    ap (λ (b : Bool). q.ruling.gate + (if b then 2 else 1)) (hand-is q c q.hand c.cycle shown.cycle_is)
-    ∙ ap (λ (p : State). p.ruling.gate + (if is_some c.cycle then 2 else 1)) shown.shown.plain
+gate-is c device q shown = grind (arith, hand-is)
 
 -- there are numbers after that of the record that rules
 pub ruling-below : (c : VolatileState) (device : Device) (q : State) → Shows c device q → c.sessions.numbers.record.gate < 2 ^ 62
@@ -43,9 +38,7 @@ some-below c device some = ∥∥₁_elim some le_prop (λ shown. ruling-below c
 -- ---- why a close is refused
 
 fault-of : (failed past : Bool) → failed ≡ false → option_or (some_if failed Failed) (option_or (some_if past TimestampsOut) None) ≡ cond past (Some TimestampsOut) None
-fault-of true past works = absurd (cc works)
-fault-of false true works = refl
-fault-of false false works = refl
+fault-of a past works = grind (arith)
 
 not-past : (n : ℕ) → n < 2 ^ 62 → nat_le (2 ^ 62) n ≡ false
 not-past n less = grind (arith, leb-true) steps 800000
@@ -91,5 +84,4 @@ module _ (c : VolatileState) (before : Device) (gate : ℕ) (is : gate ≡ c.ses
             by (Err fault) failed = refused-part now fault (failed_after c new new before between now done fault failed)
 
 pub on_ok-from : (result : Result (Unit {0}) Fault) {P : Type 0} → P → OnOk result P
-on_ok-from (Ok ok) p = p
-on_ok-from (Err fault) p = tt
+on_ok-from a p = grind (arith)

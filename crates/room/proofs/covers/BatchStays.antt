@@ -1,7 +1,7 @@
 -- A step that is no tick of the committer leaves the batch in hand as it is, and its cycle with it: one of a session, and
 -- a visit of the collector, also where a sweep ends with it.
 use Rattle.std.proofs.Common.{◌≡◌, ℕ, ◌<◌, Bool, true, false, ◌&&◌, ◌||◌, not, List, [], ◌∷◌, ◌++◌, length, map, refl, sym, ◌∙◌, ap, subst, arith, nat_eq, nat_le}
-use Rattle.std.specs.Prelude.{Option, Some, None, Result, Ok, Err}
+use Rattle.std.specs.Prelude.{Option, Some, None, Result, Err}
 use Rattle.std.specs.List.{list_any, list_all}
 use Rattle.std.proofs.lemmas.Bool.{and_parts, and_from, le-leb, leb-true}
 use Rattle.std.proofs.lemmas.List.{append-nil, map-append, length-map}
@@ -11,9 +11,8 @@ use Rattle.base.specs.declared.step.Step.TheVariants.{Begin, Get, Scan, Put, Del
 use Rattle.base.specs.declared.step.Reply.{Reply}
 use Rattle.base.specs.declared.step.Reply.TheVariants as reply
 use Rattle.base.specs.declared.step.SessionStep.{SessionStep}
-use Rattle.base.specs.declared.step.SessionStep.TheVariants as session
 use Rattle.base.specs.declared.step.SessionReply.{SessionReply}
-use Rattle.base.specs.declared.step.SessionReply.TheVariants.{Began, Row, Rows, Done, Drawn as DrewAs, More, Stamped, Waiting, Committed, Refused}
+use Rattle.base.specs.declared.step.SessionReply.TheVariants.{Refused}
 use Rattle.base.specs.Steps.{as_step, as_reply}
 use Rattle.base.specs.Batches.{Batch}
 use Rattle.base.specs.Commits.{Commit, Writes}
@@ -26,7 +25,6 @@ use Rattle.machine.proofs.stamps.Drawn.{counted-commits}
 use Rattle.pmem.specs.Device.{Device}
 use Rattle.txn.specs.declared.drawn.DrawnCommit.{DrawnCommit}
 use Rattle.collector.specs.declared.visit.Visit.{Visit}
-use Rattle.collector.specs.declared.visit.Visit.TheVariants.{Slot, SweepEnd}
 use Rattle.group_commit.specs.Cycles.{Cycling}
 use Rattle.group_commit.specs.Laws.{IsAfter}
 use Rattle.device_invariant.specs.Log.{Line, line_number, lines_in}
@@ -71,9 +69,7 @@ next-leaves q (Poll n) is = same-leaves q
 next-leaves q (Abort n) is = record { hand = refl; ruling = refl; layout = refl; more = []; drawn = sym (append-nil (drawn_of q)); later = refl }
 next-leaves q (End n) is = record { hand = refl; ruling = refl; layout = refl; more = []; drawn = sym (append-nil (drawn_of q)); later = refl }
 next-leaves q CommitTick is = absurd (cc is)
-next-leaves q Collect is =
-    let changes = visit-changes q in
-    record { hand = changes.hand; ruling = changes.ruling; layout = changes.layout; more = []; drawn = ap (λ (ds : List Drawn). map (λ (d : Drawn). d.commit) ds) changes.drawn ∙ sym (append-nil (drawn_of q)); later = refl }
+next-leaves q Collect is = grind (arith, visit-changes, append-nil)
 
 leaves : (q q' : State) (step : Step) (reply : Reply) → is_no_tick step ≡ true → Stepped q step reply q' → LeavesHand q q'
 leaves q q' step reply is (refused fault why told same) = subst (LeavesHand q) (sym same) (same-leaves q)
@@ -106,14 +102,7 @@ beside-is n test (d ∷ ds) = ap (λ (b : Bool). nat_eq d.session n && test d.ti
 none-beside : (n : ℕ) (test : ℕ → Bool) (ms ts : List ℕ) → list_all (λ t. not (test t)) ts ≡ true → any-beside n test ms ts ≡ false
 none-beside n test [] ts none = refl
 none-beside n test (m ∷ ms) [] none = refl
-none-beside n test (m ∷ ms) (t ∷ ts) none =
-    let both = and_parts (not (test t)) (list_all (λ t. not (test t)) ts) none in
-    ap (λ (b : Bool). b || any-beside n test ms ts) (fails (nat_eq m n) (test t) both.0) ∙ none-beside n test ms ts both.1
-  where
-    fails : (a b : Bool) → not b ≡ true → (a && b) ≡ false
-    fails a true un = cc un
-    fails true false un = refl
-    fails false false un = refl
+none-beside n test (m ∷ ms) (t ∷ ts) none = grind (arith, and_parts, none-beside n test ms ts)
 
 more-beside : (n : ℕ) (test : ℕ → Bool) (ms more ts further : List ℕ) → length ms ≡ length ts → list_all (λ t. not (test t)) further ≡ true → any-beside n test (ms ++ more) (ts ++ further) ≡ any-beside n test ms ts
 more-beside n test [] more [] further same none = none-beside n test more further none
@@ -131,9 +120,7 @@ times-same q ds is = times-plain ds ∙ ap (λ (es : List Drawn). times-of (map 
 -- what was drawn from a timestamp on is in no record that persists less
 later-none : (r : Record) (next : ℕ) (cs : List Commit) → r.persisted < next → list_all (λ c. nat_le next c.timestamp) cs ≡ true → list_all (λ t. not (is_committed r t)) (times-of cs) ≡ true
 later-none r next [] low all = refl
-later-none r next (c ∷ cs) low all =
-    let both = and_parts (nat_le next c.timestamp) (list_all (λ c. nat_le next c.timestamp) cs) all in
-    and_from (not (is_committed r c.timestamp)) (list_all (λ t. not (is_committed r t)) (times-of cs)) (ap not (uncommitted-above r c.timestamp (omega (arith, low, leb-true next c.timestamp both.0)))) (later-none r next cs low both.1)
+later-none r next (c ∷ cs) low all = grind (arith, and_parts, and_from, uncommitted-above, leb-true, later-none r next cs low)
 
 -- the cycle is that of the batch in hand after the step too
 module _ (o : Origin) (q q' : State) (step : Step) (reply : Reply) (old new : List DrawnCommit) (kept : Keeps o q) (session : is_no_tick step ≡ true) (stepped : Stepped q step reply q')
@@ -195,40 +182,13 @@ shows-after old new cycle before now step reply q q' no_tick shows stepped shown
 -- ---- a session's step
 
 told-back : (r : SessionReply) (told : Fault) → as_reply r ≡ reply.Refused told → r ≡ Refused told
-told-back (Began n) told is = absurd (cc is)
-told-back (Row row) told is = absurd (cc is)
-told-back (Rows rows) told is = absurd (cc is)
-told-back Done told is = absurd (cc is)
-told-back (DrewAs t) told is = absurd (cc is)
-told-back More told is = absurd (cc is)
-told-back Stamped told is = absurd (cc is)
-told-back Waiting told is = absurd (cc is)
-told-back (Committed t) told is = absurd (cc is)
-told-back (Refused fault) told is = let same : fault ≡ told = cc is in ap (λ (f : Fault). let r : SessionReply = Refused f in r) same
+told-back a told is = grind (arith)
 
 no-tick : (s : SessionStep) → is_no_tick (as_step s) ≡ true
-no-tick session.Begin = refl
-no-tick (session.Get n key) = refl
-no-tick (session.Scan n table lo hi) = refl
-no-tick (session.Put n key row) = refl
-no-tick (session.Delete n key) = refl
-no-tick (session.Draw n) = refl
-no-tick (session.Stamp n) = refl
-no-tick (session.Poll n) = refl
-no-tick (session.Abort n) = refl
-no-tick (session.End n) = refl
+no-tick a = grind (arith)
 
 its-actor : (s : SessionStep) → session_of (as_step s) ≡ actor_of (as_step s)
-its-actor session.Begin = refl
-its-actor (session.Get n key) = refl
-its-actor (session.Scan n table lo hi) = refl
-its-actor (session.Put n key row) = refl
-its-actor (session.Delete n key) = refl
-its-actor (session.Draw n) = refl
-its-actor (session.Stamp n) = refl
-its-actor (session.Poll n) = refl
-its-actor (session.Abort n) = refl
-its-actor (session.End n) = refl
+its-actor a = grind (arith)
 
 pub session-steps : (old new : Sessions) (cycle : Option Cycling) (before now : Device) (s : SessionStep) (r : SessionReply) → SessionSteps old new before now s r
     → (q : State) → ShowsIn old cycle before q → q.failed ≡ false → (q' : State) × StepsToIn new cycle before now (as_step s) (as_reply r) q q'
@@ -245,9 +205,7 @@ session-steps old new cycle before now s r steps q shows works =
 -- ---- a visit of the collector
 
 visit-told-back : (r : Result Visit Fault) (told : Fault) → visit.as_reply r ≡ reply.Refused told → r ≡ Err told
-visit-told-back (Ok (Slot slot)) told is = absurd (cc is)
-visit-told-back (Ok SweepEnd) told is = absurd (cc is)
-visit-told-back (Err fault) told is = let same : fault ≡ told = cc is in ap (λ (f : Fault). let r : Result Visit Fault = Err f in r) same
+visit-told-back a told is = grind (arith)
 
 visit-steps : (old new : Sessions) (cycle : Option Cycling) (before now : Device) (r : Result Visit Fault) → Collects old new before now r
     → (q : State) → ShowsIn old cycle before q → q.failed ≡ false → (q' : State) × StepsToIn new cycle before now Collect (visit.as_reply r) q q'

@@ -11,11 +11,10 @@ use Rattle.base.specs.declared.step.Reply.{Reply}
 use Rattle.base.specs.declared.step.Reply.TheVariants.{Idle, Ticked, Refused}
 use Rattle.base.specs.Choosing as choosing
 use Rattle.base.specs.Records.{Record, is_committed}
-use Rattle.machine.specs.Machine.{State, Hand, is_idle, refusal, taken_in_hand, chosen, target_of, batch_of}
+use Rattle.machine.specs.Machine.{State, is_idle, refusal, taken_in_hand, chosen, target_of, batch_of}
 use Rattle.base.proofs.WellFormed.{well_formed-parts}
 use Rattle.pmem.specs.Device.{Device, IsOrderly}
 use Rattle.log_area.specs.declared.stage.WritingStage.TheVariants.{StoreBody, Done}
-use Rattle.log_area.specs.Rulings.{HoldsRecord}
 use Rattle.log_area.specs.Writings.{Progress, begun}
 use Rattle.txn.specs.declared.drawn.DrawnCommit.{DrawnCommit}
 use Rattle.dirty_table.specs.Touches.{has}
@@ -24,7 +23,6 @@ use Rattle.group_commit.specs.Cycles.{Cycling, IsBeginFault}
 use Rattle.group_commit.proofs.Counting.{ticks-are_counted}
 use Rattle.state_invariant.specs.Kept.{Origin}
 use Rattle.state_invariant.proofs.covers.Chosen.{keeps-chosen}
-use Rattle.device_invariant.specs.Log.{HoldsHand as LogHoldsHand}
 use Rattle.device_invariant.specs.Upholds.{Upholds}
 use Rattle.simulation.specs.cycles.Leads.{Ticks}
 use Rattle.simulation.proofs.cycles.covers.Ticks.{idle-ticks, choosing-ticks, refused-ticks}
@@ -51,10 +49,7 @@ pub next-below : (s : Sessions) (cycle : Option Cycling) (device : Device) (q : 
 next-below s cycle device q shows = let is : q.next ≡ s.numbers.next = ap (λ (p : State). p.next) shows.shown.plain in omega (arith, is, shows.shown.upholds.keeps.numbers.room)
 
 pub gate-below : (s : Sessions) (device : Device) (q : State) → ShowsIn s None device q → s.numbers.record.gate < 2 ^ 62
-gate-below s device q shows =
-    let is : q.ruling.gate ≡ s.numbers.record.gate = ap (λ (p : State). p.ruling.gate) shows.shown.plain in
-    let holds : HoldsRecord q.layout q.ruling device = subst (λ (hand : Option Hand). LogHoldsHand q device hand) (rests-of q s.drawn.commits shows.cycle_is) shows.shown.upholds.holds.log in
-    omega (arith, is, holds.stands.fits.in_range)
+gate-below s device q shows = grind (arith, rests-of)
 
 -- the next record names no more long commits than it has words for
 pub few-passed : (s : Sessions) (device : Device) (q : State) → ShowsIn s None device q → length (next_record s).longs ≤ 12
@@ -97,10 +92,7 @@ module _ (s : Sessions) (device : Device) (orderly : IsOrderly device) (q : Stat
   -- ---- nothing is due
 
   pub idles : has_rest s ≡ true → (q' : State) × StepsToIn s None device device CommitTick Idle q q'
-  idles idle =
-      let due : is_idle q ≡ true = due-same ∙ idle in
-      let none : refusal q CommitTick ≡ None = rw (works, rests, due) refl in
-      (q, quietly o q q Idle device s None (idle-ticks o q device orderly none rests due upholds) shows (λ told. absurd (cc told)))
+  idles idle = grind (arith, due-same, rests, quietly, idle-ticks, upholds)
 
   -- ---- a batch is due
 

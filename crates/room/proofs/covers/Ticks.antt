@@ -1,5 +1,5 @@
 -- A tick of the batch in hand, by the stage that its cycle is in.
-use Rattle.std.proofs.Common.{◌≡◌, ◌≢◌, inl, inr, ℕ, ◌+◌, ◌*◌, ◌/◌, ◌<◌, Bool, true, false, cond, ◌&&◌, ◌||◌, List, [], ◌∷◌, length, map, filter, get_or, refl, sym, ◌∙◌, ap, subst, arith, nat_eq, nat_lt, nat_le}
+use Rattle.std.proofs.Common.{◌≡◌, ◌≢◌, inl, inr, ℕ, ◌+◌, ◌*◌, ◌/◌, ◌<◌, Bool, true, false, ◌&&◌, List, [], ◌∷◌, length, map, filter, get_or, refl, sym, ◌∙◌, ap, subst, arith, nat_eq, nat_lt, nat_le}
 use Rattle.std.specs.Prelude.{Option, Some, None, slice_get, find}
 use Rattle.std.specs.List.{list_any, list_all}
 use Rattle.std.specs.Option.{option_map}
@@ -22,7 +22,7 @@ use Rattle.machine.specs.Machine.{State, Hand, Drawn, Stepped, drawn_of, batch_o
 use Rattle.pmem.specs.Device.{Device, IsOrderly, failed}
 use Rattle.pmem.specs.Trace.{Operation, flush_op, fence_op, failure, applied}
 use Rattle.log_area.specs.declared.stage.WritingStage.{WritingStage}
-use Rattle.log_area.specs.declared.stage.WritingStage.TheVariants.{StoreBody, FlushBody, FenceBody, StoreGate, FlushGate, FenceGate, Done}
+use Rattle.log_area.specs.declared.stage.WritingStage.TheVariants.{FenceGate, Done}
 use Rattle.log_area.specs.Stages.{reached_by, operations_before}
 use Rattle.log_area.specs.Writings.{operation_of}
 use Rattle.txn.specs.declared.drawn.DrawnCommit.{DrawnCommit}
@@ -71,11 +71,7 @@ held q drawn cycle holds = grind (arith) steps 800000
 
 pub found-any : (p : ℕ → Bool) (x : ℕ) (xs : List ℕ) → find p xs ≡ Some x → list_any (λ y. nat_eq y x) xs ≡ true
 found-any p x [] found = absurd (cc found)
-found-any p x (y ∷ ys) found = by (p y) found (found-any p x ys)
-  where
-    by : (b : Bool) → cond b (Some y) (find p ys) ≡ Some x → (find p ys ≡ Some x → list_any (λ z. nat_eq z x) ys ≡ true) → (nat_eq y x || list_any (λ z. nat_eq z x) ys) ≡ true
-    by true is rest = let same : y ≡ x = cc is in or_left (nat_eq y x) (list_any (λ z. nat_eq z x) ys) (eq-eqb y x same)
-    by false is rest = or_right (nat_eq y x) (list_any (λ z. nat_eq z x) ys) (rest is)
+found-any p x (y ∷ ys) found = grind (arith, found-any p x ys, or_left, eq-eqb, or_right)
 
 pub any-has : (p : ℕ → Bool) (x : ℕ) (xs : List ℕ) → list_any (λ y. nat_eq y x) xs ≡ true → list_all p xs ≡ true → p x ≡ true
 any-has p x [] any all = grind (arith) steps 800000
@@ -90,17 +86,10 @@ left-is lines ticks cycle at low = grind (arith) steps 800000
 -- ---- the last stage
 
 gate-of : (stage : WritingStage) → None ≡ reached_by stage → stage ≢ Done → stage ≡ FenceGate
-gate-of (StoreBody word) is un = absurd (cc is)
-gate-of (FlushBody line) is un = absurd (cc is)
-gate-of FenceBody is un = absurd (cc is)
-gate-of StoreGate is un = absurd (cc is)
-gate-of FlushGate is un = absurd (cc is)
-gate-of FenceGate is un = refl
-gate-of Done is un = absurd (un refl)
+gate-of a is un = grind (arith)
 
 writes-last : (done : ℕ) (o : Option ℕ) → None ≡ flushed_or_fenced done o → ⊥
-writes-last done None is = absurd (cc is)
-writes-last done (Some line) is = absurd (cc is)
+writes-last done a is = grind (arith)
 
 -- ---- what a tick leaves of a cycle
 

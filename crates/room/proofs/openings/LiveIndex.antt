@@ -1,6 +1,6 @@
 -- The index of the versions that an opening found live.
-use Rattle.std.proofs.Common.{◌≡◌, ◌⊎◌, inl, inr, ℕ, zero, suc, ◌+◌, ◌<◌, Bool, true, false, cond, List, [], ◌∷◌, map, length, refl, sym, ◌∙◌, ap, subst, arith, add-one}
-use Rattle.std.specs.Prelude.{Option, Some, None, is_some, slice_get, unwrap_or}
+use Rattle.std.proofs.Common.{◌≡◌, ◌⊎◌, inl, inr, ℕ, zero, suc, ◌+◌, ◌<◌, Bool, true, false, cond, List, [], ◌∷◌, map, refl, sym, ◌∙◌, ap, subst, arith, add-one}
+use Rattle.std.specs.Prelude.{Option, Some, is_some, slice_get, unwrap_or}
 use Rattle.std.specs.List.{Contains}
 use Rattle.std.proofs.lemmas.Bool.{true≢false}
 use Rattle.std.proofs.lemmas.Option.{slice_get-get_or}
@@ -8,7 +8,6 @@ use Rattle.std.proofs.lemmas.List.Elements.{Contains-append_left, Contains-appen
 use Rattle.base.specs.declared.key.Key.{Key}
 use Rattle.base.specs.Keys.{key_eq, lookup_key}
 use Rattle.base.specs.Images.{Image, key_of}
-use Rattle.base.specs.Layout.{Layout}
 use Rattle.base.proofs.Keys.{key_eq-true, key_eq-same}
 use Rattle.index.specs.declared.entry.Entry.{Entry}
 use Rattle.index.specs.Entries.{blank, entry_at, ArePlaced}
@@ -17,7 +16,7 @@ use Rattle.recovery.specs.declared.examining.Readings.{Readings}
 use Rattle.recovery.specs.declared.rows.LiveSlot.{LiveSlot}
 use Rattle.recovery.specs.Opened.{HasExamined}
 use Rattle.recovery.specs.Read.{AreOf}
-use Rattle.recovery.specs.Slots.{bad_below, is_free, free_below}
+use Rattle.recovery.specs.Slots.{is_free, free_below}
 use Rattle.recovery.specs.Live.{live_at, live_below}
 use Rattle.recovery.proofs.reads.LiveRows.{live-none, live-live, live-free, free-is, free-size}
 use Rattle.recovery.proofs.reads.Slots.{are-readings, readings-size}
@@ -32,8 +31,7 @@ none-in : (s : LiveSlot) → Contains [] s → ⊥
 none-in s c = omega (arith, c.1)
 
 one-in : (x s : LiveSlot) → Contains (x ∷ []) s → x ≡ s
-one-in x s (zero, lt, is) = is
-one-in x s (suc k, lt, is) = absurd (omega (arith, lt))
+one-in x s a = grind (arith, is)
 
 in-one : (x : LiveSlot) → Contains (x ∷ []) x
 in-one x = (0, omega arith, refl)
@@ -133,14 +131,7 @@ are-placed live places has = grind (arith, get-entry, get-slot) steps 800000
 
 -- of the image that was read they are those of the slots that were found live
 pub entries-are : (image : Image) (readings : Readings) (found : Examined) (entries : List (Key × Entry)) → AreOf image readings → HasExamined image found → HasEntries readings.slots.items entries → entries ≡ map entry_of found.live.items
-entries-are image readings found entries are has listed =
-    let known = is image found.geometry found.ruling found.gaps found.free.items found.live.items has.examined in
-    let same : found.geometry ≡ readings.geometry = sym known.rules.laid_out ∙ are.rules.laid_out in
-    let good : bad_below image readings.geometry.slots ≡ None = subst (λ (l : Layout). bad_below image l.slots ≡ None) same (none-bad image found.geometry found.ruling found.gaps found.free.items found.live.items has.examined) in
-    let size : length readings.slots.items ≡ found.geometry.slots = ap length are.slots_are ∙ readings-size image readings.geometry.slots ∙ ap (λ (l : Layout). l.slots) (sym same) in
-    listed image (are-readings image readings.geometry.slots readings.slots.items are.slots_are good)
-    ∙ ap (λ (n : ℕ). map entry_of (live_below image n)) size
-    ∙ ap (map entry_of) (sym known.live_are)
+entries-are image readings found entries are has listed = grind (arith, is, none-bad, readings-size, listed, are-readings)
 
 -- ---- all of them
 

@@ -49,15 +49,10 @@ use Rattle.room.specs.Room.{Shows}
 use Rattle.room.proofs.Rooms.{shown-stands, shown-clear}
 
 above-log : (a : Layout) (slot w : ℕ) → 8 + 32 * a.places ≤ word_of a slot w
-above-log a slot w = at (slot_words a.version)
-  where
-    at : (width : ℕ) → 8 + 32 * a.places ≤ 8 + 32 * a.places + width * slot + w
-    at width = omega arith
+above-log a slot w = grind (arith)
 
 none-held : {X : Type 0} (b c : Bool) (x : X) → b ≡ true → not c ≡ is_none (cond (b && c) (Some x) None)
-none-held true true x e = refl
-none-held true false x e = refl
-none-held false c x e = absurd (false≢true e)
+none-held a c x e = grind (arith, false≢true)
 
 -- ---- the index was made before the operations
 
@@ -142,11 +137,7 @@ module _ (old new : Device) (layout : Layout) (r : Record) (next : ℕ) (free : 
 
   -- so the index that was made before is that of the opened device
   pub found-now : (was : List Bool) (slots : ℕ) (index : List (Key × Entry)) → was ≡ free → slots ≡ layout.slots → HasFound (image_of old) was slots index → HasFound (image_of new) free layout.slots index
-  found-now was slots index same-free same-slots found =
-      subst (λ (n : ℕ). HasFound (image_of new) free n index) (ap (λ (l : Layout). l.slots) (sym layout_is))
-      (found-alike image (image_of new) free index rows-now wide
-      (subst (λ (n : ℕ). HasFound image free n index) (same-slots ∙ ap (λ (l : Layout). l.slots) layout_is)
-      (subst (λ (f : List Bool). HasFound image f slots index) same-free (found-updated (image_of old) up was slots index found))))
+  found-now was slots index same-free same-slots found = grind (arith, layout_is, found-alike, rows-now, wide, found-updated, up)
 
   -- free are the slots that aren't live
   free-is : free ≡ free_in image
@@ -154,9 +145,7 @@ module _ (old new : Device) (layout : Layout) (r : Record) (next : ℕ) (free : 
 
   -- each slot is free or not
   pub free-counted : length free ≡ layout.slots
-  free-counted =
-      ap (λ (l : List Bool). length l) free-is
-      ∙ (length-map-range_with_len (λ slot. not (is_shown (ruling image) image slot)) 0 (layout_of image).slots ∙ ap (λ (l : Layout). l.slots) (sym layout_is))
+  free-counted = grind (arith, free-is, length-map-range_with_len, layout_is)
 
   -- no operation failed
   pub no-failure : HasNoFailure old new

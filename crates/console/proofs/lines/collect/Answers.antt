@@ -1,7 +1,6 @@
-use Rattle.std.proofs.Common.{◌-◌, false, suc, inl, inr, arith, rules}
+use Rattle.std.proofs.Common.{suc, inl, inr, arith, rules}
 use Rattle.base.specs.declared.step.Step.TheVariants as step
 use Rattle.console.specs.Obeyed.{is_answered}
-use Rattle.console.specs.Rounds.{visits_needed}
 use Rattle.console.proofs.KeptHistory.{leads-step}
 use Rattle.console.proofs.Obeyed.{more-ticks}
 use Rattle.console.proofs.Repeating.{collects-so}

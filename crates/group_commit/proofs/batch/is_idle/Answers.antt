@@ -1,4 +1,4 @@
-use Rattle.std.proofs.Common.{rules, tests, ◌≡◌, ◌∙◌, ℕ, true, false, Bool, ◌&&◌, not, map, List, sym, ap}
+use Rattle.std.proofs.Common.{rules, tests, ◌≡◌, ◌∙◌, ℕ, true, false, Bool, ◌&&◌, not, map, List, sym, ap, arith}
 use Rattle.std.specs.List.{list_any}
 use Rattle.base.specs.Choosing.{is_chosen, is_idle, reach, has_other_reason_to_write}
 use Rattle.base.specs.Layout.{Layout, most_longs}
@@ -12,9 +12,7 @@ use Rattle.group_commit.proofs.batch.is_idle.Goals as goal
 tested : (a : Layout) (ruling : Record) (next : ℕ) (swept : Bool) (ds es : List DrawnCommit) (r : ℕ) (some : Bool)
     → some ≡ list_any (λ d. is_chosen r (plain_drawn d)) es → r ≡ reach (most_longs a.version) ruling.persisted (map plain_drawn ds) → es ≡ ds
     → is_idle a ruling next swept (map plain_drawn ds) ≡ (not some && not (has_other_reason_to_write a ruling next swept))
-tested a ruling next swept ds es r some is at same =
-    ap (λ (b : Bool). b && not (has_other_reason_to_write a ruling next swept))
-    (none-chosen (reach (most_longs a.version) ruling.persisted (map plain_drawn ds)) ds ∙ ap not (sym (is ∙ λ i. list_any (λ d. is_chosen (at i) (plain_drawn d)) (same i))))
+tested a ruling next swept ds es r some is at same = grind (arith, none-chosen)
 
 pub returns-after-window_is_short : goal.returns-after-window_is_short
 returns-after-window_is_short c =

@@ -1,14 +1,11 @@
-use Rattle.std.proofs.Common.{ap, arith, ◌<◌}
-use Rattle.base.specs.Layout.{Layout}
+use Rattle.std.proofs.Common.{arith, ◌<◌}
 use Rattle.pmem.specs.Words.{image_of}
 use Rattle.index.proofs.Slots.{no-slot, holds-as}
 use Rattle.index.proofs.Ways.{starts, looks-next}
 use Rattle.index.proofs.walking.look.Goals as goal
 
 pub returns-then-slot-slots-clause-looks : goal.returns-then-slot-slots-clause-looks
-returns-then-slot-slots-clause-looks g c = λ laid target seen leads.
-    let first = starts c.args.snapshot.now (image_of (g.D.Pmem.state c.args.device.now)) c.args.key target c.args.bound c.args.slot seen leads in
-    omega (arith, first.0.within, ap (λ (l : Layout). l.slots) laid, c.if-slot-slots.true, c.slots.ensures.value)
+returns-then-slot-slots-clause-looks g c = grind (arith, starts)
 
 pub returns-in-Some-clause-looks : goal.returns-in-Some-clause-looks
 returns-in-Some-clause-looks g c = λ laid.

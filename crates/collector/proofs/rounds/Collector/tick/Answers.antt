@@ -1,4 +1,4 @@
-use Rattle.std.proofs.Common.{◌<◌, ◌≤◌, Bool, cond, OnErr, sym, subst, arith}
+use Rattle.std.proofs.Common.{◌<◌, Bool, cond, OnErr, sym, subst, arith}
 use Rattle.std.proofs.lemmas.Bool.{le-ltb, lt-ltb}
 use Rattle.pmem.specs.Words.{value_of}
 use Rattle.pmem.specs.Trace.{StopsWithin}
@@ -15,10 +15,4 @@ returns-then-self-slots-clause-stopped g c =
     (sym (lt-ltb place c.args.geometry.slots within)) c.visit_slot.ensures.stopped
 
 pub returns-else-self-slots-clause-stopped : goal.returns-else-self-slots-clause-stopped
-returns-else-self-slots-clause-stopped g c =
-    let old = g.D.Pmem.state c.args.device.now in
-    let new = g.D.Pmem.state c.end_sweep.new.device in
-    let place = c.args.self.now.place in
-    let past : c.args.geometry.slots ≤ place = omega (arith, c.if-self-slots.false, c.slots.ensures.value) in
-    subst (λ (b : Bool). OnErr c.end_sweep.result (StopsWithin (cond b (slot_operations c.args.geometry c.args.gaps.now c.args.self.now.swept place (value_of old)) (end_operations c.args.gaps.now c.args.self.now.swept)) old new))
-    (sym (le-ltb place c.args.geometry.slots past)) c.end_sweep.ensures.stopped
+returns-else-self-slots-clause-stopped g c = grind (arith, le-ltb, c.if-self-slots.false, c.slots.ensures.value, c.end_sweep.ensures.stopped)

@@ -9,10 +9,7 @@ pub insert-requires : goal.insert-requires
 insert-requires c = subst (λ (ws : List ℕ). c.args.line / 64 < length ws) (sym (c.as_mut_slice.ensures.value ∙ c.self.view_is)) c.requires
 
 pub insert-requires-2 : goal.insert-requires-2
-insert-requires-2 c =
-    let inside : c.args.line / 64 < length c.self.inside.words.items = subst (λ (ws : List ℕ). c.args.line / 64 < length ws) (sym c.self.view_is) c.requires in
-    let below : c.args.line / 64 / 64 < length c.self.inside.summary.items = omega (arith, inside, c.self.invariant.enough) in
-    subst (λ (ws : List ℕ). c.args.line / 64 / 64 < length ws) (sym c.as_mut_slice-2.ensures.value) below
+insert-requires-2 c = grind (arith)
 
 pub invariant_of-self : goal.invariant_of-self
 invariant_of-self c =
@@ -24,10 +21,7 @@ invariant_of-self c =
     (λ i. c.insert-2.ensures.is_in i ∙ ap (λ (ws : List ℕ). nat_eq i (c.args.line / 64) || is_in ws i) c.as_mut_slice-2.ensures.value))
 
 pub returns-clause-is_in : goal.returns-clause-is_in
-returns-clause-is_in c = λ i.
-    ap (λ (ws : List ℕ). is_in ws i) (with_items_is c.self.inside.words c.insert.new.words (search rules))
-    ∙ c.insert.ensures.is_in i ∙ ap (λ (ws : List ℕ). nat_eq i c.args.line || is_in ws i) (c.as_mut_slice.ensures.value ∙ c.self.view_is)
+returns-clause-is_in c = grind (arith, with_items_is)
 
 pub returns-clause-size : goal.returns-clause-size
-returns-clause-size c =
-    ap (λ (ws : List ℕ). length ws) (with_items_is c.self.inside.words c.insert.new.words (search rules)) ∙ c.insert.ensures.size ∙ ap (λ (ws : List ℕ). length ws) (c.as_mut_slice.ensures.value ∙ c.self.view_is)
+returns-clause-size c = grind (arith, with_items_is)

@@ -34,6 +34,4 @@ invariant_of-self-else-index-eq0 c =
     (λ none. c.if-index-eq0.false (sym (read c.remove.new.words _ c.self.inside.words.items at c.index.result.now same size inside c.index.ensures) ∙ none)))
 
 pub returns-then-index-eq0-clause-is_in : goal.returns-then-index-eq0-clause-is_in
-returns-then-index-eq0-clause-is_in c = λ i.
-    ap (λ (ws : List ℕ). is_in ws i) (with_items_is c.self.inside.words c.remove.new.words (search rules))
-    ∙ c.remove.ensures.is_in i ∙ ap (λ (ws : List ℕ). is_in ws i && not (nat_eq i c.args.line)) (c.as_mut_slice.ensures.value ∙ c.self.view_is)
+returns-then-index-eq0-clause-is_in c = grind (arith, with_items_is)

@@ -1,6 +1,4 @@
-use Rattle.std.proofs.Common.{ℕ, subst}
-use Rattle.std.specs.Prelude.{Option, IfNone}
-use Rattle.dirty_table.specs.Touches.{IsUntouchedFrom}
+use Rattle.std.proofs.Common.{arith}
 use Rattle.dirty_table.proofs.Tables.{forgot-none, forgot-on, forgot-all}
 use Rattle.dirty_table.proofs.table.DirtyTable.forget.Goals as goal
 
@@ -12,6 +10,4 @@ loop-line-preserved c =
     forgot-on c.args.sessions.now c.args.self.now c.loop-line.self c.loop-line.from c.loop-line.invariant c.in-Some.line c.forget_line.new.self c.in-Some.ensures.some c.forget_line.ensures.touched c.forget_line.ensures.size
 
 pub returns : goal.returns
-returns c =
-    forgot-all c.args.sessions.now c.args.self.now c.loop-line.self c.loop-line.from c.loop-line.invariant
-    (subst (λ (r : Option ℕ). IfNone r (IsUntouchedFrom c.loop-line.self c.loop-line.from)) c.in_default.is c.next_touched.ensures.none)
+returns c = grind (arith, forgot-all)

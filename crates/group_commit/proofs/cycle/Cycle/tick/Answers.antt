@@ -1,17 +1,13 @@
-use Rattle.std.proofs.Common.{◌+◌, ◌≤◌, ap, subst, sym, ◌∙◌, arith}
+use Rattle.std.proofs.Common.{◌+◌, ◌≤◌, subst, sym, ◌∙◌, arith}
 use Rattle.std.specs.Prelude.{IsTrue}
 use Rattle.std.proofs.lemmas.Bool.{leb-true, le-leb}
-use Rattle.dirty_table.specs.Touches.{lines_touched}
 use Rattle.group_commit.specs.declared.stage.CycleStage.{CycleStage}
-use Rattle.group_commit.specs.Cycles.{Cycling, line_from, is_counted}
+use Rattle.group_commit.specs.Cycles.{is_counted}
 use Rattle.group_commit.proofs.Batches.{found-from}
 use Rattle.group_commit.proofs.cycle.Cycle.tick.Goals as goal
 
 pub flush-requires : goal.flush-requires
-flush-requires g c =
-    c.requires.lines c.in-Some.line
-    (sym (ap (λ (v : Cycling). line_from (lines_touched v.sessions c.args.table.now) v.stage) c.self.view_is)
-    ∙ ap (λ (s : CycleStage). line_from (lines_touched c.self.inside.sessions c.args.table.now) s) c.in-FlushLines.is ∙ sym c.next.ensures.line ∙ c.in-Some.is)
+flush-requires g c = grind (arith)
 
 pub overflow_add-self : goal.overflow_add-self
 overflow_add-self g c =

@@ -1,4 +1,4 @@
-use Rattle.std.proofs.Common.{◌≡◌, ◌∙◌, ℕ, Some, List, set, get_or, sym, subst}
+use Rattle.std.proofs.Common.{◌≡◌, ℕ, Some, List, set, get_or, sym, subst, arith}
 use Rattle.std.specs.Prelude.{Option}
 use Rattle.std.proofs.lemmas.Option.{get_or_from_slice_get}
 use Rattle.base.specs.declared.key.Key.{Key}
@@ -15,9 +15,7 @@ here now inside place key is there = subst (λ (es : List (Key × Entry)). IsAt 
 
 -- what the place holds then
 drawn : (inside : List (Key × Entry)) (place : ℕ) (key : Key) (x y : Key × Entry) (slot : Option ℕ) (t : ℕ) → IsAt inside place key → x ≡ get_or inside place x → y ≡ (x.0, with_draw slot t x.1) → (key, with_draw slot t (entry_at inside key)) ≡ y
-drawn inside place key x y slot t at is made =
-    let read : (key, entry_at inside key) ≡ x = sym (is ∙ get_or_from_slice_get inside place (key, entry_at inside key) x at) in
-    (λ i. ((read i).0, with_draw slot t (read i).1)) ∙ sym made
+drawn inside place key x y slot t at is made = grind (arith, get_or_from_slice_get)
 
 pub invariant_of-self : goal.invariant_of-self
 invariant_of-self c =

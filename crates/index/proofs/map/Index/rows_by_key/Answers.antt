@@ -1,8 +1,6 @@
-use Rattle.std.proofs.Common.{◌≡◌, ℕ, List, Some, None, cond, sym, ◌∙◌, ap, subst}
+use Rattle.std.proofs.Common.{◌≡◌, ℕ, List, Some, None, cond, sym, ◌∙◌, ap, subst, arith}
 use Rattle.std.specs.BTreeMap.{get}
-use Rattle.std.specs.BTreeMap.{is_at}
 use Rattle.std.specs.BTreeMap.Range.{entries_between}
-use Rattle.std.specs.Map.{lookup}
 use Rattle.std.specs.Map.Iter.{deref_pair}
 use Rattle.std.proofs.lemmas.Map.Iter.{rest_more, rest_all}
 use Rattle.base.specs.declared.key.Key.{Key}
@@ -18,8 +16,7 @@ use Rattle.index.proofs.Changes.{none-at}
 use Rattle.index.proofs.map.Index.rows_by_key.Goals as goal
 
 pub loop-key-init : goal.loop-key-init
-loop-key-init g c = λ counts tables agree linked shows.
-    none-yet tables c.into_iter-key-iterator.result (get key_cmp c.new-seen.result) (λ key. ap (λ (rows : List (Key × List ℕ)). lookup (is_at (key_cmp key)) rows) c.new-seen.ensures.empty)
+loop-key-init g c = grind (arith, none-yet)
 
 pub loop-key-preserved-in-Ok-1 : goal.loop-key-preserved-in-Ok-1
 loop-key-preserved-in-Ok-1 g c = λ counts tables agree linked shows.
