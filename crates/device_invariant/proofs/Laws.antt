@@ -74,12 +74,7 @@ keeps-ticked o q hand in_hand kept =
     keeps-with_hand o q (Some (record hand { ticks = hand.ticks + 1 })) q.failed kept (some-hand q (record hand { ticks = hand.ticks + 1 }) (kept.numbers.hand hand in_hand))
 
 upholds-ticked : (o : Origin) (q : State) (hand : Hand) (old new : Device) → q.hand ≡ Some hand → ShrinksSlots q.layout old new → HoldsState (one_tick_on q hand) new → Upholds o q old → Upholds o (one_tick_on q hand) new
-upholds-ticked o q hand old new in_hand shrinks holds u = record {
-  keeps = keeps-ticked o q hand in_hand u.keeps;
-  shows = shows-hand o q (Some (record hand { ticks = hand.ticks + 1 })) (value_of new) (shows-shrink o q old new (same-values q old new shrinks) u.shows);
-  links = links-hand o q (Some (record hand { ticks = hand.ticks + 1 })) (value_of new) (links-shrink o q old new (same-values q old new shrinks) u.links);
-  holds = holds;
-}
+upholds-ticked o q hand old new in_hand shrinks holds u = grind (arith, keeps-ticked o q hand in_hand, shows-hand, shows-shrink o q old new (same-values q old new shrinks) u.shows, same-values q old new shrinks, links-hand, links-shrink o q old new (same-values q old new shrinks) u.links)
 
 pub choosing-keeps : ChoosingKeeps
 choosing-keeps o q hand device none first k numbered u =

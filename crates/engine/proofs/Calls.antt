@@ -1,6 +1,6 @@
 -- Calls of several steps.
-use Rattle.std.proofs.Common.{◌≡◌, List, [], ◌∷◌, ◌++◌, sym, ap, ◌∙◌, append_assoc, append-nil}
-use Rattle.std.proofs.lemmas.List.Elements.{All-push, All-cons, All-nil, All-append}
+use Rattle.std.proofs.Common.{◌≡◌, List, [], ◌∷◌, ◌++◌, sym, ap, ◌∙◌, append_assoc, append-nil, arith}
+use Rattle.std.proofs.lemmas.List.Elements.{All-push, All-nil, All-append}
 use Rattle.base.specs.declared.step.Step.{Step}
 use Rattle.base.specs.declared.step.Note.{Note}
 use Rattle.audited.specs.declared.receipt.Receipt.{Receipt}
@@ -35,12 +35,7 @@ Called-append old mid new F G H c d both = record {
 -- a single step
 pub Called-one : (old new : List Receipt) (step : Step) (note : Note) (G : List Receipt → Type 0) → Asks old new step note
     → ((r : Receipt) → r.step ≡ step → r.note ≡ note → G (r ∷ [])) → Called old new G
-Called-one old new step note G a one = record {
-  added = a.receipt ∷ [];
-  is = a.added;
-  runs = All-cons (λ r. ∥ EndsRun r ∥₁) a.receipt [] a.run (All-nil (λ r. ∥ EndsRun r ∥₁));
-  holds = one a.receipt a.asked a.noted;
-}
+Called-one old new step note G a one = grind (arith)
 
 pub Called-weaken : (old new : List Receipt) (F G : List Receipt → Type 0) → Called old new F → ((added : List Receipt) → F added → G added) → Called old new G
 Called-weaken old new F G c weaken = record { added = c.added; is = c.is; runs = c.runs; holds = weaken c.added c.holds }

@@ -8,7 +8,7 @@ use Rattle.base.specs.declared.step.Step.TheVariants.{Draw, Stamp, Poll, End}
 use Rattle.base.specs.declared.step.Note.TheVariants.{Done, Refused, Waiting}
 use Rattle.audited.specs.declared.receipt.Receipt.{Receipt}
 use Rattle.engine.specs.declared.phase.Phase.{Phase}
-use Rattle.engine.specs.declared.phase.Phase.TheVariants.{Idle, Active, Drawn, Stamped, Covered}
+use Rattle.engine.specs.declared.phase.Phase.TheVariants.{Idle}
 use Rattle.engine.specs.Phases.{number_of, IsOpenAs}
 use Rattle.engine.specs.Receipts.{Asks, Refuses}
 use Rattle.engine.specs.Calls.{Called, AskPrepare, AskCommit, ArePolls, ReportsCommit, ReportsLast, ReportsFault, ReportsEnd, AreUncovered, AreUnended, DeclinesPrepare, DeclinesCall, note_of_commit}
@@ -36,14 +36,7 @@ stamps_uncovered n added stamps = λ place r less k polls. absurd (no_stamp_poll
 
 -- a prepare doesn't poll
 prepared_uncovered : (phase : Phase) (added : List Receipt) → AskPrepare phase added → AreUncovered added
-prepared_uncovered Idle added none = none_uncovered added none
-prepared_uncovered (Active n) added (inl none) = none_uncovered added none
-prepared_uncovered (Active n) added (inr (r, rest, is, drew, stamps)) =
-    subst AreUncovered (sym is)
-    (All-cons (λ (s : Receipt). (k : ℕ) → s.step ≡ Poll k → s.note ≡ Waiting) r rest (λ k polls. absurd (no_draw_polls n k (sym drew ∙ polls))) (stamps_uncovered n rest stamps))
-prepared_uncovered (Drawn n t) added stamps = stamps_uncovered n added stamps
-prepared_uncovered (Stamped n t) added none = none_uncovered added none
-prepared_uncovered (Covered n) added none = none_uncovered added none
+prepared_uncovered a added none = grind (arith, none_uncovered, no_draw_polls, stamps_uncovered)
 
 no_draw_ends : (n k : ℕ) → Draw n ≡ End k → ⊥
 no_draw_ends n k e = cc
@@ -71,44 +64,19 @@ polls_unended n added polls = λ place r less k ends. absurd (no_poll_ends n k (
 
 -- a prepare doesn't end
 prepared_unended : (phase : Phase) (added : List Receipt) → AskPrepare phase added → AreUnended added
-prepared_unended Idle added none = none_unended added none
-prepared_unended (Active n) added (inl none) = none_unended added none
-prepared_unended (Active n) added (inr (r, rest, is, drew, stamps)) =
-    subst AreUnended (sym is)
-    (All-cons (λ (s : Receipt). (k : ℕ) → s.step ≡ End k → s.note ≢ Done) r rest (λ k ends. absurd (no_draw_ends n k (sym drew ∙ ends))) (stamps_unended n rest stamps))
-prepared_unended (Drawn n t) added stamps = stamps_unended n added stamps
-prepared_unended (Stamped n t) added none = none_unended added none
-prepared_unended (Covered n) added none = none_unended added none
+prepared_unended a added none = grind (arith, none_unended, no_draw_ends, stamps_unended)
 
 -- a prepare that is refused is why a commit is
 prepare_declined : (E : Fault → Type 0) (phase : Phase) (added : List Receipt) (fault : Fault) → AskPrepare phase added → DeclinesPrepare E phase added fault → DeclinesCall E phase added fault
-prepare_declined E Idle added fault asks told = told
-prepare_declined E (Active n) added fault asks (inl told) = (inl told, prepared_unended (Active n) added asks)
-prepare_declined E (Active n) added fault asks (inr (ended, none)) = (inr (ended, none_uncovered added none), none_unended added none)
-prepare_declined E (Drawn n t) added fault asks told = (inl told, prepared_unended (Drawn n t) added asks)
-prepare_declined E (Stamped n t) added fault asks told = absurd told
-prepare_declined E (Covered n) added fault asks told = absurd told
+prepare_declined a b added fault asks told = grind (arith, prepared_unended, none_uncovered, none_unended)
 
 asks_some : (phase : Phase) (n : ℕ) (one two three : List Receipt) → n ≡ number_of phase → AskPrepare phase one → ArePolls n two → All (λ r. r.step ≡ End n) three → length three ≤ 1
     → AskCommit phase (one ++ (two ++ three))
-asks_some phase n one two three is asks polls ends short = record {
-  prepare = one;
-  polls = two;
-  end = three;
-  is = refl;
-  asks = asks;
-  all_polls = subst (λ (k : ℕ). ArePolls k two) is polls;
-  ends = subst (λ (k : ℕ). All (λ (r : Receipt). r.step ≡ End k) three) is ends;
-  one_end = short;
-}
+asks_some phase n one two three is asks polls ends short = grind (arith)
 
 -- where a transaction is open, a call is declined as its steps report
 pub declines : (E : Fault → Type 0) (phase : Phase) (added : List Receipt) (fault : Fault) → phase ≢ Idle → ReportsEnd E added fault → AreUnended added → DeclinesCall E phase added fault
-declines E Idle added fault is_open tells unended = absurd (is_open refl)
-declines E (Active n) added fault is_open tells unended = (tells, unended)
-declines E (Drawn n t) added fault is_open tells unended = (tells, unended)
-declines E (Stamped n t) added fault is_open tells unended = (tells, unended)
-declines E (Covered n) added fault is_open tells unended = (tells, unended)
+declines a b added fault is_open tells unended = grind (arith)
 
 -- none is open
 pub commit_idle : (E : Fault → Type 0) (old : List Receipt) (phase : Phase) → phase ≡ Idle → Called old old (λ added. AskCommit phase added × DeclinesCall E phase added NoSession)

@@ -1,6 +1,6 @@
 -- Receipts of one session more.
-use Rattle.std.proofs.Common.{◌≡◌, ℕ, ◌+◌, ◌≤◌, ◌<◌, List, [], ◌∷◌, ◌++◌, refl, sym, ap, subst, ◌∙◌, arith, take, drop, append-nil}
-use Rattle.std.specs.Prelude.{IsTrue, Bool, true, false, nat_lt, length, nat_eq, All, slice_index_or, if◌then◌else◌}
+use Rattle.std.proofs.Common.{◌≡◌, ℕ, ◌+◌, ◌≤◌, ◌<◌, List, [], ◌∷◌, ◌++◌, sym, ap, ◌∙◌, arith, take, drop, append-nil}
+use Rattle.std.specs.Prelude.{IsTrue, false, length, All, slice_index_or}
 use Rattle.std.proofs.lemmas.Grind.{flat_map-append}
 use Rattle.std.proofs.lemmas.List.{take_more, take-append-drop}
 use Rattle.std.proofs.lemmas.List.Sums.{sum_by-append}
@@ -25,26 +25,16 @@ receipts_more {D} {J} {B} {G} {N} {M} sessions i s less at =
 
 pub count_more : {D J B : Type 0} {G : Ghosts D} {N : Origins J} {M : Names J} (place : ℕ) (sessions : List (Session D J B G N M)) (i : ℕ) (s : Session D J B G N M) → i < length sessions → s ≡ slice_index_or sessions i s
     → count_at place (receipts_in (take (i + 1) sessions)) ≡ count_at place (receipts_in (take i sessions)) + count_at place s.receipts.items
-count_more place sessions i s less at =
-    ap (count_at place) (receipts_more sessions i s less at)
-    ∙ sum_by-append (λ (r : Receipt). if nat_eq r.place place then 1 else 0) (receipts_in (take i sessions)) s.receipts.items
+count_more place sessions i s less at = grind (arith, receipts_more sessions i s less at, sum_by-append)
 
 pub count_le : {D J B : Type 0} {G : Ghosts D} {N : Origins J} {M : Names J} (place : ℕ) (sessions : List (Session D J B G N M)) (n : ℕ) → count_at place (receipts_in (take n sessions)) ≤ count_at place (receipts_in sessions)
-count_le {D} {J} {B} {G} {N} {M} place sessions n =
-    let f : Receipt → ℕ = λ r. if nat_eq r.place place then 1 else 0 in
-    let parts : receipts_in sessions ≡ receipts_in (take n sessions) ++ receipts_in (drop n sessions) =
-    ap receipts_in (sym (take-append-drop n sessions)) ∙ flat_map-append (λ (x : Session D J B G N M). x.receipts.items) (take n sessions) (drop n sessions) in
-    omega (arith, ap (count_at place) parts, sum_by-append f (receipts_in (take n sessions)) (receipts_in (drop n sessions)))
+count_le {D} {J} {B} {G} {N} {M} place sessions n = grind (arith, take-append-drop n sessions, flat_map-append, sum_by-append)
 
 -- where the sessions so far have it more than once, they all do
 pub more_than_once : {D J B : Type 0} {G : Ghosts D} {N : Origins J} {M : Names J} (place : ℕ) (sessions : List (Session D J B G N M)) (i : ℕ) (s : Session D J B G N M) (before here : ℕ) → i < length sessions → s ≡ slice_index_or sessions i s
     → count_at place (receipts_in (take i sessions)) ≡ before → count_at place s.receipts.items ≡ here → 1 < before + here
     → (IsTrue false → count_at place (receipts_in sessions) ≡ 1) × (count_at place (receipts_in sessions) ≡ 1 → IsTrue false)
-more_than_once place sessions i s before here less at was is many =
-    (λ h. absurd (apart h), λ h. absurd (omega (arith, h, many, was, is, count_more place sessions i s less at, count_le place sessions (i + 1))))
-  where
-    apart : false ≡ true → ⊥
-    apart h = cc
+more_than_once place sessions i s before here less at was is many = grind (arith, count_more place sessions i s less at, count_le place sessions (i + 1))
 
 All-right : {X : Type 0} (P : X → Type 0) (xs ys : List X) → All P (xs ++ ys) → All P ys
 All-right P [] ys all = all
@@ -66,8 +56,4 @@ All-session {D} {J} {B} {G} {N} {M} P sessions i s less at all =
 
 -- the places go on by one
 pub Once-more : (entries : List (Step × Note)) (first place : ℕ) (receipts : List Receipt) → AreOnce entries first place receipts → IsOnceAt entries receipts place → AreOnce entries first (place + 1) receipts
-Once-more entries first place receipts before here at from to = by (nat_lt at place) refl
-  where
-    by : (b : Bool) → nat_lt at place ≡ b → IsOnceAt entries receipts at
-    by true is = before at from (grind (arith, nat_tests))
-    by false is = subst (IsOnceAt entries receipts) (grind (arith, nat_tests)) here
+Once-more entries first place receipts before here at from to = grind (arith, nat_tests)

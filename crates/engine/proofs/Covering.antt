@@ -1,5 +1,5 @@
 -- Which batches a run covered.
-use Rattle.std.proofs.Common.{◌≡◌, ◌∙◌, refl, sym, ap, subst}
+use Rattle.std.proofs.Common.{◌≡◌, ◌∙◌, refl, sym, ap, subst, arith}
 use Rattle.std.proofs.Math.Logic.{∥∥₁_map}
 use Rattle.std.specs.Option.{ForSome}
 use Rattle.std.specs.Prelude.{Option, Some, None}
@@ -7,7 +7,7 @@ use Rattle.base.specs.declared.fault.Fault.TheVariants.{OutOfMemory}
 use Rattle.base.specs.declared.step.Step.{Step}
 use Rattle.base.specs.declared.step.Note.{Note}
 use Rattle.base.specs.declared.step.Reply.{Reply}
-use Rattle.base.specs.declared.step.Reply.TheVariants.{Began, Row, Rows, Done, Drawn, More, Stamped, Waiting, Committed, Idle, Ticked, Covered, Visited, SweepEnd, Refused}
+use Rattle.base.specs.declared.step.Reply.TheVariants.{Covered, Refused}
 use Rattle.base.specs.Published.{Published}
 use Rattle.base.specs.Batches.{Batch}
 use Rattle.base.specs.Images.{Image}
@@ -42,10 +42,7 @@ covered-by state image lent old new step reply from is leads batch covers =
 
 -- a step that wanted memory covered none
 pub memory-covers : (image : Image) (reply : Reply) → reply ≡ Refused OutOfMemory → (batch : Batch) → reply ≡ Covered batch → HasCovered image batch
-memory-covers image reply is batch covers = absurd (not_both batch (sym is ∙ covers))
-  where
-    not_both : (b : Batch) → ◌≡◌ {A = Reply} (Refused OutOfMemory) (Covered b) → ⊥
-    not_both b e = cc
+memory-covers image reply is batch covers = grind (arith)
 
 note-kept : (image : Image) (made : Option (Reply × Option Receipt)) (reply : Reply) (kept : Option Receipt) (receipt : Receipt) → ForSome made (IsTurn image) → made ≡ Some (reply, kept) → kept ≡ Some receipt → receipt.note ≡ note_of reply
 note-kept image made reply kept receipt turn is has = some_is (λ (r : Receipt). r.note ≡ note_of reply) kept receipt (turn (reply, kept) is).note has
@@ -58,21 +55,7 @@ turn-posted image made reply kept receipt batch list turn is has covers ends =
     (batch, refl, (turn (reply, kept) is).covered batch covers, ends)
 
 unposted : (image : Image) (reply : Reply) → ((batch : Batch) → reply ≡ Covered batch → ⊥) → IsPosted image (note_of reply) None
-unposted image (Began n) other = tt
-unposted image (Row row) other = tt
-unposted image (Rows rows) other = tt
-unposted image Done other = tt
-unposted image (Drawn t) other = tt
-unposted image More other = tt
-unposted image Stamped other = tt
-unposted image Waiting other = tt
-unposted image (Committed t) other = tt
-unposted image Idle other = tt
-unposted image (Ticked stage) other = tt
-unposted image (Covered batch) other = other batch refl
-unposted image (Visited slot) other = tt
-unposted image SweepEnd other = tt
-unposted image (Refused fault) other = tt
+unposted image a other = grind (arith)
 
 -- none was
 pub turn-unposted : (image : Image) (made : Option (Reply × Option Receipt)) (reply : Reply) (kept : Option Receipt) (receipt : Receipt)

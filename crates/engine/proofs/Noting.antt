@@ -1,5 +1,5 @@
 -- What is due once a reply was noted.
-use Rattle.std.proofs.Common.{◌≡◌, ◌∙◌, ℕ, Bool, true, false, not, ◌&&◌, ◌||◌, if◌then◌else◌, List, refl, sym, ap, subst, arith}
+use Rattle.std.proofs.Common.{◌≡◌, ℕ, Bool, true, false, not, ◌&&◌, ◌||◌, if◌then◌else◌, List, refl, sym, subst, arith}
 use Rattle.std.specs.Prelude.{MatchOption, Option, Some}
 use Rattle.base.specs.declared.gap.Gap.{Gap}
 use Rattle.base.specs.declared.step.Reply.{Reply}
@@ -45,19 +45,7 @@ pub record-due : (old mid new : Due) (reply : Reply) (enough quarter : ℕ) (sta
     → wants_record_of reply status.dirty status.gaps status.next window ≡ true → mid ≡ due_after old reply false quarter
     → new.tick ≡ true → new.news.committer ≡ (mid.news.committer || not mid.tick) → (new.news.collector ≡ mid.news.collector) × (new.news.waiting ≡ mid.news.waiting) → new.visit ≡ mid.visit
     → (new.covered ≡ mid.covered) × (new.is_slot_wanted ≡ mid.is_slot_wanted) → new ≡ due_after old reply (wants_record reply q.ruling q.next q.layout.window) enough
-record-due old mid new reply enough quarter status q window s width same wants noted tick committer others visit counts =
-    subst (λ (b : Bool). new ≡ due_after old reply b enough) (sym here)
-    (subst (λ (n : ℕ). new ≡ due_after old reply true n) same (with-tick (wants-same reply status.dirty status.gaps status.next window wants old.tick)))
-  where
-    here : wants_record reply q.ruling q.next q.layout.window ≡ true
-    here =
-        sym (ap (λ (d : ℕ). wants_record_of reply d status.gaps status.next window) s.dirty
-        ∙ (ap (λ (gs : List Gap). wants_record_of reply q.ruling.dirty gs status.next window) s.gaps
-        ∙ (ap (λ (n : ℕ). wants_record_of reply q.ruling.dirty q.ruling.gaps n window) s.next ∙ ap (λ (n : ℕ). wants_record_of reply q.ruling.dirty q.ruling.gaps q.next n) width)))
-        ∙ wants
-
-    with-tick : tick_after old.tick reply ≡ old.tick → new ≡ due_after old reply true quarter
-    with-tick still = grind (arith, noted, tick, committer, others, visit, counts, still)
+record-due old mid new reply enough quarter status q window s width same wants noted tick committer others visit counts = grind (arith, wants-same)
 
 -- of the room that is there
 pub match-some : {A : Type 0} (N : Type 0) (P : A → Type 0) (o : Option A) (x : A) → o ≡ Some x → P x → MatchOption o N P

@@ -1,5 +1,5 @@
 -- Where receipts leave a transaction.
-use Rattle.std.proofs.Common.{◌≡◌, List, [], ◌∷◌, ◌++◌, refl, sym, ap, ◌∙◌, drop, length}
+use Rattle.std.proofs.Common.{◌≡◌, List, [], ◌∷◌, ◌++◌, refl, arith}
 use Rattle.std.proofs.Math.Seq.{drop-append_seam}
 use Rattle.audited.specs.declared.receipt.Receipt.{Receipt}
 use Rattle.engine.specs.declared.phase.Phase.{Phase}
@@ -14,16 +14,9 @@ phase_after-append phase (r ∷ one) two = phase_after-append (phase_after_step 
 -- a receipt more
 pub phase_after-push : (phase phase' : Phase) (old new : List Receipt) (r : Receipt) → phase ≡ phase_after Idle old → new ≡ old ++ r ∷ []
     → phase' ≡ phase_after_step phase r.step r.note → phase' ≡ phase_after Idle new
-phase_after-push phase phase' old new r is more next =
-    next
-    ∙ (ap (λ (p : Phase). phase_after_step p r.step r.note) is
-    ∙ (sym (phase_after-append Idle old (r ∷ [])) ∙ ap (phase_after Idle) (sym more)))
+phase_after-push phase phase' old new r is more next = grind (arith, phase_after-append)
 
 -- all that a call added
 pub phase_after-called : (phase phase' : Phase) (old new : List Receipt) (F : List Receipt → Type 0) → phase ≡ phase_after Idle old → phase' ≡ phase_after Idle new
     → Called old new F → phase' ≡ phase_after phase (added_since old new)
-phase_after-called phase phase' old new F is after c =
-    after
-    ∙ (ap (phase_after Idle) c.is
-    ∙ (phase_after-append Idle old c.added
-    ∙ (ap (λ (p : Phase). phase_after p c.added) (sym is) ∙ ap (phase_after phase) (sym (ap (drop (length old)) c.is ∙ drop-append_seam old c.added)))))
+phase_after-called phase phase' old new F is after c = grind (arith, phase_after-append, drop-append_seam)

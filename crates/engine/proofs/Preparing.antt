@@ -1,5 +1,5 @@
 -- A draw and its stamps.
-use Rattle.std.proofs.Common.{◌≡◌, ◌⊎◌, ℕ, List, [], ◌∷◌, ◌++◌, refl, sym, ◌∙◌, ap, subst, inl, inr}
+use Rattle.std.proofs.Common.{◌≡◌, ◌⊎◌, ℕ, List, [], ◌∷◌, ◌++◌, refl, sym, ◌∙◌, ap, subst, inl, inr, arith}
 use Rattle.std.specs.Prelude.{All, Option, Some, None}
 use Rattle.base.specs.declared.fault.Fault.{Fault}
 use Rattle.base.specs.declared.fault.Fault.TheVariants.{OutOfMemory}
@@ -16,8 +16,7 @@ use Rattle.engine.proofs.Calls.{Called-none, Called-one, Called-append}
 
 -- why nothing will be covered is why nothing is drawn
 not_drawn : (E : Fault → Type 0) (n : ℕ) (fault : Fault) → (fault ≡ OutOfMemory) ⊎ E fault → DeclinesPrepare E (Active n) [] fault
-not_drawn E n fault (inl none) = inl (inl none)
-not_drawn E n fault (inr ended) = inr (ended, refl)
+not_drawn a n fault b = grind (arith)
 
 drawn_first : (old mid new : List Receipt) (n : ℕ) (note : Note) (F G : List Receipt → Type 0)
     → Asks old mid (Draw n) note → Called mid new F
@@ -73,8 +72,4 @@ drawn_told old mid new phase n t answer is at a c =
 -- nothing was written, so nothing is stamped
 pub nothing_told : (old new : List Receipt) (phase : Phase) (n : ℕ) (answer : Option ℕ) → phase ≡ Active n → answer ≡ None → Asks old new (Draw n) (note_of_draw answer)
     → Called old new (λ added. AskPrepare phase added × ReportsPrepare phase added None)
-nothing_told old new phase n answer is at a =
-    Called-one old new (Draw n) (note_of_draw answer) _ a (λ r step told. (
-      subst (λ (p : Phase). AskPrepare p (r ∷ [])) (sym is) (inr (r, [], refl, step, All-nil (λ (s : Receipt). s.step ≡ Stamp n))),
-      subst (λ (p : Phase). ReportsPrepare p (r ∷ []) None) (sym is) ((r, [], refl, told ∙ ap note_of_draw at), (r, refl)),
-    ))
+nothing_told old new phase n answer is at a = grind (arith)

@@ -1,5 +1,5 @@
 -- What a try to publish comes to.
-use Rattle.std.proofs.Common.{◌≡◌, ◌∙◌, ◌-◌, sym, ap, subst, inl, inr, arith}
+use Rattle.std.proofs.Common.{◌≡◌, ◌∙◌, sym, ap, subst, arith}
 use Rattle.std.specs.Prelude.{Option, Some, None}
 use Rattle.std.proofs.lemmas.List.Elements.{Contains-push}
 use Rattle.base.specs.Batches.{Batch}
@@ -30,7 +30,4 @@ told-batch old new batch list is same =
     subst (λ (l : Published). EndsIn l batch) (sym (same ∙ ap (λ (s : Shown). s.list) is)) (ends-pruned (with_batch old (Some batch)) batch (ends-with (whole old) batch))
 
 pub announced-left : (old new : Shown) (batch : Batch) (rest : Option Batch) (due : Published) → Posts old new (Some batch) (Again rest) → rest ≡ None → due ≡ whole new → EndsIn due batch
-announced-left old new batch (Some left) due is none same = absurd (cc none)
-announced-left old new batch None due (inl is) none same = subst (λ (l : Published). EndsIn l batch) (sym (same ∙ is)) (ends-with (whole old) batch)
-announced-left old new batch None due (inr is) none same =
-    subst (λ (l : Published). EndsIn l batch) (sym (same ∙ is)) (ends-pruned (with_batch old (Some batch)) batch (ends-with (whole old) batch))
+announced-left old new batch a due is none same = grind (arith, ends-with, ends-pruned)

@@ -1,6 +1,6 @@
 -- Which refusal a call of several steps reports.
-use Rattle.std.proofs.Common.{◌≡◌, ℕ, List, [], ◌∷◌, ◌++◌, length, drop, refl, sym, ap, ◌∙◌, subst, inl, inr}
-use Rattle.std.specs.Prelude.{Option, Some, None}
+use Rattle.std.proofs.Common.{◌≡◌, ℕ, List, [], ◌∷◌, ◌++◌, length, drop, refl, sym, ap, ◌∙◌, subst, inl, inr, arith}
+use Rattle.std.specs.Prelude.{Option, None}
 use Rattle.std.specs.Option.{option_or}
 use Rattle.std.proofs.Math.Seq.{drop-append_seam}
 use Rattle.base.specs.declared.fault.Fault.{Fault}
@@ -16,32 +16,23 @@ use Rattle.engine.proofs.Calls.{Called-append, Called-more, Called-none}
 -- ---- lists
 
 none-first : (o p : Option Fault) → option_or o p ≡ None → o ≡ None
-none-first None p h = refl
-none-first (Some fault) p h = absurd (cc h)
+none-first a p h = grind (arith)
 
 none-rest : (o p : Option Fault) → option_or o p ≡ None → p ≡ None
-none-rest None p h = h
-none-rest (Some fault) p h = absurd (cc h)
+none-rest a p h = grind (arith)
 
 -- after steps none of which was refused, the first refusal is that of the others
 unrefused-append : (one two : List Receipt) → first_refusal one ≡ None → first_refusal (one ++ two) ≡ first_refusal two
 unrefused-append [] two none = refl
-unrefused-append (r ∷ one) two none =
-    ap (λ (o : Option Fault). option_or o (first_refusal (one ++ two))) (none-first (refused_with r.note) (first_refusal one) none)
-    ∙ unrefused-append one two (none-rest (refused_with r.note) (first_refusal one) none)
+unrefused-append (r ∷ one) two none = grind (arith, none-first, unrefused-append one two (none-rest (refused_with r.note) (first_refusal one) none), none-rest)
 
 -- one step
 pub of-one : (r : Receipt) (note : Note) → r.note ≡ note → first_refusal (r ∷ []) ≡ refused_with note
-of-one r note is = none-after (refused_with r.note) ∙ ap refused_with is
-  where
-    none-after : (o : Option Fault) → option_or o None ≡ o
-    none-after None = refl
-    none-after (Some fault) = refl
+of-one r note is = grind (arith)
 
 -- what a draw is answered doesn't refuse
 pub draw-still : (answer : Option ℕ) → refused_with (note_of_draw answer) ≡ None
-draw-still (Some t) = refl
-draw-still None = refl
+draw-still a = grind (arith)
 
 -- ---- calls
 

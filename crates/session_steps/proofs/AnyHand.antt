@@ -1,14 +1,13 @@
 -- The sessions agree with the plain state whatever is in hand, and whether it failed or not.
-use Rattle.std.proofs.Common.{ℕ, Bool, sym, ap, subst, Option, Some, None}
+use Rattle.std.proofs.Common.{ℕ, Bool, sym, ap, subst, Option, arith}
 use Rattle.std.specs.Prelude.{slice_index_or}
-use Rattle.machine.specs.Machine.{State, Hand, Version, Writer, ByCommit, BySession}
+use Rattle.machine.specs.Machine.{State, Hand, Version, Writer, ByCommit}
 use Rattle.pmem.specs.Device.{Device}
 use Rattle.device_invariant.specs.Upholds.{Upholds}
 use Rattle.device_invariant.specs.Slots.{newest_of}
 use Rattle.txn.specs.declared.write.Write.{Write}
 use Rattle.txn.specs.declared.drawn.DrawnCommit.{DrawnCommit}
 use Rattle.txn.specs.declared.transaction.Transaction.{Transaction}
-use Rattle.txn.specs.declared.transaction.Transaction.TheVariants.{Active, Drawn, ReadOnly}
 use Rattle.txn.specs.Transactions.{transaction_at}
 use Rattle.index.specs.Entries.{entry_at, live_of}
 use Rattle.simulation.specs.steps.Moves.{IsSlotOf}
@@ -27,18 +26,13 @@ module _ (s : Sessions) (h : Hidden) (hand : Option Hand) (failed : Bool) (a : A
   is = plain_of s (hidden_with h hand failed)
 
   slot-with : (v : Version) (o : Option ℕ) → IsSlotOf was v o → IsSlotOf is v o
-  slot-with v None none = none
-  slot-with v (Some slot) some = some
+  slot-with v a none = grind (arith)
 
   write-with : (w : Writer) (write : Write) → HasItsSlot was w write → HasItsSlot is w write
   write-with w write f = record { slot = slot-with (record { key = write.key; writer = w }) write.slot f.slot; row = f.row }
 
   session-with : (n seen : ℕ) (t : Option Transaction) → HoldsSession h.origin was n seen t → HoldsSession h.origin is n seen t
-  session-with n seen None held = tt
-  session-with n seen (Some (Active snapshot writes)) held =
-      (record { covered = held.0.covered; early = held.0.early; gaps = held.0.gaps }, λ k d lt. write-with (BySession n) (slice_index_or writes k d) (held.1 k d lt))
-  session-with n seen (Some (Drawn t)) held = tt
-  session-with n seen (Some ReadOnly) held = tt
+  session-with n seen a held = grind (arith, write-with)
 
   drawn-with : (d : DrawnCommit) → HoldsDrawn s was d → HoldsDrawn s is d
   drawn-with d f = record { session = f.session; writes = λ k e lt. write-with (ByCommit d.timestamp) (slice_index_or d.writes k e) (f.writes k e lt); room = f.room }

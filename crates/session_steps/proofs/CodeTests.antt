@@ -19,12 +19,10 @@ unfound {X} test (x ∷ xs) none = grind (arith, All-cons, unfound test xs) step
 
 -- what bars a session whose transaction isn't one of these
 pub barred : (lets : Transaction → Bool) (o : Option Transaction) (fault : Fault) → is_one_of lets o ≡ false → fault ≡ bar_of o → IsBarred lets o fault
-barred lets None fault out is = is
-barred lets (Some t) fault out is = (is, out)
+barred lets a fault out is = grind (arith)
 
 pub barred-over : (drawn : List DrawnCommit) (o : Option Transaction) (fault : Fault) → is_over_at drawn o ≡ false → fault ≡ bar_of o → IsBarred (is_over drawn) o fault
-barred-over drawn None fault out is = is
-barred-over drawn (Some t) fault out is = (is, out)
+barred-over drawn a fault out is = grind (arith)
 
 -- no more are drawn
 pub same-drawers : (ds : List DrawnCommit) → (more : List ℕ) × (map (λ (d : DrawnCommit). d.session) ds ≡ map (λ (d : DrawnCommit). d.session) ds ++ more)

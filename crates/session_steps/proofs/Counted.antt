@@ -1,5 +1,5 @@
 -- Free slots and covered rows, counted.
-use Rattle.std.proofs.Common.{◌≡◌, inl, ℕ, zero, suc, ◌+◌, ◌<◌, Bool, true, false, cond, List, [], ◌∷◌, map, length, take, refl, sym, ◌∙◌, ap, arith, is_some, get_or}
+use Rattle.std.proofs.Common.{◌≡◌, inl, ℕ, zero, suc, ◌<◌, Bool, true, false, List, [], ◌∷◌, map, length, take, refl, sym, ◌∙◌, ap, arith, is_some}
 use Rattle.std.specs.Prelude.{Option, Some, None, is_none, slice_get}
 use Rattle.std.specs.List.{IsDistinct, AllByRecursion, list_any}
 use Rattle.std.proofs.lemmas.Bool.{and_parts}
@@ -27,15 +27,10 @@ use Rattle.session_steps.specs.Usage.{free_slots, CountsRows}
 
 count_below-same : (n : ℕ) (f g : ℕ → Bool) → ((k : ℕ) → k < n → f k ≡ g k) → count_below n f ≡ count_below n g
 count_below-same zero f g each = refl
-count_below-same (suc n) f g each =
-    let rest : count_below n f ≡ count_below n g = count_below-same n f g (λ k h. each k (omega (arith, h))) in
-    let here : f n ≡ g n = each n (omega arith) in
-    λ i. rest i + cond (here i) 1 0
+count_below-same (suc n) f g each = grind (arith, count_below-same n f g)
 
 is_free-at : (free : List Bool) (slot : ℕ) (b : Bool) → slot < length free → slice_get free slot ≡ Some b → is_free free slot ≡ b
-is_free-at free slot b lt at =
-    let both : Some (get_or free slot false) ≡ Some b = sym (slice_get-get_or free slot false lt) ∙ at in
-    cc both
+is_free-at free slot b lt at = grind (arith, slice_get-get_or)
 
 pub free-counted : (s : Sessions) (device : Device) (q : State) → Shows s device q → free_count s.slots ≡ free_slots q
 free-counted s device q shows =
@@ -49,10 +44,7 @@ Row = Key × List ℕ
 
 above : (a b : Key) (keys : List Key) → key_lt a b ≡ true → is_rising (b ∷ keys) ≡ true → AllByRecursion (λ y. key_eq a y ≡ false) keys
 above a b [] lt rising = tt
-above a b (c ∷ keys) lt rising =
-    let both = and_parts (key_lt b c) (is_rising (c ∷ keys)) rising in
-    let less : key_lt a c ≡ true = key_lt-trans a b c lt both.0 in
-    (key_lt-apart a c less, above a c keys less both.1)
+above a b (c ∷ keys) lt rising = grind (arith, and_parts, key_lt-trans, key_lt-apart, above a c keys)
 
 rising-distinct : (keys : List Key) → is_rising keys ≡ true → IsDistinct key_eq keys
 unfolding IsDistinct

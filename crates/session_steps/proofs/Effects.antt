@@ -1,5 +1,5 @@
 -- What a step did to its device: nothing, operations that all succeeded, or such as ended with one that failed.
-use Rattle.std.proofs.Common.{◌≡◌, inl, inr, ℕ, zero, suc, ◌+◌, ◌≤◌, true, ◌&&◌, List, [], ◌∷◌, ◌++◌, take, refl, arith}
+use Rattle.std.proofs.Common.{◌≡◌, ℕ, zero, suc, ◌+◌, ◌≤◌, true, List, [], ◌∷◌, ◌++◌, take, refl, arith}
 use Rattle.std.specs.Prelude.{Option, Some}
 use Rattle.std.specs.List.{list_all}
 use Rattle.std.proofs.lemmas.Bool.{and_parts, cases_lt}
@@ -18,9 +18,7 @@ take-only : (n : ℕ) (ops : List Operation) (k : ℕ) → list_all (is_by_actor
 take-only n [] zero all = refl
 take-only n [] (suc k) all = refl
 take-only n (op ∷ ops) zero all = refl
-take-only n (op ∷ ops) (suc k) all =
-    let both = and_parts (is_by_actor (Some n) op) (list_all (is_by_actor (Some n)) ops) all in
-    λ i. both.0 i && take-only n ops k both.1 i
+take-only n (op ∷ ops) (suc k) all = grind (arith, and_parts, take-only n ops k)
 
 pub stopped-by : (n : ℕ) (ops : List Operation) {before now : Device} → StopsWithin ops before now → list_all (is_by_actor (Some n)) ops ≡ true → RunsBy (Some n) before now
 stopped-by n ops stops all = record { operations = take stops.0 ops ++ failure ∷ []; made = stops.2.made; by_actor = take-only n ops stops.0 all }
@@ -48,7 +46,4 @@ module _ {before now : Device} {Within : Image → Type 0} {most : ℕ} {by : Op
 
   -- no operation failed in one that isn't refused for the device
   pub none-failed : HasEffect before now Within most by Refuses → (Refuses DeviceFault → ⊥) → HasNoFailure before now
-  none-failed effect untold = elim (cases_lt before.failures now.failures) [
-    | inl more ↦ absurd (untold (effect.failure.shown more))
-    | inr least ↦ omega (arith, least, effect.failure.no_fewer)
-  ]
+  none-failed effect untold = grind (arith, cases_lt)

@@ -1,16 +1,12 @@
 -- What agrees in a failed state.
-use Rattle.std.proofs.Common.{true}
-use Rattle.std.specs.Prelude.{ℕ, Option, Some, None}
+use Rattle.std.proofs.Common.{true, arith}
+use Rattle.std.specs.Prelude.{ℕ, Option}
 use Rattle.txn.specs.declared.transaction.Transaction.{Transaction}
-use Rattle.txn.specs.declared.transaction.Transaction.TheVariants.{Active, Drawn, ReadOnly}
 use Rattle.session_steps.specs.declared.sessions.Sessions.{Sessions}
 use Rattle.session_steps.specs.Shows.{Hidden, plain_of, HoldsSession, Agrees}
 
 session-failed : (s : Sessions) (h : Hidden) (n seen : ℕ) (x : Option Transaction) → HoldsSession h.origin (plain_of s h) n seen x → HoldsSession h.origin (plain_of s (record h { failed = true })) n seen x
-session-failed s h n seen None has = tt
-session-failed s h n seen (Some (Active snapshot writes)) has = (record { covered = has.0.covered; early = has.0.early; gaps = has.0.gaps }, λ k d lt. record { slot = (has.1 k d lt).slot; row = (has.1 k d lt).row })
-session-failed s h n seen (Some (Drawn u)) has = tt
-session-failed s h n seen (Some ReadOnly) has = tt
+session-failed s h n seen a has = grind (arith)
 
 -- what agrees agrees in a failed state
 pub failed-agrees : (s : Sessions) (h : Hidden) → Agrees s h.origin h.seen (plain_of s h) → Agrees s h.origin h.seen (plain_of s (record h { failed = true }))

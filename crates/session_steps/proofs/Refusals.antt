@@ -1,5 +1,5 @@
 -- What a step is refused for by the session that it names, once for all steps.
-use Rattle.std.proofs.Common.{◌≡◌, ℕ, Bool, true, false, ◌&&◌, ◌||◌, cond, not, [], ◌∷◌, refl, ◌∙◌, ap, nat_eq, nat_le, ◌+◌, ◌*◌, ◌^◌}
+use Rattle.std.proofs.Common.{◌≡◌, ℕ, Bool, true, false, ◌&&◌, ◌||◌, cond, [], ◌∷◌, refl, ◌∙◌, ap, nat_eq, nat_le, ◌+◌, ◌*◌, ◌^◌, arith}
 use Rattle.std.specs.Prelude.{Option, Some, None, is_none}
 use Rattle.std.specs.Option.{option_or, option_map, option_map_or}
 use Rattle.base.specs.declared.fault.Fault.{Fault}
@@ -11,8 +11,7 @@ use Rattle.machine.specs.Machine.{State, Session, IsDrawn, IsStamped, IsCovered,
 
 -- a step that names a session opens none
 names-one : (step : Step) (n : ℕ) → session_of step ≡ Some n → begins step ≡ false
-names-one Begin n is = absurd (cc is)
-names-one _ n is = refl
+names-one a n is = grind (arith)
 
 -- why a step that its session allows may still be refused
 abbrev pub later : State → Step → Option Fault
@@ -28,11 +27,7 @@ later q step = first_there (
 -- the first four tests
 in-order : (a b full c d : Bool) (rest : Option Fault) → a ≡ false → b ≡ false
     → option_or (some_if a Failed) (option_or (some_if (b && full) SessionsFull) (option_or (some_if c NoSession) (option_or (some_if d WrongState) rest))) ≡ (cond c (Some NoSession) (cond d (Some WrongState) rest))
-in-order true b full c d rest works one = absurd (cc works)
-in-order false true full c d rest works one = absurd (cc one)
-in-order false false full true d rest works one = refl
-in-order false false full false true rest works one = refl
-in-order false false full false false rest works one = refl
+in-order a b full c d rest works one = grind (arith)
 
 by-session : (q : State) (step : Step) (n : ℕ) → q.failed ≡ false → session_of step ≡ Some n
     → refusal q step ≡ cond (is_absent q step) (Some NoSession) (cond (is_misplaced q step) (Some WrongState) (later q step))
@@ -51,25 +46,17 @@ refused-absent q step n works is at = by-session q step n works is ∙ ap (λ (b
 -- the session is in a state that doesn't allow the step
 pub refused-misplaced : (q : State) (step : Step) (n : ℕ) (session : Session) → q.failed ≡ false → session_of step ≡ Some n → q.sessions n ≡ Some session → allows step (standing_of q session) ≡ false
     → refusal q step ≡ Some WrongState
-refused-misplaced q step n session works is at bars =
-    by-session q step n works is
-    ∙ ap (λ (b : Bool). cond b (Some NoSession) (cond (is_misplaced q step) (Some WrongState) (later q step))) (absent q step n (Some session) is at)
-    ∙ ap (λ (b : Bool). cond b (Some WrongState) (later q step)) (misplaced q step n (Some session) is at ∙ ap not bars)
+refused-misplaced q step n session works is at bars = grind (arith, by-session, absent, misplaced)
 
 -- the session allows the step
 pub passes : (q : State) (step : Step) (n : ℕ) (session : Session) → q.failed ≡ false → session_of step ≡ Some n → q.sessions n ≡ Some session → allows step (standing_of q session) ≡ true
     → refusal q step ≡ later q step
-passes q step n session works is at lets =
-    by-session q step n works is
-    ∙ ap (λ (b : Bool). cond b (Some NoSession) (cond (is_misplaced q step) (Some WrongState) (later q step))) (absent q step n (Some session) is at)
-    ∙ ap (λ (b : Bool). cond b (Some WrongState) (later q step)) (misplaced q step n (Some session) is at ∙ ap not lets)
+passes q step n session works is at lets = grind (arith, by-session, absent, misplaced)
 
 -- ---- Begin
 
 begin-order : (a full : Bool) (rest : Option Fault) → a ≡ false → rest ≡ None → option_or (some_if a Failed) (option_or (some_if full SessionsFull) rest) ≡ cond full (Some SessionsFull) None
-begin-order true full rest works nothing = absurd (cc works)
-begin-order false true rest works nothing = refl
-begin-order false false rest works nothing = nothing
+begin-order a full rest works nothing = grind (arith)
 
 pub refusal-begin : (q : State) (full : Bool) → q.failed ≡ false → is_none (free_session q) ≡ full → refusal q Begin ≡ cond full (Some SessionsFull) None
 refusal-begin q full works is = begin-order q.failed (is_none (free_session q)) None works refl ∙ ap (λ (b : Bool). cond b (Some SessionsFull) None) is
@@ -93,10 +80,4 @@ pub record Bars (step : Step) : Type 0 where
   pub covered : allows step IsCovered ≡ false
 
 pub others-bar : (step : Step) → is_of_active step ≡ true → Bars step
-others-bar (Get n key) of = record { drawn = refl; stamped = refl; covered = refl }
-others-bar (Scan n table lo hi) of = record { drawn = refl; stamped = refl; covered = refl }
-others-bar (Put n key row) of = record { drawn = refl; stamped = refl; covered = refl }
-others-bar (Delete n key) of = record { drawn = refl; stamped = refl; covered = refl }
-others-bar (Draw n) of = record { drawn = refl; stamped = refl; covered = refl }
-others-bar (Abort n) of = record { drawn = refl; stamped = refl; covered = refl }
-others-bar _ of = absurd (cc of)
+others-bar a of = grind (arith)

@@ -8,15 +8,12 @@ use Rattle.base.specs.declared.step.Step.{Step}
 use Rattle.base.specs.declared.step.Reply.{Reply}
 use Rattle.base.specs.declared.step.Reply.TheVariants as reply
 use Rattle.base.specs.declared.step.SessionStep.{SessionStep}
-use Rattle.base.specs.declared.step.SessionStep.TheVariants.{Begin, Get, Scan, Put, Delete, Draw, Stamp, Poll, Abort, End}
 use Rattle.base.specs.declared.step.SessionReply.{SessionReply}
 use Rattle.base.specs.declared.step.SessionReply.TheVariants.{Refused}
 use Rattle.base.specs.Steps.{as_step, as_reply}
 use Rattle.machine.specs.SessionSteps.{SessionStepped}
-use Rattle.machine.specs.Machine.{State, Answers, answered, refused, memory_refused, device_failed, refusal, operates}
-use Rattle.base.specs.Replies.{is_failure}
+use Rattle.machine.specs.Machine.{State, Answers, refused, refusal, operates}
 use Rattle.machine.proofs.Failures.{refusal-quiet, answer-quiet}
-use Rattle.machine.proofs.Runs.{Answers-answer}
 use Rattle.pmem.specs.Device.{Device, IsOrderly}
 use Rattle.state_invariant.specs.Kept.{Origin}
 use Rattle.device_invariant.specs.Upholds.{Upholds}
@@ -37,29 +34,14 @@ undevice q step is = let quiet = refusal-quiet q step DeviceFault is in absurd (
 
 -- no answer is one of the device's
 answered-apart : (q : State) (s : SessionStep) (r : Reply) → Answers q (as_step s) r → r ≡ reply.Refused DeviceFault → ⊥
-answered-apart q s r is told =
-    let quiet = answer-quiet r (Answers-answer q (as_step s) r is) in
-    let failure : is_failure r ≡ true = ap is_failure told in
-    absurd (cc (quiet, failure))
+answered-apart q s r is told = grind (arith, answer-quiet)
 
 quiet-idle : (q : State) (s : SessionStep) → is_quiet (as_step s) ≡ true → operates q (as_step s) ≡ false
-quiet-idle q Begin quiet = refl
-quiet-idle q (Get n key) quiet = refl
-quiet-idle q (Scan n table lo hi) quiet = refl
-quiet-idle q (Put n key row) quiet = absurd (cc quiet)
-quiet-idle q (Delete n key) quiet = refl
-quiet-idle q (Draw n) quiet = refl
-quiet-idle q (Stamp n) quiet = absurd (cc quiet)
-quiet-idle q (Poll n) quiet = refl
-quiet-idle q (Abort n) quiet = refl
-quiet-idle q (End n) quiet = refl
+quiet-idle q a quiet = grind (arith)
 
 -- a step that makes no operation doesn't report the device
 never-told : (q q' : State) (s : SessionStep) (r : SessionReply) → is_quiet (as_step s) ≡ true → SessionStepped q s r q' → r ≡ Refused DeviceFault → ⊥
-never-told q q' s r quiet (refused fault is replied same) told = grind (arith, undevice) steps 800000
-never-told q q' s r quiet (answered nothing answers same) told = grind (arith, answered-apart) steps 800000
-never-told q q' s r quiet (memory_refused nothing takes replied same) told = grind (arith) steps 800000
-never-told q q' s r quiet (device_failed nothing operates replied same) told = grind (arith, quiet-idle) steps 800000
+never-told q q' s r quiet a told = grind (arith, undevice, answered-apart, quiet-idle)
 
 -- ---- steps
 

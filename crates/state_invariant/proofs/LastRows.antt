@@ -28,13 +28,7 @@ none-row key last (y ∷ ys) each =
 pub row-all : (p : ℕ → Bool) (key : Key) (s : Option ℕ) (cs : List Commit) → list_all (λ c. p c.timestamp) cs ≡ true → ((t : ℕ) → s ≡ Some t → p t ≡ true)
     → (t : ℕ) → fold (λ (last : Option ℕ) (commit : Commit). cond (is_some (row_in commit.writes key)) (Some commit.timestamp) last) s cs ≡ Some t → p t ≡ true
 row-all p key s [] all here t e = here t e
-row-all p key s (c ∷ cs) all here t e =
-    let both = and_parts (p c.timestamp) (list_all (λ c. p c.timestamp) cs) all in
-    row-all p key (cond (is_some (row_in c.writes key)) (Some c.timestamp) s) cs both.1 (next (is_some (row_in c.writes key)) both.0) t e
-  where
-    next : (b : Bool) → p c.timestamp ≡ true → (t : ℕ) → cond b (Some c.timestamp) s ≡ Some t → p t ≡ true
-    next true has t e = let same : c.timestamp ≡ t = cc e in ap p (sym same) ∙ has
-    next false has t e = here t e
+row-all p key s (c ∷ cs) all here t e = grind (arith, and_parts, row-all p key (cond (is_some (row_in c.writes key)) (Some c.timestamp) s) cs)
 
 -- ---- one commit more
 

@@ -28,11 +28,7 @@ take-place (x ∷ cs) (suc n) c at = ap (λ (ys : List Commit). x ∷ ys) (take-
 pub place-append : (xs ys : List Commit) (i : ℕ) (c : Commit) → slice_get (xs ++ ys) i ≡ Some c → ((i < length xs) × (slice_get xs i ≡ Some c)) ⊎ ((j : ℕ) × (i ≡ length xs + j) × (slice_get ys j ≡ Some c))
 place-append [] ys i c at = inr (i, omega arith, at)
 place-append (x ∷ xs) ys zero c at = inl (omega arith, at)
-place-append (x ∷ xs) ys (suc i) c at =
-    elim (place-append xs ys i c at) [
-      | inl here ↦ inl (omega (arith, here.0), here.1)
-      | inr there ↦ inr (there.0, omega (arith, there.1), there.2)
-    ]
+place-append (x ∷ xs) ys (suc i) c at = grind (arith, place-append xs ys i c at)
 
 pub at-more : (xs ys : List Commit) (j : ℕ) → slice_get (xs ++ ys) (length xs + j) ≡ slice_get ys j
 at-more [] ys j = let same : length {A = Commit} [] + j ≡ j = omega arith in ap (slice_get ys) same

@@ -12,7 +12,7 @@ use Rattle.pmem.specs.Device.{Device, stored}
 use Rattle.pmem.specs.Words.{Survives, value_of, OnlyShrinks}
 use Rattle.pmem.proofs.Changes.{stored-survives, stored-value, each-shrinks}
 use Rattle.state_invariant.specs.Kept.{Origin, version_by, wanted}
-use Rattle.state_invariant.specs.Shown.{word_of, HasBegun, IsNever, IsHidden, is_drawn_on, is_key_stamped, SlotShows, ShowsAs, class_of_version, class_of_drawn, Newest, Replaced, IsWaiting, IsNewest, IsReplaced}
+use Rattle.state_invariant.specs.Shown.{word_of, HasBegun, IsNever, IsHidden, is_drawn_on, is_key_stamped, SlotShows, ShowsAs, class_of_version, class_of_drawn, Newest, Replaced, IsNewest, IsReplaced}
 use Rattle.state_invariant.proofs.Commits.{uncommitted-gap}
 use Rattle.state_invariant.proofs.covers.Kept.{no_gap-above}
 use Rattle.state_invariant.proofs.reads.Tables.{never-counts}
@@ -70,9 +70,7 @@ module _ (o : Origin) (q : State) (slot : ℕ) (old : Device) (up : q.failed ≡
   shows-drawn key t d held found = subst (λ (x : Option Drawn). ShowsAs o q (value_of old) slot (class_of_drawn q key t (unwrap_or (wanted o q (version_by key (ByCommit t))) []) x)) found (shows-held (version_by key (ByCommit t)) held)
 
   shows-replaced : (key : Key) (t : ℕ) → q.held slot ≡ Some (version_by key (ByCommit t)) → drawn_at q t ≡ None → t ≢ last_writer q.history key → IsReplaced o q (value_of old) slot t key (unwrap_or (wanted o q (version_by key (ByCommit t))) [])
-  shows-replaced key t held undrawn apart =
-      subst (λ (b : Bool). ShowsAs o q (value_of old) slot (cond b (Newest t key (unwrap_or (wanted o q (version_by key (ByCommit t))) [])) (Replaced t key (unwrap_or (wanted o q (version_by key (ByCommit t))) []))))
-      (ne_eqb (last_writer q.history key) t (λ same. apart (sym same))) (shows-drawn key t None held undrawn)
+  shows-replaced key t held undrawn apart = grind (arith, ne_eqb, shows-drawn)
 
   -- a begin in a gap is of no version
   begin-free : Survives old (word_of q.layout slot 0) begin → (v : Version) (w : Writer) → v.writer ≡ w → q.held slot ≡ Some (version_by v.key w) → is_in q.ruling.gaps begin ≡ true → ⊥
@@ -92,9 +90,7 @@ module _ (o : Origin) (q : State) (slot : ℕ) (old : Device) (up : q.failed ≡
 
   -- an end in a gap is of a free slot, or of the newest version of a key
   end-newest : Survives old (word_of q.layout slot 1) end → (v : Version) (w : Writer) → v.writer ≡ w → q.held slot ≡ Some (version_by v.key w) → is_in q.ruling.gaps end ≡ true → q.held slot ≡ Some (newest_of q v.key)
-  end-newest there v (BySession n) same held gap =
-      let waits : IsWaiting q (value_of old) slot v.key (row v.key (BySession n)) = shows-held (version_by v.key (BySession n)) held in
-      absurd (not-zero end gap (waits.end up))
+  end-newest there v (BySession n) same held gap = grind (arith, shows-held, not-zero)
   end-newest there v (ByCommit t) same held gap = grind (arith, not-zero, shows-drawn, cases_eq, not-counted, was)
 
   -- ---- the end is made 0

@@ -38,13 +38,7 @@ stage_after n =
 
 -- the operations made determine the stage
 stage-after : (stage : WritingStage) → IsStage stage → stage_after (operations_before stage) ≡ stage
-stage-after (StoreBody w) is = grind (arith, lt-ltb)
-stage-after (FlushBody line) is = grind (arith, le-ltb, lt-ltb)
-stage-after FenceBody is = refl
-stage-after StoreGate is = refl
-stage-after FlushGate is = refl
-stage-after FenceGate is = refl
-stage-after Done is = refl
+stage-after a is = grind (arith, lt-ltb, le-ltb)
 
 same-stage : (a b : WritingStage) → IsStage a → IsStage b → operations_before a ≡ operations_before b → a ≡ b
 same-stage a b of_a of_b same = sym (stage-after a of_a) ∙ ap stage_after same ∙ stage-after b of_b

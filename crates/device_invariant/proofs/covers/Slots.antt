@@ -53,9 +53,7 @@ module _ (o : Origin) (q : State) (hand : Hand) (kept : Keeps o q) (k : KeepsHan
       }
 
   pub one-of : (key : Key) (l : IsLastOf q.history hand.commits key) (t : ℕ) (d : Drawn) → drawn_at q t ≡ Some d → writes_key key d.commit ≡ true → t ≡ l.commit.timestamp
-  one-of key l t d found writes =
-      let own = own-of key l in
-      kept.draws.apart t l.commit.timestamp d own.drawn key found own.found writes own.writes
+  one-of key l t d found writes = grind (arith, own-of key l)
 
   -- no commit of the batch writes the key
   pub unwritten : (key : Key) (n : WritesNone q.history hand.commits key) (t : ℕ) (d : Drawn) → drawn_at q t ≡ Some d → writes_key key d.commit ≡ true → has_timestamp hand.commits t ≡ false

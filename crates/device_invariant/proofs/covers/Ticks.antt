@@ -8,7 +8,7 @@ use Rattle.base.specs.Commits.{Commit}
 use Rattle.base.specs.Layout.{Layout, slot_words, total_words, version_lines}
 use Rattle.machine.specs.Machine.{State, Hand, lines_of}
 use Rattle.pmem.specs.Device.{Device, IsOrderly, flushed, fenced, failed}
-use Rattle.pmem.specs.Words.{OnlyShrinks, IsReady, IsSettled}
+use Rattle.pmem.specs.Words.{OnlyShrinks, IsSettled}
 use Rattle.pmem.proofs.Changes.{flushed-shrinks, fenced-shrinks, failed-shrinks, flushed-ready, fenced-settles}
 use Rattle.log_area.specs.declared.stage.WritingStage.TheVariants.{StoreBody}
 use Rattle.base.specs.Actors.{committer}
@@ -47,9 +47,7 @@ slot-fails : (q : State) (device : Device) (slot : ℕ) → SlotHolds q device s
 slot-fails q device slot h = grind (arith, true≢false)
 
 hand-fails : (q : State) (device : Device) (hand : Option Hand) → HoldsHand q device hand → HoldsHand (record q { failed = true }) device hand
-hand-fails q device None holds = holds
-hand-fails q device (Some hand) (inl f) = inl record { chosen = f.chosen; within = f.within; follows = f.follows; ready = f.ready }
-hand-fails q device (Some hand) (inr r) = inr record { stage = r.stage; staged = r.staged; under_way = r.under_way; ticks = r.ticks; replaces = r.replaces; settled = record { own = r.settled.own; ended = r.settled.ended } }
+hand-fails q device a holds = grind (arith)
 
 pub holds-fails : (q : State) (device : Device) → HoldsState q device → HoldsState (record q { failed = true }) device
 holds-fails q device h = record {
@@ -104,9 +102,7 @@ line-word : (a : Layout) (line : Line) (w : ℕ) → 8 * line.part ≤ w → w <
 line-word a line w from to = grind arith
 
 pub line-flushed : (a : Layout) (old new : Device) (line : Line) → IsOrderly old → old.words ≡ total_words a → new ≡ flushed committer (line_number a line) old → IsLineReady a new line
-line-flushed a old new line orderly size is = record {
-  each = λ w lt from to low. flushed-ready old new committer (line_number a line) (word_of a line.slot w) is orderly (omega (arith, word-within a line.slot w lt low, size)) (line-word a line w from to);
-}
+line-flushed a old new line orderly size is = grind (arith, flushed-ready, word-within, line-word)
 
 -- the next line is flushed
 pub holds-line : (q : State) (hand : Hand) (i : ℕ) (line : Line) (old new : Device) → IsOrderly old → q.hand ≡ Some hand → hand.ticks ≡ i + 1 → i < lines_of q hand.commits → slice_get (lines_in q hand.commits) i ≡ Some line
@@ -140,12 +136,7 @@ ready-part a device (x ∷ xs) ys ready = let rest = ready-part a device xs ys r
 
 ready-at : (a : Layout) (device : Device) (f : ℕ → List Line) (from n k : ℕ) → AreReady a device (flat_map f (range_with_len from n)) → from ≤ k → k < from + n → AreReady a device (f k)
 ready-at a device f from zero k ready le lt = absurd (omega (arith, le, lt))
-ready-at a device f from (suc n) k ready le lt =
-    let both = ready-part a device (f from) (flat_map f (range_with_len (from + 1) n)) ready in
-    elim (cases_lt from k) [
-      | inl more ↦ ready-at a device f (from + 1) n k both.1 (omega (arith, more)) (omega (arith, lt))
-      | inr last ↦ let same : from ≡ k = omega (arith, le, last) in subst (λ (i : ℕ). AreReady a device (f i)) same both.0
-    ]
+ready-at a device f from (suc n) k ready le lt = grind (arith, ready-part a device (f from) (flat_map f (range_with_len (from + 1) n)) ready, cases_lt from k, ready-at a device f (from + 1) n k)
 
 -- the lines of a slot have all its words
 part-below : (a : Layout) (w : ℕ) → w < slot_words a.version → w / 8 < version_lines a
@@ -156,9 +147,7 @@ module _ (q : State) (commits : List Commit) (old new : Device) (is : new ≡ fe
   here slot lt = ready-at q.layout old (lines_at q commits) 0 q.layout.slots slot ready (omega arith) (omega (arith, lt))
 
   settles : (slot w : ℕ) (line : Line) → slot < q.layout.slots → w < slot_words q.layout.version → line.slot ≡ slot → 8 * line.part ≤ w → w < 8 * line.part + 8 → IsLineReady q.layout old line → IsSettled new (word_of q.layout slot w)
-  settles slot w line lt low same from to waits =
-      fenced-settles old new committer (word_of q.layout slot w) is
-      (subst (λ (s : ℕ). IsReady old committer (word_of q.layout s w)) same (waits.each w (subst (λ (s : ℕ). s < q.layout.slots) (sym same) lt) from to low))
+  settles slot w line lt low same from to waits = grind (arith, fenced-settles)
 
   pub lines-settled : IsBatchSettled q commits new
   lines-settled = record {

@@ -1,10 +1,10 @@
 -- Slots are released by sessions, taken by them and freed, while the device does nothing.
-use Rattle.std.proofs.Common.{◌≡◌, ◌≢◌, inl, inr, ℕ, suc, zero, ◌+◌, ◌<◌, ◌≤◌, Bool, false, cond, ◌&&◌, List, [], ◌∷◌, ◌++◌, refl, sym, ◌∙◌, ap, arith}
+use Rattle.std.proofs.Common.{◌≡◌, ◌≢◌, inl, inr, ℕ, suc, zero, ◌+◌, ◌<◌, ◌≤◌, Bool, false, cond, List, [], ◌∷◌, ◌++◌, refl, sym, ◌∙◌, ap, arith}
 use Rattle.std.specs.Prelude.{Option, Some, None}
-use Rattle.std.specs.List.{flat_map, range_with_len, list_any}
+use Rattle.std.specs.List.{flat_map, range_with_len}
 use Rattle.std.proofs.lemmas.Bool.{ne_eqb, false_from_ne_true}
 use Rattle.base.specs.declared.key.Key.{Key}
-use Rattle.base.specs.Commits.{Commit, writes_key, last_writer}
+use Rattle.base.specs.Commits.{Commit, last_writer}
 use Rattle.base.specs.Stands.{has_timestamp}
 use Rattle.base.specs.Layout.{version_lines}
 use Rattle.machine.specs.Machine.{State, Session, Drawn, Hand, Version, BySession, ByCommit, drawn_at}
@@ -16,7 +16,7 @@ use Rattle.state_invariant.proofs.covers.Kept.{batch-drawn}
 use Rattle.device_invariant.specs.Slots.{SlotHolds}
 use Rattle.device_invariant.specs.Log.{Line, line_at, lines_at, is_own, is_ended, HoldsHand}
 use Rattle.device_invariant.specs.Upholds.{HoldsState}
-use Rattle.device_invariant.specs.Laws.{ChangesHolder, stays, released, taken, freed, HoldersKeep}
+use Rattle.device_invariant.specs.Laws.{ChangesHolder, HoldersKeep}
 use Rattle.pmem.proofs.Changes.{each-settled, each-weaken}
 
 module _ (q : State) (sessions : ℕ → Option Session) (held : ℕ → Option Version) (device : Device) where
@@ -43,10 +43,7 @@ module _ (q : State) (sessions : ℕ → Option Session) (held : ℕ → Option 
   freed-slot slot t key at undrawn apart none h = grind (arith, not-none)
 
   slot-then : (slot : ℕ) → ChangesHolder q held device slot → SlotHolds q device slot → SlotHolds then device slot
-  slot-then slot (stays same) h = same-slot slot same h
-  slot-then slot (released n key own none) h = undrawn-slot slot (λ t k at. not-none slot t k none at) (h.own n key own) h
-  slot-then slot (taken n key free own cleared) h = undrawn-slot slot (λ t k at. not-session slot t n k key own at) cleared h
-  slot-then slot (freed t key at undrawn apart none) h = freed-slot slot t key at undrawn apart none h
+  slot-then slot a h = grind (arith, same-slot, undrawn-slot, not-none, not-session, freed-slot)
 
   -- ---- the lines
 
@@ -55,17 +52,10 @@ module _ (q : State) (sessions : ℕ → Option Session) (held : ℕ → Option 
   AreUncovered commits = (t : ℕ) → drawn_at q t ≡ None → has_timestamp commits t ≡ false
 
   own-same : (commits : List Commit) (slot : ℕ) → AreUncovered commits → ChangesHolder q held device slot → is_own commits (held slot) ≡ is_own commits (q.held slot)
-  own-same commits slot uncovered (stays same) = ap (is_own commits) same
-  own-same commits slot uncovered (released n key own none) = ap (is_own commits) none ∙ sym (ap (is_own commits) own)
-  own-same commits slot uncovered (taken n key free own cleared) = ap (is_own commits) own ∙ sym (ap (is_own commits) free)
-  own-same commits slot uncovered (freed t key at undrawn apart none) = ap (is_own commits) none ∙ sym (ap (is_own commits) at ∙ uncovered t undrawn)
+  own-same commits slot uncovered a = grind (arith)
 
   ended-same : (commits : List Commit) (slot : ℕ) → ChangesHolder q held device slot → is_ended q commits (held slot) ≡ is_ended q commits (q.held slot)
-  ended-same commits slot (stays same) = ap (is_ended q commits) same
-  ended-same commits slot (released n key own none) = ap (is_ended q commits) none ∙ sym (ap (is_ended q commits) own)
-  ended-same commits slot (taken n key free own cleared) = ap (is_ended q commits) own ∙ sym (ap (is_ended q commits) free)
-  ended-same commits slot (freed t key at undrawn apart none) =
-      ap (is_ended q commits) none ∙ sym (ap (is_ended q commits) at ∙ ap (λ (b : Bool). b && list_any (writes_key key) commits) (ne_eqb (last_writer q.history key) t (λ same. apart (sym same))))
+  ended-same commits slot a = grind (arith, ne_eqb)
 
   module _ (changes : (slot : ℕ) → slot < q.layout.slots → ChangesHolder q held device slot) where
     lines-same : (commits : List Commit) → AreUncovered commits → (from n : ℕ) → from + n ≤ q.layout.slots → flat_map (lines_at then commits) (range_with_len from n) ≡ flat_map (lines_at q commits) (range_with_len from n)

@@ -82,17 +82,5 @@ follows-shrink q hand old new size log follows = record { holds = holds_record_k
 
 pub hand-shrink : (q : State) (old new : Device) (hand : Option Hand) → new.words ≡ old.words → KeepsLog q.layout old new → ShrinksSlots q.layout old new → HoldsHand q old hand → HoldsHand q new hand
 hand-shrink q old new None size log shrinks holds = holds_record_kept q.layout old new size log q.ruling holds
-hand-shrink q old new (Some hand) size log shrinks (inl f) = inl record {
-  chosen = f.chosen;
-  within = f.within;
-  follows = follows-shrink q hand old new size log f.follows;
-  ready = ready-shrink q.layout old new (take (hand.ticks - 1) (lines_in q hand.commits)) shrinks f.ready;
-}
-hand-shrink q old new (Some hand) size log shrinks (inr r) = inr record {
-  stage = r.stage;
-  staged = r.staged;
-  under_way = r.under_way;
-  ticks = r.ticks;
-  replaces = replacing_kept (writing_at q hand r.stage) old new size log q.ruling r.replaces;
-  settled = settled-shrink q hand old new shrinks r.settled;
-}
+hand-shrink q old new (Some hand) size log shrinks (inl f) = grind (arith, follows-shrink q hand old new size log, ready-shrink q.layout old new (take (hand.ticks - 1) (lines_in q hand.commits)) shrinks)
+hand-shrink q old new (Some hand) size log shrinks (inr r) = grind (arith, replacing_kept (writing_at q hand r.stage) old new size log q.ruling, settled-shrink q hand old new shrinks)

@@ -62,8 +62,7 @@ module _ (q : State) (device : Device) (fresh : IsFresh q device) (kept : Keeps 
 
   -- at an opening the gaps are the record's own
   never-counts : (t : ℕ) → IsNever (origin_of q) q t → NeverCounts q t
-  never-counts t (inl none) = inl none
-  never-counts t (inr inside) = inr inside.1
+  never-counts t a = grind (arith)
 
   dead : q.held slot ≡ None → IsDead q device slot
   dead held = by_hidden (subst (λ (v : Option Version). ShowsAs (origin_of q) q (value_of device) slot (class_of_version (origin_of q) q v)) held (shows.each slot lt))

@@ -12,7 +12,6 @@ use Rattle.state_invariant.specs.Kept.{Origin, Keeps, version_by}
 use Rattle.state_invariant.specs.Shown.{word_of}
 use Rattle.state_invariant.proofs.Records.{zero-gaps}
 use Rattle.device_invariant.specs.Slots.{NeverCounts, IsDead, SlotHolds}
-use Rattle.device_invariant.specs.Log.{is_own, is_ended}
 use Rattle.device_invariant.specs.Upholds.{HoldsState}
 use Rattle.pmem.proofs.Changes.{each-shrinks, settled_at-shrinks, each-settled, each-weaken}
 use Rattle.device_invariant.proofs.Words.{within-slot}
@@ -25,12 +24,10 @@ abbrev pub IsUndrawn : State → ℕ → Type 0
 IsUndrawn q slot = (q.held slot ≡ None) ⊎ ((n : ℕ) × (key : Key) × (q.held slot ≡ Some (version_by key (BySession n))))
 
 pub untouched-undrawn : (q : State) (hand : Hand) (slot : ℕ) → IsUndrawn q slot → IsUntouched q hand.commits slot
-untouched-undrawn q hand slot (inl free) = record { not_own = ap (is_own hand.commits) free; not_ended = ap (is_ended q hand.commits) free }
-untouched-undrawn q hand slot (inr own) = record { not_own = ap (is_own hand.commits) own.2; not_ended = ap (is_ended q hand.commits) own.2 }
+untouched-undrawn q hand slot a = grind (arith)
 
 not-by_commit : (q : State) (slot t : ℕ) (key : Key) → IsUndrawn q slot → q.held slot ≡ Some (version_by key (ByCommit t)) → ⊥
-not-by_commit q slot t key (inl free) held = let none : ◌≡◌ {A = Option Version} None (Some (version_by key (ByCommit t))) = sym free ∙ held in cc none
-not-by_commit q slot t key (inr own) held = grind arith
+not-by_commit q slot t key a held = grind (arith)
 
 -- ---- the stores
 

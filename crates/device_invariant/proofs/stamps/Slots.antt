@@ -44,8 +44,7 @@ module _ (o : Origin) (q : State) (kept : Keeps o q) (t : ℕ) (d : Drawn) (key 
 
   -- the batch in hand has stamped all that it writes, so the commit isn't of it
   not-in_batch : (hand : Hand) → KeepsHand q hand → (b : Bool) → has_timestamp hand.commits t ≡ b → b ≡ false
-  not-in_batch hand k false is = refl
-  not-in_batch hand k true is = grind (arith, batch-drawn, all-stamped)
+  not-in_batch hand k a is = grind (arith, batch-drawn, all-stamped)
 
   -- and no commit of it writes the key
   not-written : (hand : Hand) → KeepsHand q hand → list_any (writes_key key) hand.commits ≡ false

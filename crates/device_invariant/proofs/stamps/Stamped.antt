@@ -1,5 +1,5 @@
 -- What a commit has stamped, and what it writes.
-use Rattle.std.proofs.Common.{◌≡◌, ◌⊎◌, inl, inr, ℕ, ◌<◌, Bool, true, false, cond, ◌&&◌, List, [], ◌∷◌, refl, sym, ◌∙◌, ap, subst, arith, Option, Some, None, is_some, true≢false, nat_eq}
+use Rattle.std.proofs.Common.{◌≡◌, ◌⊎◌, inl, inr, ℕ, ◌<◌, Bool, true, false, cond, ◌&&◌, List, [], ◌∷◌, refl, sym, ◌∙◌, ap, arith, Option, Some, None, is_some, true≢false, nat_eq}
 use Rattle.std.specs.Prelude.{unwrap_or, nat_lt, map}
 use Rattle.std.specs.List.{list_any, list_all, find}
 use Rattle.std.specs.Option.{option_map, option_or}
@@ -29,12 +29,7 @@ stamped-writes d key is = stamped-among key d.stamped d.commit.writes is
 above-on : (low t : ℕ) (key : Key) (drawn : List Drawn) → list_all (nat_lt low) (map (λ (d : Drawn). d.commit.timestamp) drawn) ≡ true
     → list_any (λ d. nat_eq d.commit.timestamp t && writes_key key d.commit) drawn ≡ true → low < t
 above-on low t key [] all any = absurd (cc any)
-above-on low t key (d ∷ drawn) all any =
-    let both = and_parts (nat_lt low d.commit.timestamp) (list_all (nat_lt low) (map (λ (d : Drawn). d.commit.timestamp) drawn)) all in
-    elim (or_cases (nat_eq d.commit.timestamp t && writes_key key d.commit) (list_any (λ d. nat_eq d.commit.timestamp t && writes_key key d.commit) drawn) any) [
-      | inl here ↦ subst (λ (u : ℕ). low < u) (eqb-true d.commit.timestamp t (and_parts (nat_eq d.commit.timestamp t) (writes_key key d.commit) here).0) (ltb-true low d.commit.timestamp both.0)
-      | inr later ↦ above-on low t key drawn both.1 later
-    ]
+above-on low t key (d ∷ drawn) all any = grind (arith, and_parts, or_cases, eqb-true, ltb-true, above-on low t key drawn)
 
 found-on : (t : ℕ) (key : Key) (drawn : List Drawn) → are_rising (map (λ (d : Drawn). d.commit.timestamp) drawn) ≡ true → list_any (λ d. nat_eq d.commit.timestamp t && writes_key key d.commit) drawn ≡ true
     → (d : Drawn) × (find (λ (d : Drawn). nat_eq d.commit.timestamp t) drawn ≡ Some d) × (writes_key key d.commit ≡ true)

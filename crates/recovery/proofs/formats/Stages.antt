@@ -39,8 +39,7 @@ pub record IsBegun (old now : Device) (layout : Layout) : Type 0 where
 
 module _ (old now : Device) (layout : Layout) (keeps : Keeps old now (OldOr old (IsStore 0 0))) (some : 0 < old.words) where
   by_word : (image : List ℕ) → length image ≡ old.words → ((word : ℕ) → word < old.words → OldOr old (IsStore 0 0) word (get_or image word 0)) → OldOr old (IsStore 0 0) 0 (get_or image 0 0) → IsFormatting old layout image
-  by_word image size within (inl s) = grind (arith) steps 800000
-  by_word image size within (inr e) = grind (arith, unformatted) steps 800000
+  by_word image size within a = grind (arith, unformatted)
 
   pub first-images : LeavesOnly old now (IsFormatting old layout)
   first-images = grind (arith, by_word) steps 800000

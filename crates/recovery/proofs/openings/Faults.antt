@@ -14,12 +14,7 @@ use Rattle.recovery.proofs.openings.Images.{sound-faultless, known-good}
 
 chain : (a b c d e f : Option Fault) (x : Fault) → option_or a (option_or b (option_or c (option_or d (option_or e None)))) ≡ Some x
     → option_or a (option_or b (option_or c (option_or d (option_or e (option_or f None))))) ≡ Some x
-chain (Some y) b c d e f x is = is
-chain None (Some y) c d e f x is = is
-chain None None (Some y) d e f x is = is
-chain None None None (Some y) e f x is = is
-chain None None None None (Some y) f x is = is
-chain None None None None None f x is = absurd (cc is)
+chain a b c d e f x is = grind (arith)
 
 -- a fault of the log is the first that an image has
 pub log-first : (image : Image) (fault : Fault) → log_damage image ≡ Some fault → damage image ≡ Some fault
@@ -30,8 +25,7 @@ log-first image fault is =
 
 -- what comes first is the first
 first-damage : (o rest : Option Fault) (fault : Fault) → o ≡ Some fault → option_or o rest ≡ Some fault
-first-damage None rest fault e = absurd (cc e)
-first-damage (Some x) rest fault e = e
+first-damage a rest fault e = grind (arith)
 
 pub fault-log : (image : Image) (fault : Fault) → log_damage image ≡ Some fault → opening_fault image ≡ Some fault
 fault-log image fault is = first-damage (damage image) _ fault (log-first image fault is)

@@ -3,6 +3,7 @@ use Rattle.std.proofs.Common.{◌≡◌, ◌⊎◌, inl, inr, ℕ, zero, suc, �
 use Rattle.std.specs.List.{list_any, list_all}
 use Rattle.std.proofs.lemmas.Bool.{ltb-true, leb-true, lt-ltb, le-leb, eqb-true, eq-eqb, and_parts, and_from, or_cases, or_left, or_right, cases_lt}
 use Rattle.std.specs.Cmp.{both_ways}
+use Rattle.std.proofs.lemmas.Bool.Decides.{nat_tests}
 use Rattle.base.specs.declared.gap.Gap.{Gap}
 use Rattle.base.specs.Records.{Record, is_in, are_apart, are_rising, no_gap, with_gap, opened_gaps}
 use Rattle.machine.specs.Openings.{IsOpenedGaps}
@@ -19,10 +20,7 @@ use Rattle.recovery.specs.Gaps.{MayRule, HasUpTo, HasLongsBetween}
 
 tidy-head : (low : ℕ) (gap : Gap) (gaps : List Gap) → low ≤ gap.first → are_up (gap ∷ gaps) ≡ true → are_apart (gap ∷ gaps) ≡ true → Tidy low (gap ∷ gaps)
 tidy-head low gap [] le up apart = (le, leb-true gap.first gap.last (and_parts _ _ up).0, tt)
-tidy-head low gap (next ∷ gaps) le up apart =
-    let ups = and_parts _ _ up in
-    let parts = and_parts (nat_lt (gap.last + 1) next.first) (are_apart (next ∷ gaps)) apart in
-    (le, leb-true gap.first gap.last ups.0, tidy-head (gap.last + 2) next gaps (omega (arith, ltb-true (gap.last + 1) next.first parts.0)) ups.1 parts.1)
+tidy-head low gap (next ∷ gaps) le up apart = grind (arith, and_parts, leb-true, tidy-head (gap.last + 2) next gaps, ltb-true)
 
 tidy-all : (gaps : List Gap) → are_up gaps ≡ true → are_apart gaps ≡ true → Tidy 0 gaps
 tidy-all [] up apart = tt
@@ -30,9 +28,7 @@ tidy-all (gap ∷ gaps) up apart = tidy-head 0 gap gaps (omega arith) up apart
 
 tidy-list : (gaps : List Gap) → is_gap_list gaps ≡ true → Tidy 1 gaps
 tidy-list [] is = tt
-tidy-list (gap ∷ gaps) is =
-    let parts = and_parts _ _ (and_parts _ _ is).0 in
-    tidy-head 1 gap gaps (leb-true 1 gap.first (and_parts _ _ (and_parts _ _ parts.0).0).0) (gap_list-up (gap ∷ gaps) is) parts.1
+tidy-list (gap ∷ gaps) is = grind (arith, and_parts, tidy-head, leb-true, gap_list-up, nat_tests)
 
 -- ---- a list that has all that another has up to a bound isn't shorter
 

@@ -1,11 +1,11 @@
 -- What an image stands for under the record that an opening writes.
-use Rattle.std.proofs.Common.{◌≡◌, ◌⊎◌, inl, inr, ℕ, ◌+◌, ◌<◌, ◌≤◌, true, false, List, [], ◌∷◌, get_or, refl, sym, ◌∙◌, ap, subst, arith}
+use Rattle.std.proofs.Common.{◌≡◌, ◌⊎◌, inl, inr, ℕ, ◌<◌, ◌≤◌, true, false, List, [], ◌∷◌, refl, sym, ap, subst, arith}
 use Rattle.std.specs.Prelude.{None, ◌↔◌}
 use Rattle.std.specs.List.{list_all}
 use Rattle.std.proofs.lemmas.Bool.{and_parts, and_from, leb-true}
 use Rattle.base.specs.Search.{first_below}
 use Rattle.base.specs.Commits.{Commit}
-use Rattle.base.specs.Layout.{Layout, slot_start, slot_words, is_known_version}
+use Rattle.base.specs.Layout.{Layout, slot_words, is_known_version}
 use Rattle.base.specs.Records.{Record, is_committed, opened_gaps}
 use Rattle.base.specs.Images.{Image, IsSound, layout_of, is_formatted, has_good_geometry, is_wrong_gate, is_ruled, ruling, slot_word, is_bad_slot, ShownUnder, IsRuledBy}
 use Rattle.base.proofs.Histories.{no_bad_slot}
@@ -42,10 +42,7 @@ committed-below r t is = leb-true t r.persisted (and_parts _ _ (and_parts _ _ (a
 -- an image whose slots are those of another has their rows, and counts the same
 module _ (before middle image : Image) (like : HasSlotsOf middle image) (rows : HasRowsOf before middle) where
   word-same : (slot w : ℕ) → slot_word image slot w ≡ slot_word middle slot w
-  word-same slot w = ap (λ (l : Layout). slot_word-by l slot w) like.laid_out ∙ like.same (slot_start (layout_of middle) slot + w) (omega arith)
-    where
-      slot_word-by : Layout → ℕ → ℕ → ℕ
-      slot_word-by l slot w = get_or image (slot_start l slot + w) 0
+  word-same slot w = grind (arith)
 
   pub rows-like : HasRowsOf before image
   rows-like = grind (arith, word-same) steps 800000

@@ -169,10 +169,7 @@ module _ (old : Device) (rest : IsAtRest old) (opens : opening_fault (image_of o
 
 -- it has a superblock
 pub opened-size : (old : Device) → opening_fault (image_of old) ≡ None → 8 ≤ old.words
-opened-size old opens =
-    let a : Layout = layout_of (image_of old) in
-    let size = (size-of (image_of old) (whole-of (image_of old) (opens-sound (image_of old) opens)).geometry).1 in
-    omega (arith, log_within a, size, image_size old)
+opened-size old opens = grind (arith, size-of, whole-of, opens-sound, log_within, image_size)
 
 -- ---- what an update does
 
@@ -197,8 +194,7 @@ abbrev set_by : ℕ → Bool → List Operation
 set_by v b = cond b (set_operations committer 1 v) []
 
 length-by : (v : ℕ) (b : Bool) → count_of one_store (set_by v b) + count_of one_flush (set_by v b) + count_of one_fence (set_by v b) ≡ total (counts_by b)
-length-by v true = refl
-length-by v false = refl
+length-by v a = grind (arith)
 
 -- what it makes of a device
 pub record IsUpdate (old new : Device) : Type 0 where
@@ -282,8 +278,7 @@ module _ (old mid new : Device) (opens : opening_fault (image_of old) ≡ None) 
       (second history drawn next (subst (λ (i : Image). Stands i history drawn next) (sym updated-is) (gone.stands history drawn next s))))
 
   laid-after : (image : Image) → (layout_of image ≡ layout_of (updated before)) ⊎ (layout_of image ≡ opened_layout (layout_of (updated before))) → IsUpdatedFirst before image
-  laid-after image (inl same) = inl (same ∙ gone.laid_out)
-  laid-after image (inr same) = inl (same ∙ sym gone.up_to_date ∙ gone.laid_out)
+  laid-after image a = grind (arith)
 
   -- after the update each image has the version
   pub version-after : LeavesOnly old mid (IsUpdatedFirst before) → ((history drawn : List Commit) (next : ℕ) → Stands (image_of mid) history drawn next → LeavesOnly mid new (StandsOpening (image_of mid) history next))

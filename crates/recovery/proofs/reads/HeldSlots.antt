@@ -104,10 +104,7 @@ all-at P (t ∷ live) all (suc k) s at = all-at P live all.1 k s at
 
 placed-once : (n : ℕ) (live : List LiveSlot) → IsDistinct (eq_by_cmp key_cmp) (map (λ (s : LiveSlot). s.key) live) → (s : LiveSlot) (k : ℕ) → slice_get live k ≡ Some s → lookup_key (placed n live) s.key ≡ Some (n + k)
 placed-once n [] distinct s k at = absurd (cc at)
-placed-once n (t ∷ live) distinct s zero at =
-    let same : t ≡ s = cc at in
-    let none : n ≡ n + 0 = omega arith in
-    ap (λ (b : Bool). cond b (Some n) (lookup_key (placed (suc n) live) s.key)) (ap (λ (x : LiveSlot). key_eq x.key s.key) same ∙ key_eq-same s.key) ∙ (λ i. Some (none i))
+placed-once n (t ∷ live) distinct s zero at = grind (arith, key_eq-same)
 placed-once n (t ∷ live) distinct s (suc k) at =
     let apart : key_eq t.key s.key ≡ false = sym (is_at-key t.key s.key) ∙ all-at (λ (key : Key). eq_by_cmp key_cmp t.key key ≡ false) live (IsDistinct-head (eq_by_cmp key_cmp) t.key (map (λ (x : LiveSlot). x.key) live) distinct) k s at in
     let more : suc n + k ≡ n + suc k = omega arith in
@@ -336,9 +333,7 @@ well-held image slot good shown = grind (arith, or_parts, none) steps 800000
 
 -- what was found of a slot that isn't bad says whether it is free
 pub free-found : (image : Image) (slot : ℕ) (found : SlotContent) → found ≡ found_in image slot → is_bad image slot ≡ false → not (is_held found) ≡ is_free image slot
-free-found image slot Free is good = sym (found-free image slot is).0
-free-found image slot (Live key) is good = sym (found-live image slot key is).0
-free-found image slot Bad is good = absurd (true≢false (sym (found-bad image slot is) ∙ good))
+free-found image slot a is good = grind (arith, found-free, found-live, found-bad)
 
 -- ---- all that is held
 

@@ -23,8 +23,7 @@ refusal-log image fault (inl is) = inl (log-first image fault is)
 refusal-log image fault (inr memory) = inr memory
 
 pub tells-read : (image : Image) (fault : Fault) → IsLogRefusal image fault → ReportsLogFault image fault
-tells-read image fault (inl is) = inl is
-tells-read image fault (inr memory) = inr memory.0
+tells-read image fault a = grind (arith, is)
 
 module _ (layout : Layout) (r : Record) (image : Image) (rules : IsRuledBy layout r image) where
   -- the same, with what stands at the end of the list

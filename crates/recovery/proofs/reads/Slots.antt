@@ -1,5 +1,5 @@
 -- What readings of the slots show of an image.
-use Rattle.std.proofs.Common.{◌≡◌, ℕ, ◌<◌, true, false, List, get_or, length, refl, sym, ◌∙◌, ap, subst, arith, lit<, true≢false}
+use Rattle.std.proofs.Common.{◌≡◌, ℕ, ◌<◌, true, false, List, get_or, length, sym, ◌∙◌, ap, subst, arith, lit<}
 use Rattle.std.specs.Prelude.{None}
 use Rattle.std.proofs.lemmas.List.FromFn.{length-map-range_with_len, get_or-map-range_with_len}
 use Rattle.base.specs.Layout.{Layout, total_words}
@@ -10,7 +10,7 @@ use Rattle.pmem.specs.Device.{Device}
 use Rattle.pmem.specs.Words.{value_of, image_of}
 use Rattle.version_slot.specs.Words.{slot_at}
 use Rattle.recovery.specs.declared.slots.SlotContent.{SlotContent}
-use Rattle.recovery.specs.declared.slots.SlotContent.TheVariants.{Bad, Live, Free}
+use Rattle.recovery.specs.declared.slots.SlotContent.TheVariants.{Live}
 use Rattle.recovery.specs.declared.slots.SlotReading.{SlotReading}
 use Rattle.recovery.specs.declared.rows.LiveSlot.{LiveSlot}
 use Rattle.recovery.specs.Live.{live_at}
@@ -43,14 +43,10 @@ pub live-here : (image : Image) (slot : ℕ) (key : Key) → Live key ≡ found_
 live-here image slot key found = (found-live image slot key found).0
 
 pub free-here : (image : Image) (slot : ℕ) (found : SlotContent) → found ≡ found_in image slot → is_bad image slot ≡ false → ((key : Key) → found ≡ Live key → ⊥) → is_free image slot ≡ true
-free-here image slot Free is good dead = (found-free image slot is).0
-free-here image slot Bad is good dead = absurd (true≢false (sym (found-bad image slot is) ∙ good))
-free-here image slot (Live key) is good dead = absurd (dead key refl)
+free-here image slot a is good dead = grind (arith, found-free, found-bad)
 
 pub live-is : (image : Image) (slot begin : ℕ) (key : Key) → Live key ≡ found_in image slot → begin ≡ begin_of image slot → ◌≡◌ {A = LiveSlot} (record { key = key; slot = slot; begin = begin }) (live_at image slot)
-live-is image slot begin key found begun =
-    let same = (found-live image slot key found).2 in
-    λ i. let l : LiveSlot = record { key = same i; slot = slot; begin = begun i } in l
+live-is image slot begin key found begun = grind (arith, found-live)
 
 pub begin-at : (image : Image) (n slot : ℕ) (d : SlotReading) (readings : List SlotReading) → readings ≡ readings_below image n → slot < n → (get_or readings slot d).begin ≡ begin_of image slot
 unfolding reading_in

@@ -1,5 +1,5 @@
 -- Visiting the slots one after another.
-use Rattle.std.proofs.Common.{◌≡◌, ◌⊎◌, inl, inr, ℕ, ◌+◌, ◌<◌, ◌≤◌, Bool, true, false, cond, not, ◌&&◌, ◌||◌, [], ◌∷◌, ◌++◌, refl, sym, ◌∙◌, ap, subst, arith, add-one, nat_le, ◌*◌, ◌^◌, length, get_or, lit<}
+use Rattle.std.proofs.Common.{◌≡◌, ◌⊎◌, inl, inr, ℕ, ◌+◌, ◌<◌, ◌≤◌, Bool, true, false, cond, not, ◌&&◌, ◌||◌, [], ◌∷◌, ◌++◌, refl, sym, ◌∙◌, ap, subst, arith, add-one, nat_le, ◌^◌, length, get_or, lit<}
 use Rattle.std.specs.Prelude.{Option, Some, None, is_some}
 use Rattle.std.specs.Option.{option_or, option_map}
 use Rattle.std.specs.BTreeMap.{is_at}
@@ -67,9 +67,7 @@ found-bad image slot found = by (is_ahead (ruling image) image slot) (is_shown (
 -- ---- the keys seen
 
 step-some : (o : Option ℕ) (b : Bool) (n : ℕ) → is_some (option_or o (cond b (Some n) None)) ≡ (is_some o || b)
-step-some None true n = refl
-step-some None false n = refl
-step-some (Some k) b n = refl
+step-some a b n = grind (arith)
 
 pub keys-none : (image : Image) (has : Key → Bool) → ((key : Key) → has key ≡ false) → HasKeys image 0 has
 unfolding HasKeys
@@ -156,9 +154,7 @@ module _ (device : Device) (layout : Layout) (r : Record) (slot : ℕ) (size : d
   word-at word lt = get_or-map-range_with_len (value_of device) 0 device.words word word 0 lt (omega arith)
 
   in-slot : (w : ℕ) → w < slot_words layout.version → slot_start layout slot + w < device.words
-  in-slot w lt =
-      let product : slot_words layout.version * (slot + 1) ≤ slot_words layout.version * layout.slots = mul-le-mul_left {m = slot + 1} {n = layout.slots} (slot_words layout.version) (omega arith) in
-      omega (arith, size, product, lt)
+  in-slot w lt = grind (arith, mul-le-mul_left)
 
   each-word : (w : ℕ) → w < slot_words layout.version → slot_word (image_of device) slot w ≡ slot_at layout slot (value_of device) w
   each-word w lt = ap (λ (l : Layout). get_or (image_of device) (slot_start l slot + w) 0) laid-out ∙ word-at (slot_start layout slot + w) (in-slot w lt)

@@ -50,11 +50,7 @@ module _ (f : ℕ → List Operation) where
   beyond k n = flat_map f (range_with_len (k + 1) (n - (k + 1)))
 
   below-parts : (k n : ℕ) → k < n → below n ≡ below k ++ (f k ++ beyond k n)
-  below-parts k n lt =
-      let whole : k + suc (n - (k + 1)) ≡ n = omega (arith, lt) in
-      let here : 0 + k ≡ k = omega arith in
-      ap below (sym whole) ∙ ap (flat_map f) (range-parts 0 k (n - (k + 1))) ∙ flat_map-append f (range_with_len 0 k) ((0 + k) ∷ range_with_len (0 + k + 1) (n - (k + 1)))
-      ∙ (λ i. below k ++ (f (here i) ++ flat_map f (range_with_len (here i + 1) (n - (k + 1)))))
+  below-parts k n lt = grind (arith, range-parts 0 k (n - (k + 1)), flat_map-append)
 
   below-next : (k : ℕ) → below (k + 1) ≡ below k ++ f k
   below-next k =
@@ -67,10 +63,7 @@ module _ (f : ℕ → List Operation) where
       All-append (StoresOnly Q) (f from) (flat_map f (range_with_len (from + 1) n)) (each from (omega arith) (omega arith)) (all-slots Q (from + 1) n (λ k low high. each k (omega (arith, low)) (omega (arith, high))))
 
 slot-order : (a : Layout) (k slot : ℕ) → k < slot → slot_start a k + slot_words a.version ≤ slot_start a slot
-slot-order a k slot lt =
-    let grows : slot_words a.version * (k + 1) ≤ slot_words a.version * slot = mul-le-mul_left {m = k + 1} {n = slot} (slot_words a.version) (omega (arith, lt)) in
-    let product : slot_words a.version * (k + 1) ≡ slot_words a.version * k + slot_words a.version = omega arith in
-    omega (arith, grows, product)
+slot-order a k slot lt = grind (arith, mul-le-mul_left)
 
 module _ (a : Layout) (r : Record) (start : Device) where
   abbrev value : ℕ → ℕ
@@ -347,8 +340,7 @@ module _ (a : Layout) (r : Record) (start : Device) where
 -- ---- when there are too many
 
 few-by : (r : Record) (gaps : Option (List Gap)) (b : Bool) → gaps ≡ cond b None (Some (opened_gaps r)) → (gaps ≡ None → b ≡ true) × ((few : List Gap) → gaps ≡ Some few → b ≡ false)
-few-by r gaps true is = ((λ none. refl), λ few some. absurd (cc (sym is ∙ some)))
-few-by r gaps false is = ((λ none. absurd (cc (sym is ∙ none))), λ few some. refl)
+few-by r gaps a is = grind (arith)
 
 module _ (image : Image) (layout : Layout) (r : Record) (gaps : Option (List Gap)) where
   needs-is : IsRuledBy layout r image → needs_sweep image ≡ nat_lt 8 (length (opened_gaps r))

@@ -45,8 +45,7 @@ module _ (s : Sessions) (h : Hidden) (keeps : Keeps h.origin (plain_of s h)) (ag
   IsRead v = (slot : ℕ) → IsGarbage q slot → h.held slot ≡ Some v → ⊥
 
   slot-left : (v : Version) (o : Option ℕ) → IsRead v → IsSlotOf q v o → IsSlotOf then v o
-  slot-left v (Some slot) read is = grind (arith) steps 800000
-  slot-left v None read none = grind (arith) steps 800000
+  slot-left v a read is = grind (arith)
 
   -- a slot that is held then was held by the same version
   was : (slot : ℕ) (v : Version) → held slot ≡ Some v → h.held slot ≡ Some v

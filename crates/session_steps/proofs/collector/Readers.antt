@@ -1,12 +1,11 @@
 -- Whether the snapshots of all Active sessions cover a timestamp, by the numbers that sessions may have.
-use Rattle.std.proofs.Common.{◌≡◌, ℕ, zero, suc, ◌+◌, ◌<◌, ◌≤◌, Bool, true, false, List, refl, sym, ◌∙◌, arith, Option, Some, None}
+use Rattle.std.proofs.Common.{◌≡◌, ℕ, zero, suc, ◌+◌, ◌<◌, ◌≤◌, Bool, true, false, List, refl, sym, ◌∙◌, arith, Option}
 use Rattle.std.specs.List.{list_all, range_with_len}
 use Rattle.std.proofs.lemmas.Bool.{and_from, false_from_ne_true, true≢false}
 use Rattle.std.proofs.lemmas.Bool.Decides.{nat_tests}
 use Rattle.machine.specs.Machine.{most_sessions}
 use Rattle.state_invariant.proofs.collector.Garbage.{range-all}
 use Rattle.txn.specs.declared.transaction.Transaction.{Transaction}
-use Rattle.txn.specs.declared.transaction.Transaction.TheVariants.{Active, Drawn, ReadOnly}
 use Rattle.txn.specs.Transactions.{transaction_at, is_active}
 use Rattle.session_steps.specs.Collecting.{is_covered_in, each_covers}
 
@@ -28,10 +27,7 @@ one-uncovers ts t n low high is =
 
 -- one that isn't Active reads nothing
 inactive-covered : (t : ℕ) (o : Option Transaction) → is_active o ≡ false → is_covered_in t o ≡ true
-inactive-covered t None inactive = refl
-inactive-covered t (Some (Active snapshot writes)) inactive = absurd (cc inactive)
-inactive-covered t (Some (Drawn u)) inactive = refl
-inactive-covered t (Some ReadOnly) inactive = refl
+inactive-covered t a inactive = grind (arith)
 
 -- so far the snapshot of each covers the timestamp
 abbrev pub CoverBelow : List (Option Transaction) → ℕ → ℕ → Type 0

@@ -29,7 +29,7 @@ use Rattle.pmem.proofs.OperationEffects.{value-stored_other, value-flushed}
 use Rattle.log_area.proofs.Heads.{image_size, image_word}
 use Rattle.snapshot.specs.Snapshots.{Seen, covers, seen_by}
 use Rattle.txn.specs.declared.transaction.Transaction.{Transaction}
-use Rattle.txn.specs.declared.transaction.Transaction.TheVariants.{Active, Drawn, ReadOnly}
+use Rattle.txn.specs.declared.transaction.Transaction.TheVariants.{Active}
 use Rattle.txn.specs.Transactions.{transaction_at}
 use Rattle.version_slot.specs.Words.{key_in, slot_at}
 use Rattle.pmem.proofs.Traces.{after-append}
@@ -73,13 +73,7 @@ module _ (a : Layout) (gaps : List Gap) (value : ℕ → ℕ) where
   by-collector : (slot : ℕ) (sweeping at_slot begins ends : Bool)
       → list_all (is_by_actor (Some actor))
       (cond at_slot (cond sweeping (cond begins (store_op (slot_start a slot) 0 ∷ []) [] ++ cond ends (store_op (slot_start a slot + 1) 0 ∷ []) [] ++ flush_op actor (slot_start a slot / 8) ∷ []) []) (cond sweeping (fence_op actor ∷ []) [])) ≡ true
-  by-collector slot false false begins ends = refl
-  by-collector slot false true begins ends = refl
-  by-collector slot true false begins ends = refl
-  by-collector slot true true false false = refl
-  by-collector slot true true false true = refl
-  by-collector slot true true true false = refl
-  by-collector slot true true true true = refl
+  by-collector slot a b begins ends = grind (arith)
 
   zero-leaves : (word x : ℕ) (device : Device) (other : ℕ) → other ≢ word → value_of (after (zero_operations gaps word x) device) other ≡ value_of device other
   zero-leaves word x device other apart = grind (arith, value-stored_other) steps 800000
@@ -96,24 +90,16 @@ snapshot_in (Some (Active snapshot writes)) = snapshot
 snapshot_in _ = record { persisted = 0; gaps = []; longs = [] }
 
 covered-same : (t seen : ℕ) (x : Option Transaction) → is_covered_in t x ≡ is_covered_for (snapshot_in x) t (option_map (plain_session seen) x)
-covered-same t seen None = refl
-covered-same t seen (Some (Active snapshot writes)) = refl
-covered-same t seen (Some (Drawn u)) = refl
-covered-same t seen (Some ReadOnly) = refl
+covered-same t seen a = grind (arith)
 
 sees-in : (o : Origin) (q : State) (n seen : ℕ) (x : Option Transaction) (begun : ℕ) (writes : Writes) → HoldsSession o q n seen x → option_map (plain_session seen) x ≡ Some (Reads begun writes) → Sees o q (snapshot_in x) begun
-sees-in o q n seen None begun writes has is = absurd (cc is)
-sees-in o q n seen (Some (Active snapshot ws)) begun writes has is = let same : seen ≡ begun = cc is in subst (Sees o q snapshot) same has.0
-sees-in o q n seen (Some (Drawn u)) begun writes has is = absurd (cc is)
-sees-in o q n seen (Some ReadOnly) begun writes has is = absurd (cc is)
+sees-in o q n seen a begun writes has is = grind (arith)
 
 same-option : (o : Option ℕ) (place : ℕ) → option_eq nat_eq o (Some place) ≡ true → o ≡ Some place
-same-option None place is = absurd (cc is)
-same-option (Some n) place is = let same : n ≡ place = grind (arith, nat_tests) in ap (λ (k : ℕ). Some k) same
+same-option a place is = grind (arith, nat_tests)
 
 option-same : (o : Option ℕ) (place : ℕ) → o ≡ Some place → option_eq nat_eq o (Some place) ≡ true
-option-same None place is = absurd (cc is)
-option-same (Some n) place is = let same : n ≡ place = cc is in grind (arith, nat_tests)
+option-same a place is = grind (arith, nat_tests)
 
 -- ---- a visit
 
@@ -431,13 +417,11 @@ counted-shown s device some = let agrees = subst (λ (p : State). Agrees s some.
 
 -- the operations of a visit don't ask for the gaps once these are swept
 pub same-operations : (a : Layout) (given gaps : List Gap) (swept : Bool) (spot : ℕ) (value : ℕ → ℕ) → (swept ≡ false → given ≡ gaps) → tick_operations a given swept spot value ≡ tick_operations a gaps swept spot value
-same-operations a given gaps true spot value are = refl
-same-operations a given gaps false spot value are = ap (λ (gaps : List Gap). tick_operations a gaps false spot value) (are refl)
+same-operations a given gaps b spot value are = grind (arith)
 
 -- and there is none then
 pub swept-runs : (a : Layout) (gaps : List Gap) (swept : Bool) (place : ℕ) (device : Device) → IsOrderly device → swept ≡ true → Runs (tick_operations a gaps swept place (value_of device)) device device
-swept-runs a gaps false place device orderly is = grind (arith) steps 800000
-swept-runs a gaps true place device orderly is = grind (arith, made) steps 800000
+swept-runs a gaps b place device orderly is = grind (arith, made)
 
 -- the operations of a visit keep the device's size
 pub words-kept : (a : Layout) (gaps : List Gap) (swept : Bool) (place : ℕ) (before now : Device) → Runs (tick_operations a gaps swept place (value_of before)) before now → now.words ≡ before.words

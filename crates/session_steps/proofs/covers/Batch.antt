@@ -6,7 +6,7 @@ use Rattle.std.specs.Option.{option_map}
 use Rattle.std.proofs.lemmas.Bool.{and_parts, ltb-true, eq-eqb, ne_eqb, false_from_ne_true, or_right}
 use Rattle.std.proofs.lemmas.Bool.Decides.{nat_tests}
 use Rattle.std.proofs.lemmas.List.{take-append-le}
-use Rattle.std.proofs.lemmas.List.Elements.{All-nil, All-cons, All-filter}
+use Rattle.std.proofs.lemmas.List.Elements.{All-nil, All-filter}
 use Rattle.std.proofs.lemmas.List.Folds.{list_any_none, list_any_at}
 use Rattle.base.specs.declared.key.Key.{Key}
 use Rattle.base.specs.Keys.{key_eq}
@@ -52,9 +52,7 @@ AreRising ds = are_rising (map (λ (d : PlainDrawn). d.commit.timestamp) (map pl
 
 all-later : (t : ℕ) (ds : List DrawnCommit) → list_all (nat_lt t) (map (λ (d : PlainDrawn). d.commit.timestamp) (map plain_drawn ds)) ≡ true → All (λ (d : DrawnCommit). t < d.timestamp) ds
 all-later t [] all = All-nil (λ (d : DrawnCommit). t < d.timestamp)
-all-later t (d ∷ ds) all =
-    let both = and_parts (nat_lt t d.timestamp) (list_all (nat_lt t) (map (λ (d : PlainDrawn). d.commit.timestamp) (map plain_drawn ds))) all in
-    All-cons (λ (d : DrawnCommit). t < d.timestamp) d ds (ltb-true t d.timestamp both.0) (all-later t ds both.1)
+all-later t (d ∷ ds) all = grind (arith, and_parts, ltb-true, all-later t ds)
 
 later : (d : DrawnCommit) (ds : List DrawnCommit) → AreRising (d ∷ ds) → All (λ (e : DrawnCommit). d.timestamp < e.timestamp) ds
 later d ds rising = all-later d.timestamp ds (rising-above d.timestamp (map (λ (d : PlainDrawn). d.commit.timestamp) (map plain_drawn ds)) rising)
@@ -63,10 +61,7 @@ later d ds rising = all-later d.timestamp ds (rising-above d.timestamp (map (λ 
 pub found : (ds : List DrawnCommit) (k : ℕ) (d : DrawnCommit) → AreRising ds → k < length ds → find (λ (e : PlainDrawn). nat_eq e.commit.timestamp (slice_index_or ds k d).timestamp) (map plain_drawn ds) ≡ Some (plain_drawn (slice_index_or ds k d))
 found [] k d rising lt = absurd (omega (arith, lt))
 found (e ∷ ds) zero d rising lt = ap (λ (b : Bool). cond b (Some (plain_drawn e)) (find (λ (x : PlainDrawn). nat_eq x.commit.timestamp e.timestamp) (map plain_drawn ds))) (eq-eqb e.timestamp e.timestamp refl)
-found (e ∷ ds) (suc k) d rising lt =
-    let below : e.timestamp < (slice_index_or ds k d).timestamp = later e ds rising k d (omega (arith, lt)) in
-    ap (λ (b : Bool). cond b (Some (plain_drawn e)) (find (λ (x : PlainDrawn). nat_eq x.commit.timestamp (slice_index_or ds k d).timestamp) (map plain_drawn ds))) (ne_eqb e.timestamp (slice_index_or ds k d).timestamp (λ same. omega (arith, same, below)))
-    ∙ found ds k d (rising-rest e.timestamp (map (λ (d : PlainDrawn). d.commit.timestamp) (map plain_drawn ds)) rising) (omega (arith, lt))
+found (e ∷ ds) (suc k) d rising lt = grind (arith, later, ne_eqb, found ds k d (rising-rest e.timestamp (map (λ (d : PlainDrawn). d.commit.timestamp) (map plain_drawn ds)) rising), rising-rest)
 
 -- as the plain state has it
 member-of : (ds : List DrawnCommit) (k : ℕ) (d : DrawnCommit) → k < length ds → Contains (map plain_drawn ds) (plain_drawn (slice_index_or ds k d))
@@ -77,12 +72,10 @@ member-of (e ∷ ds) (suc k) d lt = let (j, low, is) = member-of ds k d (omega (
 -- ---- tests
 
 and-false : (b : Bool) → (b && false) ≡ false
-and-false true = refl
-and-false false = refl
+and-false a = grind (arith)
 
 and-true : (b : Bool) → (b && true) ≡ b
-and-true true = refl
-and-true false = refl
+and-true a = grind (arith)
 
 -- the number of a writer
 abbrev stamp-of : Writer → ℕ
@@ -91,8 +84,7 @@ stamp-of (ByCommit t) = t
 
 -- a slot stays its version's where all slots stay
 slot-same : (q q' : State) (v : Version) (o : Option ℕ) → q'.layout ≡ q.layout → q'.held ≡ q.held → IsSlotOf q v o → IsSlotOf q' v o
-slot-same q q' v (Some slot) layout held is = (subst (λ (a : _). slot < a.slots) (sym layout) is.0, ap (λ (f : ℕ → Option Version). f slot) held ∙ is.1)
-slot-same q q' v None layout held is = λ slot lt at. is slot (subst (λ (a : _). slot < a.slots) layout lt) (sym (ap (λ (f : ℕ → Option Version). f slot) held) ∙ at)
+slot-same q q' v a layout held is = grind (arith)
 
 -- one that is found among the commits, and passes a test
 any-found : (p test : Commit → Bool) (cs : List Commit) (c : Commit) → find test cs ≡ Some c → p c ≡ true → list_any p cs ≡ true

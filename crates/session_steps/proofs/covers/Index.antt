@@ -69,8 +69,7 @@ module _ (q : State) (v : Version) (key : Key) (last : Option ℕ) (t : ℕ) (wr
       within-commits ds (covered_by_all key e d.writes) (All-tail (λ (d : DrawnCommit). All (IsOwn q v key) d.writes) d ds own) (within-writes d.writes e (All-head (λ (d : DrawnCommit). All (IsOwn q v key) d.writes) d ds own) within)
 
   live-covered : (slot : Option ℕ) (e : Entry) → IsSlotOf q v slot → IsSlotOf q v (live_of (covered slot e))
-  live-covered (Some slot) e is = is
-  live-covered None e is = is
+  live-covered a e is = grind (arith)
 
   -- the live slot is the version's, or one of the writes is under the key
   abbrev pub IsLiveOr : Entry → Bool → Type 0
@@ -103,16 +102,11 @@ abbrev pub IsNoneOr : Entry → Bool → Type 0
 IsNoneOr e written = (e.drawn ≡ None) ⊎ (written ≡ true)
 
 none-covered : (slot : Option ℕ) (e : Entry) → (covered slot e).drawn ≡ None
-none-covered (Some slot) e = refl
-none-covered None e = refl
+none-covered a e = grind (arith)
 
 none-writes : (key : Key) (writes : List Write) (e : Entry) (rest : Bool) → IsNoneOr e (has_key key writes || rest) → IsNoneOr (covered_by_all key e writes) rest
 none-writes key [] e rest either = either
-none-writes key (w ∷ writes) e rest either = none-writes key writes (covered_by key e w) rest (by (key_eq w.key key) either)
-  where
-    by : (b : Bool) → IsNoneOr e ((b || has_key key writes) || rest) → IsNoneOr (cond b (covered w.slot e) e) (has_key key writes || rest)
-    by true either = inl (none-covered w.slot e)
-    by false either = either
+none-writes key (w ∷ writes) e rest either = grind (arith, none-writes key writes (covered_by key e w) rest, none-covered)
 
 -- once a write under the key is covered, none is drawn
 pub none-commits : (key : Key) (ds : List DrawnCommit) (e : Entry) → IsNoneOr e (list_any (λ (d : DrawnCommit). has_key key d.writes) ds) → (covered_by_commits key e ds).drawn ≡ None

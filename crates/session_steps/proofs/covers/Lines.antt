@@ -6,7 +6,7 @@ use Rattle.std.proofs.lemmas.Bool.{or_left, or_right, eqb-true, eq-eqb}
 use Rattle.std.proofs.lemmas.List.Elements.{All-filter, All-head, All-tail}
 use Rattle.std.proofs.lemmas.List.Folds.{list_any_at}
 use Rattle.base.specs.Commits.{Commit}
-use Rattle.machine.specs.Machine.{State, Drawn as PlainDrawn, drawn_of}
+use Rattle.machine.specs.Machine.{State, drawn_of}
 use Rattle.base.specs.Records.{are_rising}
 use Rattle.base.proofs.Lists.{any-map}
 use Rattle.dirty_table.specs.declared.sessions.SessionSet.{SessionSet}
@@ -27,10 +27,7 @@ map-map f g (x ∷ xs) = ap (λ ys. g (f x) ∷ ys) (map-map f g xs)
 -- the commits whose timestamps pass, of the drawn ones
 pub passing-commits : (test : ℕ → Bool) (drawn : List DrawnCommit) (q : State) → q.drawn ≡ map plain_drawn drawn
     → filter (λ (c : Commit). test c.timestamp) (drawn_of q) ≡ map (λ (d : DrawnCommit). (plain_drawn d).commit) (filter (λ (d : DrawnCommit). test d.timestamp) drawn)
-passing-commits test drawn q is =
-    ap (λ ds. filter (λ (c : Commit). test c.timestamp) (map (λ (d : PlainDrawn). d.commit) ds)) is
-    ∙ ap (filter (λ (c : Commit). test c.timestamp)) (map-map plain_drawn (λ (d : PlainDrawn). d.commit) drawn)
-    ∙ filter-map (λ (d : DrawnCommit). (plain_drawn d).commit) (λ (c : Commit). test c.timestamp) drawn
+passing-commits test drawn q is = grind (arith, map-map, filter-map)
 
 any-agree : {X : Type 0} (p r : X → Bool) (xs : List X) → All (λ x. p x ≡ r x) xs → list_any p xs ≡ list_any r xs
 any-agree p r [] all = refl
@@ -41,11 +38,7 @@ any-agree p r (x ∷ xs) all =
 -- what passes one test passes the other
 some-of : {X : Type 0} (p r : X → Bool) (xs : List X) → list_any p xs ≡ true → ((x : X) → p x ≡ true → r x ≡ true) → list_any r xs ≡ true
 some-of p r [] some on = absurd (cc some)
-some-of p r (x ∷ xs) some on = by (p x) refl some (λ later. some-of p r xs later on)
-  where
-    by : (b : Bool) → p x ≡ b → (b || list_any p xs) ≡ true → (list_any p xs ≡ true → list_any r xs ≡ true) → (r x || list_any r xs) ≡ true
-    by true here some rest = or_left (r x) (list_any r xs) (on x here)
-    by false here some rest = or_right (r x) (list_any r xs) (rest some)
+some-of p r (x ∷ xs) some on = grind (arith, some-of p r xs, or_left, or_right)
 
 module _ (q : State) (drawn : List DrawnCommit) (dirty : List SessionSet) (sessions : SessionSet) (test : ℕ → Bool) (is : q.drawn ≡ map plain_drawn drawn) (holds : HoldsLines q drawn dirty)
     (of : (n : ℕ) → has sessions n ≡ list_any (λ d. nat_eq d.session n && test d.timestamp) drawn) where

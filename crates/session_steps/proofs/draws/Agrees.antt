@@ -63,10 +63,7 @@ drawn_of-more (e ∷ ds) d = ap (λ (cs : List Commit). (plain_drawn e).commit �
 -- each was drawn before
 pub all-early : (p : ℕ → Bool) (next : ℕ) (ds : List DrawnCommit) → list_all (λ (d : PlainDrawn). not (p d.commit.timestamp) && nat_lt d.commit.timestamp next) (map plain_drawn ds) ≡ true → All (λ (d : DrawnCommit). d.timestamp < next) ds
 all-early p next [] all = All-nil (λ (d : DrawnCommit). d.timestamp < next)
-all-early p next (d ∷ ds) all =
-    let both = and_parts (not (p d.timestamp) && nat_lt d.timestamp next) (list_all (λ (d : PlainDrawn). not (p d.commit.timestamp) && nat_lt d.commit.timestamp next) (map plain_drawn ds)) all in
-    let here = (and_parts (not (p d.timestamp)) (nat_lt d.timestamp next) both.0).1 in
-    All-cons (λ (d : DrawnCommit). d.timestamp < next) d ds (grind (arith, nat_tests)) (all-early p next ds both.1)
+all-early p next (d ∷ ds) all = grind (arith, and_parts, nat_tests, all-early p next ds)
 
 -- none is of a session whose transaction isn't drawn
 pub none-by : (n : ℕ) (ds : List DrawnCommit) → All (λ (d : DrawnCommit). nat_eq d.session n ≡ false) ds → has_drawn_by ds n ≡ false
@@ -86,17 +83,10 @@ some-line a = omega (arith, line-words a.version, lines-words a)
 
 -- what passes the second test passes the first
 absorb : (a b : Bool) → (b ≡ true → a ≡ true) → a ≡ (a || b)
-absorb true b within = refl
-absorb false true within = within refl
-absorb false false within = refl
+absorb a b within = grind (arith)
 
 either-hits : (own ended a b : Bool) → (b ≡ true → a ≡ true) → (own && a || ended && b) ≡ true → a ≡ true
-either-hits own ended true b within some = refl
-either-hits own ended false true within some = within refl
-either-hits true true false false within some = some
-either-hits true false false false within some = some
-either-hits false true false false within some = some
-either-hits false false false false within some = some
+either-hits own ended a b within some = grind (arith)
 
 module _ (s : Sessions) (h : Hidden) (n : ℕ) (snapshot : Seen) (writes : List Write) (holds : Holds s h) (at : transaction_at s.transactions n ≡ Some (Active snapshot writes)) where
   -- the timestamp that is drawn

@@ -63,12 +63,10 @@ note-next writes i t write old mid new lt is rising before sets key =
 
 -- a draw leaves which covered row it ends
 pub live-drawn : (o : Option Write) (t : ℕ) (entry : Entry) → live_of (drawn_entry o t entry) ≡ live_of entry
-live-drawn None t entry = refl
-live-drawn (Some write) t entry = refl
+live-drawn a t entry = grind (arith)
 
 pub fits-of : (q : State) (v : Version) (o : Option ℕ) → IsSlotOf q v o → fits_slot q.layout.slots o ≡ true
-fits-of q v None is = refl
-fits-of q v (Some slot) is = let lt = is.0 in grind (arith, nat_tests)
+fits-of q v a is = grind (arith, nat_tests)
 
 all-test : {X : Type 0} (P : X → Type 0) (p : X → Bool) (xs : List X) → All P xs → ((x : X) → P x → p x ≡ true) → list_all p xs ≡ true
 all-test P p [] all each = refl

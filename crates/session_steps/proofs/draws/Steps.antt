@@ -25,7 +25,7 @@ use Rattle.txn.specs.declared.transaction.Transaction.TheVariants.{Active, Drawn
 use Rattle.txn.specs.declared.write.Write.{Write}
 use Rattle.txn.specs.DrawnCommits.{are_below}
 use Rattle.txn.specs.Transactions.{transaction_at, Sets}
-use Rattle.txn.specs.WriteSets.{plain_writes, plain_write, write_of}
+use Rattle.txn.specs.WriteSets.{plain_writes, write_of}
 use Rattle.dirty_table.specs.declared.sessions.SessionSet.{SessionSet}
 use Rattle.dirty_table.specs.Touches.{Touches}
 use Rattle.index.specs.declared.entry.Entry.{Entry}
@@ -46,9 +46,7 @@ use Rattle.session_steps.proofs.CodeTests.{same-drawers}
 
 pub all-early : (ruling : Record) (next : ℕ) (ds : List DrawnCommit) → list_all (λ (d : PlainDrawn). not (is_committed ruling d.commit.timestamp) && nat_lt d.commit.timestamp next) (map plain_drawn ds) ≡ true → are_below next ds ≡ true
 all-early ruling next [] all = refl
-all-early ruling next (d ∷ ds) all =
-    let both = and_parts (not (is_committed ruling d.timestamp) && nat_lt d.timestamp next) (list_all (λ (d : PlainDrawn). not (is_committed ruling d.commit.timestamp) && nat_lt d.commit.timestamp next) (map plain_drawn ds)) all in
-    and_from (nat_lt d.timestamp next) (are_below next ds) (and_parts (not (is_committed ruling d.timestamp)) (nat_lt d.timestamp next) both.0).1 (all-early ruling next ds both.1)
+all-early ruling next (d ∷ ds) all = grind (arith, and_parts, and_from, all-early ruling next ds)
 
 -- ---- what is asked of a draw
 
@@ -63,9 +61,7 @@ pub draw-asks : (s : Sessions) (h : Hidden) (n : ℕ) (snapshot : Seen) (writes 
     → conflict ≡ conflict_in s.index snapshot writes → nat_eq s.numbers.next s.numbers.record.dirty ≡ full → nat_le (2 ^ 62) (s.numbers.next + 2 * s.numbers.geometry.window) ≡ late
     → refusal (plain_of s h) (step.Draw n) ≡ first_there (option_map Conflict conflict ∷ some_if full WindowFull ∷ some_if (late || false) TimestampsOut ∷ [])
 draw-asks s h n snapshot [] conflict full late some at holds is_conflict is_full is_late = absurd (some refl)
-draw-asks s h n snapshot (write ∷ writes) conflict full late some at holds is_conflict is_full is_late =
-    asks (plain_of s h) n (h.seen n) (plain_write write) (plain_writes writes) conflict full late holds.works (ap (λ (t : Option Transaction). option_map (plain_session (h.seen n)) t) at)
-    (conflict-is s h n snapshot (write ∷ writes) at holds ∙ sym is_conflict) is_full is_late
+draw-asks s h n snapshot (write ∷ writes) conflict full late some at holds is_conflict is_full is_late = grind (arith, asks, conflict-is s h n snapshot (write ∷ writes) at holds)
 
 -- ---- the steps
 

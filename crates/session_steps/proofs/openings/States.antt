@@ -1,8 +1,7 @@
 -- The sessions of an opened device show the state in which the life begins.
-use Rattle.std.proofs.Common.{◌≡◌, ◌≢◌, ◌⊎◌, inl, inr, ℕ, ◌*◌, ◌<◌, ◌≤◌, Bool, true, false, cond, List, [], ◌∷◌, ◌++◌, map, length, take, refl, sym, ◌∙◌, ap, subst, arith, nat_eq}
+use Rattle.std.proofs.Common.{◌≡◌, ◌≢◌, ◌⊎◌, inl, inr, ℕ, ◌*◌, ◌<◌, ◌≤◌, Bool, true, false, cond, List, [], ◌++◌, map, length, take, refl, sym, ◌∙◌, ap, subst, arith, nat_eq}
 use Rattle.std.specs.Prelude.{Option, Some, None, is_none, is_some, slice_get, All}
 use Rattle.std.specs.Option.{option_map}
-use Rattle.std.specs.List.{list_any}
 use Rattle.std.proofs.lemmas.Bool.{cases_eq, ne_eqb, true≢false}
 use Rattle.std.proofs.lemmas.List.{take_all, drop_all}
 use Rattle.std.proofs.lemmas.List.Elements.{All-nil}
@@ -34,7 +33,7 @@ use Rattle.simulation.specs.steps.Moves.{IsSlotOf}
 use Rattle.collector.specs.declared.rounds.Collector.{Collector}
 use Rattle.session_steps.specs.declared.sessions.Sessions.{Sessions}
 use Rattle.simulation.specs.sessions.Sees.{last_on}
-use Rattle.session_steps.specs.Shows.{Hidden, plain_of, plain_session, plain_drawn, HoldsSession, HoldsEntry, HoldsDrawn, HoldsLines, line_numbers, Shows}
+use Rattle.session_steps.specs.Shows.{Hidden, plain_of, plain_session, plain_drawn, HoldsSession, HoldsEntry, HoldsDrawn, HoldsLines, Shows}
 use Rattle.session_steps.specs.Opening.{Begins, HasFound}
 
 module _ (a : Layout) (ruling : Record) (next : ℕ) (free : List Bool) (q : State) (device : Device) (begins : Begins a ruling next free q) (u : Upholds (origin_of q) q device) (orderly : IsOrderly device) where
@@ -168,9 +167,7 @@ module _ (s : Sessions) (device : Device) (free : List Bool) (q : State) (same :
   plain = λ i. record q { layout = begins.layout_is i; ruling = begins.ruling_is i; drawn = no-drawn i; sessions = λ n. no-session-open n i; next = begins.next_is i; swept = is-unswept i; place = is-first i }
 
   no-lines : HoldsLines q s.drawn.commits s.dirty
-  no-lines =
-      subst (λ (ds : List DrawnCommit). HoldsLines q ds s.dirty) (sym none_drawn)
-      record { own = All-nil (λ (d : DrawnCommit). (line : ℕ) → is_touched s.dirty d.session line ≡ list_any (λ l. nat_eq l line) (line_numbers q ((plain_drawn d).commit ∷ []))); none = λ n line others. none_touched n line }
+  no-lines = grind (arith)
 
   pub shows-opened : Shows s device q
   shows-opened = record {

@@ -346,9 +346,7 @@ taken-within free slots slot lowest taken =
 
 -- a slot that was taken and freed again
 pub given-again : (free : List Bool) (slot : ℕ) → lowest_free free ≡ Some slot → slice_set (slice_set free slot false) slot true ≡ free
-given-again free slot lowest =
-    let there = first_below-some (length free) (is_free free) slot lowest in
-    set-set free slot false true ∙ ap (λ (b : Bool). set free slot b) (sym there.1) ∙ set-get_or free slot false
+given-again free slot lowest = grind (arith, first_below-some, set-set, set-get_or)
 
 -- none is free, or the device stopped
 pub puts-untaken : (s : Sessions) (h : Hidden) (n : ℕ) (snapshot : Seen) (writes : List Write) (v : Content) (slots : List Bool) (before now : Device) (fault : Fault) → IsOrderly before → HoldsOn s h before → transaction_at s.transactions n ≡ Some (Active snapshot writes)

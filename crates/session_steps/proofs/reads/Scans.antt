@@ -44,22 +44,17 @@ abbrev pub laid : ℕ → List Write → Tables → Tables
 laid n writes tables = overlaid (plain_writes (take n writes)) tables
 
 unwrapped : (b : Bool) (row : Option (List ℕ)) (o : Option (Option (List ℕ))) (rest : Option (List ℕ)) → unwrap_or (cond b (Some row) o) rest ≡ cond b row (unwrap_or o rest)
-unwrapped true row o rest = refl
-unwrapped false row o rest = refl
+unwrapped a row o rest = grind (arith)
 
 -- of two tests that never both pass either may come first
 swapped : (a b : Bool) (x y z : Option (List ℕ)) → (a ≡ true → b ≡ true → ⊥) → cond a x (cond b y z) ≡ cond b y (cond a x z)
-swapped true true x y z never = absurd (never refl refl)
-swapped true false x y z never = refl
-swapped false b x y z never = refl
+swapped a b x y z never = grind (arith)
 
 -- one write more is laid over those before it
 laid-next : (writes : List Write) (i : ℕ) (write : Write) (tables : Tables) (key : Key) → IsRising writes → slice_get writes i ≡ Some write
     → laid (suc i) writes tables key ≡ cond (key_eq write.key key) write.row (laid i writes tables key)
 laid-next [] i write tables key rising at = absurd (cc at)
-laid-next (first ∷ writes) zero write tables key rising at =
-    let same : first ≡ write = cc at in
-    unwrapped (key_eq first.key key) first.row None (tables key) ∙ ap (λ (w : Write). cond (key_eq w.key key) w.row (tables key)) same
+laid-next (first ∷ writes) zero write tables key rising at = grind (arith, unwrapped)
 laid-next (first ∷ writes) (suc i) write tables key rising at =
     unwrapped (key_eq first.key key) first.row (lookup_key (plain_writes (take (suc i) writes)) key) (tables key)
     ∙ (ap (λ (o : Option (List ℕ)). cond (key_eq first.key key) first.row o) (laid-next writes i write tables key (rising_tail first writes rising) at)

@@ -1,6 +1,6 @@
 -- Slots are freed.
-use Rattle.std.proofs.Common.{◌≡◌, ◌≢◌, ◌⊎◌, inl, inr, ℕ, zero, suc, ◌+◌, ◌<◌, ◌≤◌, Bool, true, false, List, [], ◌∷◌, ◌++◌, length, set, take, sym, ◌∙◌, ap, subst, arith, Contains}
-use Rattle.std.specs.Prelude.{Some, None, nat_lt, slice_get}
+use Rattle.std.proofs.Common.{◌≡◌, ◌≢◌, ◌⊎◌, inl, inr, ℕ, zero, suc, ◌+◌, ◌<◌, Bool, true, false, List, [], ◌∷◌, ◌++◌, length, set, take, sym, ◌∙◌, ap, subst, arith, Contains}
+use Rattle.std.specs.Prelude.{Some, None, slice_get}
 use Rattle.std.proofs.lemmas.Bool.{cases_eq, cases_lt, and_parts}
 use Rattle.std.proofs.lemmas.Bool.Decides.{nat_tests}
 use Rattle.std.proofs.lemmas.List.{get_or-set_same, get_or-set_other, length-set, take_more}
@@ -13,15 +13,11 @@ use Rattle.session_steps.specs.Giving.{fits_slot, fits_writes, ReleasesSlots}
 
 pub fits-at : (slots : ℕ) (writes : List Write) (i : ℕ) (write : Write) → fits_writes slots writes ≡ true → slice_get writes i ≡ Some write → fits_slot slots write.slot ≡ true
 fits-at slots [] i write all at = absurd (cc at)
-fits-at slots (first ∷ writes) zero write all at =
-    let same : first ≡ write = cc at in
-    ap (λ (w : Write). fits_slot slots w.slot) (sym same) ∙ (and_parts (fits_slot slots first.slot) (fits_writes slots writes) all).0
+fits-at slots (first ∷ writes) zero write all at = grind (arith, and_parts)
 fits-at slots (first ∷ writes) (suc i) write all at = fits-at slots writes i write (and_parts (fits_slot slots first.slot) (fits_writes slots writes) all).1 at
 
 pub fits-own : (slots : ℕ) (write : Write) (slot : ℕ) → fits_slot slots write.slot ≡ true → write.slot ≡ Some slot → slot < slots
-fits-own slots write slot fits is =
-    let here : nat_lt slot slots ≡ true = ap (fits_slot slots) (sym is) ∙ fits in
-    grind (arith, nat_tests)
+fits-own slots write slot fits is = grind (arith, nat_tests)
 
 -- ---- one slot
 
@@ -30,13 +26,7 @@ given-same free slot lt =
     slice_get-get_or (set free slot true) slot false (omega (arith, length-set free slot true, lt)) ∙ ap (λ (b : Bool). Some b) (get_or-set_same free slot true false lt)
 
 pub given-other : (free : List Bool) (slot other : ℕ) → other ≢ slot → slice_get (set free slot true) other ≡ slice_get free other
-given-other free slot other apart = by (cases_lt other (length free))
-  where
-    by : (other < length free) ⊎ (length free ≤ other) → slice_get (set free slot true) other ≡ slice_get free other
-    by (inl lt) =
-        slice_get-get_or (set free slot true) other false (omega (arith, length-set free slot true, lt)) ∙ ap (λ (b : Bool). Some b) (get_or-set_other free slot other true false apart)
-        ∙ sym (slice_get-get_or free other false lt)
-    by (inr le) = slice_get_past (set free slot true) other (omega (arith, length-set free slot true, le)) ∙ sym (slice_get_past free other le)
+given-other free slot other apart = grind (arith, cases_lt other (length free), slice_get-get_or, length-set free slot true, get_or-set_other free slot other true false apart, slice_get_past)
 
 -- ---- the slots of one write after the other
 

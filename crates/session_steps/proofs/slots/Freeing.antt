@@ -62,8 +62,7 @@ held-test n key = grind (arith, nat_tests)
 
 -- what is held by a session is nobody's or its
 nobodys : (n : ℕ) (o : Option Version) → is_held_by n o ≡ true → is_nobodys_or n o ≡ true
-nobodys n None is = refl
-nobodys n (Some v) is = is
+nobodys n a is = grind (arith)
 
 pub aborts : (s : Sessions) (ts : List (Option Transaction)) (slots : List Bool) (n : ℕ) (snapshot : Seen) (writes : List Write) (h : Hidden) → transaction_at s.transactions n ≡ Some (Active snapshot writes)
     → ReleasesSlots writes s.slots slots → Sets s.transactions ts n None → Holds s h → Goes s (record s { transactions = ts; slots = slots }) (Abort n) Done h
@@ -124,10 +123,7 @@ delete-asks s h n key snapshot writes full holds at is_full = grind (arith, pass
 
 -- another key's version is another
 other-version : (n : ℕ) (key other : Key) (o : Option Version) → key_eq key other ≡ false → o ≡ Some (version_by other (BySession n)) → is_own_at n key o ≡ true → ⊥
-other-version n key other o apart at own =
-    let both : Some (version_by key (BySession n)) ≡ Some (version_by other (BySession n)) = sym (own-at n key o own) ∙ at in
-    let same : version_by key (BySession n) ≡ version_by other (BySession n) = cc both in
-    apart-keys key other apart (version-parts same).1
+other-version n key other o apart at own = grind (arith, own-at, apart-keys, version-parts)
 
 pub deletes : (s : Sessions) (ts : List (Option Transaction)) (slots : List Bool) (n : ℕ) (key : Key) (place : Option ℕ) (snapshot : Seen) (writes : List Write) (h : Hidden) → transaction_at s.transactions n ≡ Some (Active snapshot writes)
     → is_full_of key writes ≡ false → slots ≡ given (own_of key writes) s.slots → Sets s.transactions ts n (Some (Active snapshot (with_write_at (deletion key place) writes))) → Holds s h

@@ -1,7 +1,7 @@
 -- What the holders of slots say stays, where one session takes slots and releases them.
-use Rattle.std.proofs.Common.{◌≡◌, ◌⊎◌, ℕ, Bool, true, false, cond, List, [], ◌∷◌, map, refl, sym, ◌∙◌, ap, nat_eq, get_or, arith}
+use Rattle.std.proofs.Common.{◌≡◌, ◌⊎◌, ℕ, Bool, true, false, cond, List, [], ◌∷◌, map, sym, ◌∙◌, ap, arith}
 use Rattle.std.specs.Prelude.{Option, Some, None, All}
-use Rattle.std.specs.List.{list_any, range_with_len, flat_map}
+use Rattle.std.specs.List.{range_with_len, flat_map}
 use Rattle.base.specs.declared.key.Key.{Key}
 use Rattle.base.specs.Commits.{Commit}
 use Rattle.base.specs.Layout.{version_lines}
@@ -12,7 +12,7 @@ use Rattle.dirty_table.specs.declared.sessions.SessionSet.{SessionSet}
 use Rattle.state_invariant.specs.Kept.{version_by}
 use Rattle.device_invariant.specs.Log.{is_own, is_ended, lines_in, line_at, line_number}
 use Rattle.simulation.specs.steps.Moves.{IsSlotOf}
-use Rattle.session_steps.specs.Shows.{HasItsSlot, HasVersionOf, HoldsLines, line_numbers, plain_drawn}
+use Rattle.session_steps.specs.Shows.{HasItsSlot, HasVersionOf, HoldsLines, line_numbers}
 
 -- nobody holds it, or this session does
 abbrev pub is_nobodys_or : ℕ → Option Version → Bool
@@ -34,14 +34,11 @@ by-other n o v at own other = absurd (cc (sym (ap (is_nobodys_or n) at) ∙ own,
 
 -- a version that isn't of the session keeps its slot
 pub slot-kept : (n : ℕ) (q q' : State) (v : Version) (o : Option ℕ) → SameBut n q q' → is_by n v.writer ≡ false → IsSlotOf q v o → IsSlotOf q' v o
-slot-kept n q q' v (Some slot) same other is = grind (arith, by-other) steps 800000
-slot-kept n q q' v None same other is = grind (arith, by-other) steps 800000
+slot-kept n q q' v a same other is = grind (arith, by-other)
 
 -- a commit's version stays in its slot
 pub version-kept : (n : ℕ) (q q' : State) (key : Key) (slot : ℕ) → SameBut n q q' → HasVersionOf q key slot → HasVersionOf q' key slot
-version-kept n q q' key slot same has =
-    let is = slot-kept n q q' (version_by key (ByCommit has.timestamp)) (Some slot) same refl (has.within, has.held) in
-    record { within = is.0; timestamp = has.timestamp; held = is.1 }
+version-kept n q q' key slot same has = grind (arith, slot-kept)
 
 -- and was in it before
 pub version-before : (n : ℕ) (q q' : State) (key : Key) (slot t : ℕ) → SameBut n q q' → q'.held slot ≡ Some (version_by key (ByCommit t)) → q.held slot ≡ Some (version_by key (ByCommit t))
@@ -56,12 +53,10 @@ writes-kept n q q' writer writes same other all = λ k d lt. write-kept n q q' w
 -- ---- the lines of drawn commits
 
 own-no-batch : (n : ℕ) (commits : List Commit) (o : Option Version) → is_nobodys_or n o ≡ true → is_own commits o ≡ false
-own-no-batch n commits None own = refl
-own-no-batch n commits (Some v) own = grind (arith) steps 800000
+own-no-batch n commits a own = grind (arith)
 
 own-not-ended : (n : ℕ) (q : State) (commits : List Commit) (o : Option Version) → is_nobodys_or n o ≡ true → is_ended q commits o ≡ false
-own-not-ended n q commits None own = refl
-own-not-ended n q commits (Some v) own = grind (arith) steps 800000
+own-not-ended n q commits a own = grind (arith)
 
 -- where the tests of each slot are the same, so are the lines
 pub lines-by-tests : (q q' : State) (commits : List Commit) → q'.layout ≡ q.layout → ((slot : ℕ) → is_own commits (q'.held slot) ≡ is_own commits (q.held slot))
@@ -76,7 +71,4 @@ pub lines-kept : (n : ℕ) (q q' : State) (commits : List Commit) → SameBut n 
 lines-kept n q q' commits same = grind (arith, numbers-by-tests, own-no-batch, own-not-ended) steps 800000
 
 pub table-kept : (n : ℕ) (q q' : State) (drawn : List DrawnCommit) (dirty : List SessionSet) → SameBut n q q' → HoldsLines q drawn dirty → HoldsLines q' drawn dirty
-table-kept n q q' drawn dirty same holds = record {
-  own = λ k d lt line. holds.own k d lt line ∙ ap (λ (ls : List ℕ). list_any (λ l. nat_eq l line) ls) (sym (lines-kept n q q' ((plain_drawn (get_or drawn k d)).commit ∷ []) same));
-  none = holds.none;
-}
+table-kept n q q' drawn dirty same holds = grind (arith, lines-kept)

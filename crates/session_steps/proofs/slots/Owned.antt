@@ -4,7 +4,7 @@ use Rattle.std.specs.Prelude.{Option, Some, None, All, unwrap_or}
 use Rattle.std.specs.Option.{option_map, option_and_then}
 use Rattle.std.proofs.lemmas.Bool.{and_from}
 use Rattle.std.proofs.lemmas.Bool.Decides.{nat_tests}
-use Rattle.std.proofs.lemmas.List.Elements.{All-contains, Contains-get_or, All-head, All-tail}
+use Rattle.std.proofs.lemmas.List.Elements.{All-contains, All-head, All-tail}
 use Rattle.std.proofs.lemmas.Option.{slice_get-get_or, slice_get_within, get_or_from_slice_get}
 use Rattle.base.specs.declared.key.Key.{Key}
 use Rattle.base.specs.Keys.{lookup_key, is_rising}
@@ -28,11 +28,7 @@ own-test n key = let same : nat_eq n n ≡ true = grind (arith, nat_tests) in (�
 
 -- what is found under a key is one of the writes, and has the key
 pub found-in : (key : Key) (writes : List Write) (write : Write) → write_of key writes ≡ Some write → Contains writes write × (write.key ≡ key)
-found-in key writes write found =
-    let at = find_place key writes write found in (
-      subst (Contains writes) (get_or_from_slice_get writes at.0 write write at.1) (Contains-get_or writes at.0 write (slice_get_within writes at.0 write at.1)),
-      key_eq-true write.key key at.2,
-    )
+found-in key writes write found = grind (arith, find_place, get_or_from_slice_get, slice_get_within, key_eq-true)
 
 -- each of the writes is what is found under its key
 pub contained-found : (writes : List Write) (write : Write) → IsRising writes → Contains writes write → write_of write.key writes ≡ Some write
@@ -97,9 +93,4 @@ own_slot-is o q n key (Some slot) keeps is =
         let within = is.0 in
         let same : k ≡ slot = keeps.owns.once k slot (version_by key (BySession n)) (omega arith) within (own-at n key (q.held k) test) is.1 in
         absurd (omega (arith, same, lt))
-own_slot-is o q n key None keeps is =
-    first_below-nowhere q.layout.slots (λ s. is_own_at n key (q.held s)) (λ k lt. by k lt (is_own_at n key (q.held k)) refl)
-  where
-    by : (k : ℕ) → k < q.layout.slots → (b : Bool) → is_own_at n key (q.held k) ≡ b → b ≡ false
-    by k lt false test = refl
-    by k lt true test = absurd (is k lt (own-at n key (q.held k) test))
+own_slot-is o q n key None keeps is = grind (arith, first_below-nowhere, own-at)

@@ -1,8 +1,8 @@
 -- Stamp.
 use Rattle.std.proofs.Common.{◌≡◌, ℕ, ◌+◌, ◌<◌, Bool, true, false, ◌&&◌, ◌||◌, cond, not, List, [], ◌∷◌, ◌++◌, length, map, refl, sym, ◌∙◌, ap, subst, arith, nat_eq, nat_lt, nat_le, get_or}
-use Rattle.std.specs.Prelude.{Option, Some, None, is_none, All, slice_get, find}
+use Rattle.std.specs.Prelude.{Option, Some, None, All, find}
 use Rattle.std.specs.List.{list_any, list_all}
-use Rattle.std.specs.Option.{option_map, option_and_then}
+use Rattle.std.specs.Option.{option_map}
 use Rattle.std.proofs.lemmas.Bool.{and_parts}
 use Rattle.std.proofs.lemmas.Bool.Decides.{nat_tests}
 use Rattle.std.proofs.lemmas.List.{append-nil}
@@ -18,8 +18,7 @@ use Rattle.base.specs.declared.step.SessionReply.TheVariants.{Stamped, More, Ref
 use Rattle.base.specs.Steps.{as_reply}
 use Rattle.base.specs.Commits.{Commit, writes_key}
 use Rattle.base.specs.Layout.{Layout}
-use Rattle.base.specs.Stands.{has_timestamp}
-use Rattle.machine.specs.Machine.{State, Session, Drawn as PlainDrawn, ByCommit, Drew, IsCovered, IsStamped, IsDrawn, answered, device_failed, refusal, next_state, allows, standing_of, is_stamped, timestamp_of, counted, drawn_at, stamped_write, is_last_stamp, StandsWithin}
+use Rattle.machine.specs.Machine.{State, Session, Drawn as PlainDrawn, ByCommit, Drew, answered, device_failed, refusal, next_state, allows, standing_of, is_stamped, timestamp_of, counted, drawn_at, stamped_write, is_last_stamp, StandsWithin}
 use Rattle.base.proofs.Lists.{find-passes}
 use Rattle.pmem.specs.Device.{Device}
 use Rattle.pmem.specs.Trace.{Runs, StopsWithin}
@@ -31,7 +30,6 @@ use Rattle.txn.specs.declared.transaction.Transaction.{Transaction}
 use Rattle.txn.specs.declared.transaction.Transaction.TheVariants.{Active, Drawn, ReadOnly}
 use Rattle.txn.specs.declared.write.Write.{Write}
 use Rattle.txn.specs.Transactions.{transaction_at}
-use Rattle.txn.specs.WriteSets.{plain_write}
 use Rattle.txn.proofs.Plain.{length-plain_writes, slice_get-plain_writes}
 use Rattle.dirty_table.specs.Touches.{is_touched}
 use Rattle.index.specs.Entries.{entry_at, live_of}
@@ -104,10 +102,7 @@ module _ (s : Sessions) (h : Hidden) (t spare : ℕ) where
   stamped = record s { drawn = record { commits = map (with_stamp t) s.drawn.commits; spare = spare } }
 
   session-stamped : (n seen : ℕ) (x : Option Transaction) → HoldsSession h.origin (plain_of s h) n seen x → HoldsSession h.origin (plain_of stamped h) n seen x
-  session-stamped n seen None has = tt
-  session-stamped n seen (Some (Active snapshot writes)) has = (record { covered = has.0.covered; early = has.0.early; gaps = has.0.gaps }, λ k d lt. record { slot = (has.1 k d lt).slot; row = (has.1 k d lt).row })
-  session-stamped n seen (Some (Drawn u)) has = tt
-  session-stamped n seen (Some ReadOnly) has = tt
+  session-stamped n seen a has = grind (arith)
 
   drawn-stamped : (d : DrawnCommit) → HoldsDrawn s (plain_of s h) d → HoldsDrawn stamped (plain_of stamped h) (with_stamp t d)
   drawn-stamped d has = grind (arith) steps 800000
@@ -181,19 +176,7 @@ whole-at s h t d holds at =
 allows-stamp : (s : Sessions) (n : ℕ) (h : Hidden) (t : Transaction) → Holds s h → transaction_at s.transactions n ≡ Some t → allows (step.Stamp n) (standing_of (plain_of s h) (plain_session (h.seen n) t)) ≡ is_unstamped s.drawn.commits t
 allows-stamp s n h (Active snapshot writes) holds at = refl
 allows-stamp s n h ReadOnly holds at = refl
-allows-stamp s n h (Drawn t) holds at = by (commit_at t s.drawn.commits) refl (has_timestamp h.history t) (covered-or-drawn s h n t holds at) (list_any (λ d. nat_eq d.commit.timestamp t && is_stamped d) (map plain_drawn s.drawn.commits)) refl
-  where
-    which : (b c : Bool) → b ≡ not c → allows (step.Stamp n) (cond b IsStamped IsDrawn) ≡ c
-    which true true e = absurd (cc e)
-    which true false e = refl
-    which false true e = refl
-    which false false e = absurd (cc e)
-
-    by : (o : Option DrawnCommit) → commit_at t s.drawn.commits ≡ o → (a : Bool) → a ≡ is_none o → (b : Bool) → list_any (λ d. nat_eq d.commit.timestamp t && is_stamped d) (map plain_drawn s.drawn.commits) ≡ b → allows (step.Stamp n) (cond a IsCovered (cond b IsStamped IsDrawn)) ≡ has_left o
-    by None there true e b whole = refl
-    by None there false e b whole = absurd (cc e)
-    by (Some d) there true e b whole = absurd (cc e)
-    by (Some d) there false e b whole = which b (nat_lt d.stamped (length d.writes)) (sym whole ∙ whole-at s h t d holds there)
+allows-stamp s n h (Drawn t) holds at = grind (arith, covered-or-drawn s h n t holds at, whole-at)
 
 pub stamps-refusal : (s : Sessions) (n : ℕ) (fault : Fault) (h : Hidden) → IsBarred (is_unstamped s.drawn.commits) (transaction_at s.transactions n) fault → Holds s h → refusal (plain_of s h) (step.Stamp n) ≡ Some fault
 stamps-refusal s n fault h barred holds = barred-refusal s (Stamp n) n (is_unstamped s.drawn.commits) fault h (transaction_at s.transactions n) refl refl (λ t at lets. allows-stamp s n h t holds at ∙ lets) holds.works barred
@@ -230,9 +213,7 @@ module _ (s : Sessions) (h : Hidden) (n : ℕ) (next : Unstamped) (before now : 
   allowed = passes q (step.Stamp n) n _ holds.works refl here (allows-stamp s n h (Drawn next.timestamp) held at ∙ ap (λ (o : Option DrawnCommit). has_left o) is_next.at ∙ left)
 
   deals : stamped_write q n ≡ Some (next.write.now.key, next.write.now.row)
-  deals =
-      ap (λ (o : Option Session). option_and_then (λ d. slice_get d.commit.writes d.stamped) (drawn_at q (timestamp_of o))) here ∙ ap (option_and_then (λ d. slice_get d.commit.writes d.stamped)) plain-at
-      ∙ slice_get-plain_writes is_next.commit.writes is_next.commit.stamped ∙ ap (option_map plain_write) is_next.is_next.write_is
+  deals = grind (arith, here, plain-at, slice_get-plain_writes)
 
   pub own-slot : IsSlotOf q (version_by next.write.now.key (ByCommit next.timestamp)) next.write.now.slot
   own-slot =
@@ -253,10 +234,7 @@ module _ (s : Sessions) (h : Hidden) (n : ℕ) (next : Unstamped) (before now : 
 
   -- all that it stores is its own
   stores-only : (a : Layout) (own end : Option ℕ) (t : ℕ) → list_all (is_by_actor (Some n)) (begin_operations a own t ++ end_operations a end t) ≡ true
-  stores-only a None None t = refl
-  stores-only a None (Some slot) t = refl
-  stores-only a (Some own) None t = refl
-  stores-only a (Some own) (Some slot) t = refl
+  stores-only a b d t = grind (arith)
 
   -- with the timestamp as the machine has it
   as-run : (t : ℕ) → Runs (stamp_operations q next.write.now.slot ended next.timestamp) before now → t ≡ next.timestamp → Runs (stamp_operations q next.write.now.slot ended t) before now

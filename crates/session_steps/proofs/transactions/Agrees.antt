@@ -1,11 +1,11 @@
 -- What agrees where one transaction is set, and its session takes slots and releases them.
 use Rattle.std.proofs.Common.{◌≡◌, ℕ, ◌<◌, Bool, true, false, cond, List, length, refl, sym, ◌∙◌, subst, nat_eq, arith}
-use Rattle.std.specs.Prelude.{Option, Some, None, is_none, slice_get, All}
+use Rattle.std.specs.Prelude.{Option, Some, is_none, slice_get, All}
 use Rattle.std.proofs.lemmas.Bool.Decides.{nat_tests}
-use Rattle.machine.specs.Machine.{State, Version, BySession, ByCommit}
+use Rattle.machine.specs.Machine.{State, Version, ByCommit}
 use Rattle.txn.specs.declared.drawn.DrawnCommit.{DrawnCommit}
 use Rattle.txn.specs.declared.transaction.Transaction.{Transaction}
-use Rattle.txn.specs.declared.transaction.Transaction.TheVariants.{Active, Drawn, ReadOnly}
+use Rattle.txn.specs.declared.transaction.Transaction.TheVariants.{Drawn}
 use Rattle.txn.specs.Transactions.{transaction_at, Sets}
 use Rattle.index.specs.Entries.{entry_at, live_of}
 use Rattle.state_invariant.specs.Kept.{Origin}
@@ -19,10 +19,7 @@ use Rattle.session_steps.proofs.slots.Held.{SameBut, Moves, slot-kept, version-k
 -- what holds of a session that isn't the one
 pub session-kept : (o : Origin) (n m : ℕ) (q q' : State) (seen : ℕ) (t : Option Transaction) → SameBut n q q' → ((snapshot : _) → Sees o q snapshot seen → Sees o q' snapshot seen) → nat_eq m n ≡ false
     → HoldsSession o q m seen t → HoldsSession o q' m seen t
-session-kept o n m q q' seen None same sees apart holds = tt
-session-kept o n m q q' seen (Some (Active snapshot writes)) same sees apart holds = (sees snapshot holds.0, writes-kept n q q' (BySession m) writes same apart holds.1)
-session-kept o n m q q' seen (Some (Drawn t)) same sees apart holds = tt
-session-kept o n m q q' seen (Some ReadOnly) same sees apart holds = tt
+session-kept o n m q q' seen a same sees apart holds = grind (arith, writes-kept)
 
 -- what agrees but for the sessions and the free slots
 pub agrees-changed : (s : Sessions) (h : Hidden) (ts : List (Option Transaction)) (slots : List Bool) (seen : ℕ → ℕ) (held : ℕ → Option Version) (n : ℕ) (x : Option Transaction)

@@ -19,9 +19,7 @@ find-at test a (suc len) n lo hi is before = grind (arith, nat_tests, find-at te
 
 find-none : (test : ℕ → Bool) (a len : ℕ) → ((k : ℕ) → a ≤ k → k < a + len → test k ≡ false) → find test (range_with_len a len) ≡ None
 find-none test a zero before = refl
-find-none test a (suc len) before =
-    let here : test a ≡ false = before a (omega arith) (omega arith) in
-    rw here (find-none test (a + 1) len (λ k h l. before k (omega arith) (omega arith)))
+find-none test a (suc len) before = grind (arith, find-none test (a + 1) len)
 
 -- ---- one transaction is set
 
@@ -48,8 +46,7 @@ sessions-begun old new seen n begun x sets m = grind (arith) steps 800000
 
 -- the plain session of a number is there exactly if its transaction is
 pub none-where : (seen : ℕ) (t : Option Transaction) → is_none (option_map (plain_session seen) t) ≡ is_none t
-none-where seen None = refl
-none-where seen (Some t) = refl
+none-where seen a = grind (arith)
 
 pub free-at : (s : Sessions) (h : Hidden) (n : ℕ) → IsLowestFree s.transactions n → free_session (plain_of s h) ≡ Some n
 unfolding most_sessions

@@ -54,9 +54,7 @@ found s h n t at = ap (λ (t : Option Transaction). option_map (plain_session (h
 pub barred-refusal : (s : Sessions) (step : SessionStep) (n : ℕ) (lets : Transaction → Bool) (fault : Fault) (h : Hidden) (t : Option Transaction) → session_of (as_step step) ≡ Some n → transaction_at s.transactions n ≡ t
     → ((t : Transaction) → transaction_at s.transactions n ≡ Some t → lets t ≡ false → allows (as_step step) (standing_of (plain_of s h) (plain_session (h.seen n) t)) ≡ false)
     → h.failed ≡ false → IsBarred lets t fault → refusal (plain_of s h) (as_step step) ≡ Some fault
-barred-refusal s step n lets fault h None is at each works barred = refused-absent (plain_of s h) (as_step step) n works is (found s h n None at) ∙ ap (λ (f : Fault). Some f) (sym barred)
-barred-refusal s step n lets fault h (Some t) is at each works barred =
-    refused-misplaced (plain_of s h) (as_step step) n (plain_session (h.seen n) t) works is (found s h n (Some t) at) (each t at barred.1) ∙ ap (λ (f : Fault). Some f) (sym barred.0)
+barred-refusal s step n lets fault h a is at each works barred = grind (arith, refused-absent, found, refused-misplaced)
 
 pub bars : (s : Sessions) (step : SessionStep) (n : ℕ) (lets : Transaction → Bool) (fault : Fault) (h : Hidden) (t : Option Transaction) → session_of (as_step step) ≡ Some n → transaction_at s.transactions n ≡ t
     → ((t : Transaction) → transaction_at s.transactions n ≡ Some t → lets t ≡ false → allows (as_step step) (standing_of (plain_of s h) (plain_session (h.seen n) t)) ≡ false)
@@ -66,17 +64,7 @@ bars s step n lets fault h t is at each holds barred = refuses s step fault h ho
 -- a session that isn't Active bars the steps of Active ones
 pub inactive-refusal : (s : Sessions) (step : SessionStep) (n : ℕ) (fault : Fault) (h : Hidden) → session_of (as_step step) ≡ Some n → is_of_active (as_step step) ≡ true → IsBarred is_active (transaction_at s.transactions n) fault → h.failed ≡ false
     → refusal (plain_of s h) (as_step step) ≡ Some fault
-inactive-refusal s step n fault h is of barred works = barred-refusal s step n is_active fault h (transaction_at s.transactions n) is refl (λ t at lets. by t lets) works barred
-  where
-    standing : (a b : Bool) → allows (as_step step) (cond a IsCovered (cond b IsStamped IsDrawn)) ≡ false
-    standing true b = (others-bar (as_step step) of).covered
-    standing false true = (others-bar (as_step step) of).stamped
-    standing false false = (others-bar (as_step step) of).drawn
-
-    by : (t : Transaction) → is_active t ≡ false → allows (as_step step) (standing_of (plain_of s h) (plain_session (h.seen n) t)) ≡ false
-    by (Active snapshot writes) lets = absurd (cc lets)
-    by (Drawn t) lets = standing _ _
-    by ReadOnly lets = (others-bar (as_step step) of).covered
+inactive-refusal s step n fault h is of barred works = grind (arith, barred-refusal, others-bar (as_step step) of)
 
 pub inactive : (s : Sessions) (step : SessionStep) (n : ℕ) (fault : Fault) (h : Hidden) → session_of (as_step step) ≡ Some n → is_of_active (as_step step) ≡ true → IsBarred is_active (transaction_at s.transactions n) fault → Holds s h
     → Goes s s step (Refused fault) h
@@ -147,9 +135,7 @@ begins-not s fault h (inr short) holds = grind (arith, same-drawers, refusal-beg
 
 -- a session that is over allows its end
 over-allows : (s : Sessions) (n : ℕ) (h : Hidden) (t : Transaction) → Holds s h → transaction_at s.transactions n ≡ Some t → allows (step.End n) (standing_of (plain_of s h) (plain_session (h.seen n) t)) ≡ is_over s.drawn.commits t
-over-allows s n h (Active snapshot writes) holds at = refl
-over-allows s n h ReadOnly holds at = refl
-over-allows s n h (Drawn t) holds at = grind (arith, covered-or-drawn) steps 800000
+over-allows s n h a holds at = grind (arith, covered-or-drawn)
 
 pub ends : (s : Sessions) (ts : List (Option Transaction)) (n : ℕ) (h : Hidden) → is_over_at s.drawn.commits (transaction_at s.transactions n) ≡ true → Sets s.transactions ts n None → Holds s h
     → Goes s (record s { transactions = ts }) (End n) Done h
@@ -189,9 +175,7 @@ asks : (s : Sessions) (n : ℕ) (t : Transaction) (answer : SessionReply) (h : H
 asks s n t answer h at lets is holds = grind (arith, same-drawers, passes, found) steps 800000
 
 lets-poll : (n : ℕ) (a b : Bool) → allows (step.Poll n) (cond a IsCovered (cond b IsStamped IsDrawn)) ≡ true
-lets-poll n true b = refl
-lets-poll n false true = refl
-lets-poll n false false = refl
+lets-poll n a b = grind (arith)
 
 -- its commit waits to be covered
 pub polls-waiting : (s : Sessions) (n t : ℕ) (h : Hidden) → transaction_at s.transactions n ≡ Some (Drawn t) → is_some (commit_at t s.drawn.commits) ≡ true → Holds s h → Goes s s (Poll n) Waiting h

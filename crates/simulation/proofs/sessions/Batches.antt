@@ -1,5 +1,5 @@
 -- The record in hand says which drawn commits are covered.
-use Rattle.std.proofs.Common.{◌≡◌, ◌≢◌, ◌⊎◌, inl, inr, ℕ, ◌<◌, Bool, true, false, cond, not, ◌&&◌, ◌||◌, zero, suc, List, [], ◌∷◌, ◌++◌, map, filter, refl, sym, ◌∙◌, ap, subst, arith, Option, Some, None, find, true≢false}
+use Rattle.std.proofs.Common.{◌≡◌, ◌≢◌, ◌⊎◌, inl, inr, ℕ, ◌<◌, Bool, true, false, cond, not, ◌||◌, zero, suc, List, [], ◌∷◌, ◌++◌, map, filter, refl, sym, ◌∙◌, ap, subst, arith, Option, Some, None, find, true≢false}
 use Rattle.std.specs.Prelude.{nat_eq, nat_lt, Contains}
 use Rattle.std.specs.List.{list_any, list_all}
 use Rattle.std.specs.Option.{option_map, option_or}
@@ -35,12 +35,7 @@ filter-agree p r (x ∷ ds) rising each =
 
 map-filter : (p : Commit → Bool) (ds : List Drawn) → filter p (map (λ (d : Drawn). d.commit) ds) ≡ map (λ (d : Drawn). d.commit) (filter (λ d. p d.commit) ds)
 map-filter p [] = refl
-map-filter p (d ∷ ds) = by (p d.commit) (map-filter p ds)
-  where
-    by : (b : Bool) → filter p (map (λ (d : Drawn). d.commit) ds) ≡ map (λ (d : Drawn). d.commit) (filter (λ d. p d.commit) ds)
-        → cond b (d.commit ∷ filter p (map (λ (d : Drawn). d.commit) ds)) (filter p (map (λ (d : Drawn). d.commit) ds)) ≡ map (λ (d : Drawn). d.commit) (cond b (d ∷ filter (λ d. p d.commit) ds) (filter (λ d. p d.commit) ds))
-    by true e = ap (λ (cs : List Commit). d.commit ∷ cs) e
-    by false e = e
+map-filter p (d ∷ ds) = grind (arith, map-filter p ds)
 
 times-of : (ds : List Drawn) → map (λ (c : Commit). c.timestamp) (map (λ (d : Drawn). d.commit) ds) ≡ map time_of ds
 times-of [] = refl
@@ -52,25 +47,16 @@ times cs = map (λ (c : Commit). c.timestamp) cs
 -- nothing is found below what all are above
 none-below : (t : ℕ) (cs : List Commit) → list_all (nat_lt t) (times cs) ≡ true → commit_at cs t ≡ None
 none-below t [] above = refl
-none-below t (c ∷ cs) above =
-    let both = and_parts (nat_lt t c.timestamp) (list_all (nat_lt t) (times cs)) above in
-    let less : t < c.timestamp = ltb-true t c.timestamp both.0 in
-    ap (λ (b : Bool). cond b (Some c) (commit_at cs t)) (ne_eqb c.timestamp t (λ e. omega (arith, e, less))) ∙ none-below t cs both.1
+none-below t (c ∷ cs) above = grind (arith, and_parts, ltb-true, ne_eqb, none-below t cs)
 
 lower : (t u : ℕ) (ts : List ℕ) → t < u → list_all (nat_lt u) ts ≡ true → list_all (nat_lt t) ts ≡ true
 lower t u [] less all = refl
-lower t u (x ∷ ts) less all =
-    let both = and_parts (nat_lt u x) (list_all (nat_lt u) ts) all in
-    let more : u < x = ltb-true u x both.0 in
-    and_from (nat_lt t x) (list_all (nat_lt t) ts) (lt-ltb t x (omega (arith, less, more))) (lower t u ts less both.1)
+lower t u (x ∷ ts) less all = grind (arith, and_parts, ltb-true, and_from, lt-ltb, lower t u ts less)
 
 -- two rising lists in which the same is found are the same
 same-rising : (xs ys : List Commit) → are_rising (times xs) ≡ true → are_rising (times ys) ≡ true → ((t : ℕ) → commit_at xs t ≡ commit_at ys t) → xs ≡ ys
 same-rising [] [] up high same = refl
-same-rising [] (y ∷ ys) up high same = let clash : None ≡ Some y = same y.timestamp ∙ here y ys in absurd (cc clash)
-  where
-    here : (y : Commit) (ys : List Commit) → commit_at (y ∷ ys) y.timestamp ≡ Some y
-    here y ys = ap (λ (b : Bool). cond b (Some y) (commit_at ys y.timestamp)) (eq-eqb y.timestamp y.timestamp refl)
+same-rising [] (y ∷ ys) up high same = grind (arith, eq-eqb y.timestamp y.timestamp refl)
 same-rising (x ∷ xs) [] up high same = let clash : Some x ≡ None = sym (here x xs) ∙ same x.timestamp in absurd (cc clash)
   where
     here : (y : Commit) (ys : List Commit) → commit_at (y ∷ ys) y.timestamp ≡ Some y
@@ -166,9 +152,7 @@ last-split key p (d ∷ ds) rising apart =
 
 all-above : (t : ℕ) (ds : List Drawn) → list_all (nat_lt t) (map (λ (d : Drawn). d.commit.timestamp) ds) ≡ true → list_all (λ (d : Drawn). nat_lt t d.commit.timestamp) ds ≡ true
 all-above t [] all = refl
-all-above t (d ∷ ds) all =
-    let both = and_parts (nat_lt t d.commit.timestamp) (list_all (nat_lt t) (map (λ (d : Drawn). d.commit.timestamp) ds)) all in
-    ap (λ b. b && list_all (λ (d : Drawn). nat_lt t d.commit.timestamp) ds) both.0 ∙ all-above t ds both.1
+all-above t (d ∷ ds) all = grind (arith, and_parts, all-above t ds)
 
 all-member : {X : Type 0} (p : X → Bool) (xs : List X) (x : X) → list_all p xs ≡ true → Contains xs x → p x ≡ true
 all-member p [] x all (k, lt, is) = absurd (omega (arith, lt))
@@ -193,8 +177,7 @@ found (e ∷ ds) d rising (suc k, lt, is) =
 -- ---- the newest versions
 
 not-here : (b rest : Bool) → b ≡ false → (b || rest) ≡ rest
-not-here true rest is = absurd (true≢false is)
-not-here false rest is = refl
+not-here a rest is = grind (arith)
 
 -- where each that writes the key has this timestamp, and one does, it is the last
 writer-one : (key : Key) (u : ℕ) (cs : List Commit) (t : ℕ) → ((c : Commit) → Contains cs c → writes_key key c ≡ true → c.timestamp ≡ u) → (list_any (writes_key key) cs ≡ true) ⊎ (t ≡ u) → writer_from key t cs ≡ u
@@ -218,9 +201,7 @@ member-filter p (x ∷ ds) d member = by (p x) (member-filter p ds d) member
 -- one of those that pass writes the key
 writes-one : (key : Key) (p : Drawn → Bool) (ds : List Drawn) (d : Drawn) → Contains ds d → p d ≡ true → writes_key key d.commit ≡ true → list_any (writes_key key) (commits (filter p ds)) ≡ true
 writes-one key p [] d (k, lt, is) passes writes = absurd (omega (arith, lt))
-writes-one key p (e ∷ ds) d (zero, lt, is) passes writes =
-    ap (λ b. list_any (writes_key key) (commits (cond b (e ∷ filter p ds) (filter p ds)))) (ap p is ∙ passes)
-    ∙ ap (λ b. b || list_any (writes_key key) (commits (filter p ds))) (ap (λ (d : Drawn). writes_key key d.commit) is ∙ writes)
+writes-one key p (e ∷ ds) d (zero, lt, is) passes writes = grind (arith)
 writes-one key p (e ∷ ds) d (suc k, lt, is) passes writes = by (p e) (writes-one key p ds d (k, omega (arith, lt), is) passes writes)
   where
     by : (b : Bool) → list_any (writes_key key) (commits (filter p ds)) ≡ true → list_any (writes_key key) (commits (cond b (e ∷ filter p ds) (filter p ds))) ≡ true

@@ -1,5 +1,5 @@
 -- From a key's newest version links lead to the one that a snapshot sees.
-use Rattle.std.proofs.Common.{◌≡◌, ◌≢◌, ◌⊎◌, inl, inr, ℕ, zero, suc, ◌+◌, ◌-◌, ◌^◌, ◌<◌, ◌≤◌, Bool, true, false, cond, not, List, [], length, take, refl, sym, ◌∙◌, ap, subst, arith, Option, Some, None, slice_get, true≢false}
+use Rattle.std.proofs.Common.{◌≡◌, ◌⊎◌, inl, inr, ℕ, zero, suc, ◌+◌, ◌-◌, ◌^◌, ◌<◌, ◌≤◌, Bool, true, false, cond, not, List, [], length, take, refl, sym, ◌∙◌, ap, subst, arith, Option, Some, None, slice_get, true≢false}
 use Rattle.std.specs.Prelude.{nat_eq, nat_lt, unwrap_or, slice_index, is_some}
 use Rattle.std.proofs.lemmas.Bool.{and_parts, and_from, lt-ltb, false_from_ne_true, not_from_false, cases_eq, cases_lt, not-true}
 use Rattle.std.proofs.lemmas.List.{take_all}

@@ -1,5 +1,5 @@
 -- Which keys were drawn since a snapshot.
-use Rattle.std.proofs.Common.{◌≡◌, inl, inr, ℕ, zero, suc, ◌<◌, ◌≤◌, Bool, true, false, cond, not, ◌&&◌, ◌||◌, List, [], ◌∷◌, ◌++◌, length, take, drop, map, refl, sym, ◌∙◌, ap, arith, Option, Some, None, is_some, true≢false}
+use Rattle.std.proofs.Common.{◌≡◌, inl, inr, ℕ, zero, suc, ◌<◌, ◌≤◌, true, false, not, ◌&&◌, List, [], ◌∷◌, ◌++◌, length, take, drop, map, refl, sym, ◌∙◌, ap, arith, Option, Some, None, is_some, true≢false}
 use Rattle.std.specs.Prelude.{nat_eq, nat_lt, if◌then◌else◌}
 use Rattle.std.specs.List.{list_any, list_all}
 use Rattle.std.specs.Option.{option_or}
@@ -27,8 +27,7 @@ abbrev own : Key → Commit → Option ℕ
 own key c = if writes_key key c then Some c.timestamp else None
 
 pub option_or-assoc : (a b c : Option ℕ) → option_or a (option_or b c) ≡ option_or (option_or a b) c
-option_or-assoc None b c = refl
-option_or-assoc (Some x) b c = refl
+option_or-assoc a b c = grind (arith)
 
 pub last_on-append : (key : Key) (xs ys : List Commit) → last_on key (xs ++ ys) ≡ option_or (last_on key ys) (last_on key xs)
 last_on-append key [] ys = sym (option_or-none (last_on key ys))
@@ -37,23 +36,12 @@ last_on-append key (x ∷ xs) ys = ap (λ o. option_or o (own key x)) (last_on-a
 -- there is one exactly where a commit writes the key
 pub last_on-any : (key : Key) (cs : List Commit) → is_some (last_on key cs) ≡ list_any (writes_key key) cs
 last_on-any key [] = refl
-last_on-any key (c ∷ cs) = by (last_on key cs) (writes_key key c) (list_any (writes_key key) cs) (last_on-any key cs)
-  where
-    by : (o : Option ℕ) (b any : Bool) → is_some o ≡ any → is_some (option_or o (cond b (Some c.timestamp) None)) ≡ (b || any)
-    by (Some t) true any e = refl
-    by (Some t) false any e = e
-    by None true any e = refl
-    by None false any e = e
+last_on-any key (c ∷ cs) = grind (arith, last_on-any key cs)
 
 -- and it has the timestamp
 pub last_on-has : (key : Key) (cs : List Commit) (t : ℕ) → last_on key cs ≡ Some t → has_timestamp cs t ≡ true
 last_on-has key [] t is = absurd (cc is)
-last_on-has key (c ∷ cs) t is = by (λ u found. last_on-has key cs u found) (last_on key cs) refl (writes_key key c) is
-  where
-    by : ((u : ℕ) → last_on key cs ≡ Some u → has_timestamp cs u ≡ true) → (o : Option ℕ) → last_on key cs ≡ o → (b : Bool) → option_or o (cond b (Some c.timestamp) None) ≡ Some t → (nat_eq c.timestamp t || has_timestamp cs t) ≡ true
-    by rest (Some u) found b e = or_right (nat_eq c.timestamp t) (has_timestamp cs t) (rest t (found ∙ e))
-    by rest None found true e = ap (λ b. b || has_timestamp cs t) (eq-eqb c.timestamp t (cc e))
-    by rest None found false e = absurd (cc e)
+last_on-has key (c ∷ cs) t is = grind (arith, last_on-has key cs, or_right, eq-eqb)
 
 -- ---- what the snapshot sees, and what it doesn't
 
@@ -144,10 +132,7 @@ module _ (o : Origin) (q : State) (snapshot : Seen) (begun : ℕ) (kept : Keeps 
       ])
 
   unseen-uncovered : (t : ℕ) → has_timestamp unseen t ≡ true → covers snapshot t ≡ false
-  unseen-uncovered t has = elim (or_cases (has_timestamp (drop begun q.history) t) (has_timestamp (drawn_of q) t) (sym (list_any-append (λ (c : Commit). nat_eq c.timestamp t) (drop begun q.history) (drawn_of q)) ∙ has)) [
-    | inl covered ↦ rest-uncovered t covered
-    | inr drawn ↦ drawn-uncovered t drawn
-  ]
+  unseen-uncovered t has = grind (arith, or_cases, list_any-append, rest-uncovered, drawn-uncovered)
 
   pub conflict : (key : Key) → is_unseen snapshot (last_on key (commits_of_life o q)) ≡ list_any (writes_key key) unseen
   conflict key = ap (λ cs. is_unseen snapshot (last_on key cs)) whole ∙ ap (is_unseen snapshot) (last_on-append key seen unseen) ∙ by (last_on key unseen) refl ∙ last_on-any key unseen

@@ -1,7 +1,7 @@
 -- The ruling record as a snapshot.
 use Rattle.std.proofs.Common.{◌≡◌, inl, inr, ℕ, ◌<◌, ◌≤◌, Bool, true, false, not, ◌&&◌, List, [], ◌∷◌, length, take, drop, map, refl, sym, ◌∙◌, ap, arith}
 use Rattle.std.specs.Prelude.{nat_eq, nat_lt, nat_le}
-use Rattle.std.specs.List.{list_any, list_all}
+use Rattle.std.specs.List.{list_all}
 use Rattle.std.specs.Cmp.{both_ways}
 use Rattle.std.proofs.lemmas.Bool.{and_parts, and_from, or_left, or_right, or_cases, leb-true, leb-false, le-leb, eqb-true, false≢true}
 use Rattle.std.proofs.lemmas.List.{take_all}
@@ -23,22 +23,11 @@ module _ (o : Origin) (q : State) (kept : Keeps o q) where
 
   -- what lies in no gap of the record's and in no swept one, lies in none of the opening's
   no-gap : (t : ℕ) → IsOutOfSwept o q t → not (is_in q.ruling.gaps t) ≡ true → not (is_in o.ruling.gaps t) ≡ true
-  no-gap t out is = elim origin.gaps [
-    | inl same ↦ ap (λ gs. not (is_in gs t)) (sym same) ∙ is
-    | inr swept ↦ ap not (out swept.0)
-  ]
+  no-gap t out is = grind (arith)
 
   -- what the ruling record commits of what the opening's persisted, that committed too
   committed-before : (t : ℕ) → IsOutOfSwept o q t → t ≤ o.ruling.persisted → is_committed q.ruling t ≡ true → is_committed o.ruling t ≡ true
-  committed-before t out low is =
-      let a = and_parts (nat_le 1 t && nat_le t q.ruling.persisted && not (is_in q.ruling.gaps t)) (not (list_any (nat_eq t) q.ruling.longs)) is in
-      let b = and_parts (nat_le 1 t && nat_le t q.ruling.persisted) (not (is_in q.ruling.gaps t)) a.0 in
-      let c = and_parts (nat_le 1 t) (nat_le t q.ruling.persisted) b.0 in
-      and_from (nat_le 1 t && nat_le t o.ruling.persisted && not (is_in o.ruling.gaps t)) (not (list_any (nat_eq t) o.ruling.longs))
-      (and_from (nat_le 1 t && nat_le t o.ruling.persisted) (not (is_in o.ruling.gaps t))
-      (and_from (nat_le 1 t) (nat_le t o.ruling.persisted) c.0 (le-leb t o.ruling.persisted low))
-      (no-gap t out b.1))
-      (ap (λ ls. not (list_any (nat_eq t) ls)) origin.whole)
+  committed-before t out low is = grind (arith, and_parts, and_from, le-leb, no-gap)
 
   -- a drawn commit isn't committed
   drawn-uncommitted : (t : ℕ) → has_timestamp (drawn_of q) t ≡ true → is_committed q.ruling t ≡ true → ⊥

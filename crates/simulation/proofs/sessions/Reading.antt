@@ -1,6 +1,6 @@
 -- What a snapshot in use covers in the words of the slots.
-use Rattle.std.proofs.Common.{◌≡◌, inl, inr, true≢false, ℕ, ◌+◌, ◌<◌, ◌≤◌, Bool, true, false, cond, not, ◌&&◌, length, take, sym, ◌∙◌, ap, subst, arith}
-use Rattle.std.specs.Prelude.{slice_index, nat_eq, List}
+use Rattle.std.proofs.Common.{◌≡◌, inl, inr, true≢false, ℕ, ◌+◌, ◌<◌, ◌≤◌, false, not, ◌&&◌, length, take, sym, ◌∙◌, ap, subst, arith}
+use Rattle.std.specs.Prelude.{slice_index, List}
 use Rattle.base.specs.declared.key.Key.{Key}
 use Rattle.base.specs.Commits.{after}
 use Rattle.base.specs.Layout.{slot_words, slot_start, total_words}
@@ -40,16 +40,10 @@ module _ (o : Origin) (q : State) (device : Device) (snapshot : Seen) (begun : �
 
   -- a word of a slot has a value that may survive
   survives : (slot w : ℕ) → slot < q.layout.slots → w < slot_words q.layout.version → Survives device (word_of q.layout slot w) (slice_index image (word_of q.layout slot w))
-  survives slot w lt low =
-      let within : word_of q.layout slot w < device.words = omega (arith, word-within q.layout slot w lt low, size, image_size device) in
-      subst (Survives device (word_of q.layout slot w)) (sym (image_word device (word_of q.layout slot w) within)) (orderly.some (word_of q.layout slot w) within)
+  survives slot w lt low = grind (arith, word-within, size, image_size, image_word)
 
   some-words : 2 ≤ slot_words q.layout.version
-  some-words = two (nat_eq q.layout.version 3)
-    where
-      two : (b : Bool) → 2 ≤ cond b 16 8
-      two true = omega arith
-      two false = omega arith
+  some-words = grind (arith)
 
   -- the words of the slots are below the next timestamp
   below : (slot w : ℕ) → EachSurvivor device (word_of q.layout slot w) (λ x. x < q.next) → slot < q.layout.slots → w < slot_words q.layout.version → slice_index image (word_of q.layout slot w) < q.next

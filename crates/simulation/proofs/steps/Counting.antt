@@ -1,17 +1,15 @@
 -- How many operations puts and stamps make.
-use Rattle.std.proofs.Common.{◌≡◌, ℕ, zero, suc, ◌+◌, ◌-◌, ◌≤◌, true, List, [], ◌∷◌, ◌++◌, map, length, refl, arith, Option, Some, None}
+use Rattle.std.proofs.Common.{◌≡◌, ℕ, zero, suc, ◌+◌, ◌≤◌, true, List, [], ◌∷◌, ◌++◌, map, length, refl, arith, Option}
 use Rattle.std.specs.List.{range_with_len}
 use Rattle.std.proofs.lemmas.List.{length-append}
 use Rattle.std.proofs.lemmas.List.FromFn.{length-map-range_with_len}
-use Rattle.base.specs.Layout.{slot_start, slot_words}
-use Rattle.machine.specs.Machine.{State, own_slot}
+use Rattle.base.specs.Layout.{slot_words}
+use Rattle.machine.specs.Machine.{State}
 use Rattle.base.proofs.Layouts.{line-words}
 use Rattle.pmem.specs.Device.{Device}
 use Rattle.pmem.specs.Trace.{Operation, store_op, flush_op, fence_op, failure, Runs, StopsWithin}
 use Rattle.version_slot.specs.declared.words.Version.{Version as Content}
-use Rattle.version_slot.specs.Words.{filled_word}
-use Rattle.version_slot.specs.Operations.{clear_operations, fill_operations}
-use Rattle.simulation.specs.steps.Moves.{Takes, all_succeed, unless_own, put_operations, stamp_operations}
+use Rattle.simulation.specs.steps.Moves.{Takes, all_succeed, put_operations, stamp_operations}
 use Rattle.simulation.specs.steps.Laws.{PutsCount, StampsCount}
 use Rattle.simulation.proofs.steps.Runs.{runs-count, stops-count}
 
@@ -28,37 +26,19 @@ succeed-stores first value from (suc n) = succeed-stores first value (from + 1) 
 
 -- runs of so few operations that all succeed
 pub takes-run : (ops : List Operation) (most : ℕ) (old new : Device) → all_succeed ops ≡ true → length ops ≤ most → Runs ops old new → Takes most 0 old new
-takes-run ops most old new succeed few run =
-    let count = runs-count ops old new succeed run in
-    record { operations = omega (arith, count.0, few); failed = omega (arith, count.1) }
+takes-run ops most old new succeed few run = grind (arith, runs-count ops old new succeed run)
 
 pub takes-stopped : (ops : List Operation) (most : ℕ) (old new : Device) → all_succeed ops ≡ true → length ops ≤ most → StopsWithin ops old new → Takes most 1 old new
-takes-stopped ops most old new succeed few stop =
-    let count = stops-count ops old new succeed stop in
-    record { operations = omega (arith, count.0, few); failed = count.1 }
+takes-stopped ops most old new succeed few stop = grind (arith, stops-count ops old new succeed stop)
 
 -- ---- a put
 
 module _ (q : State) (n actor slot : ℕ) (v : Content) where
   put-succeeds : all_succeed (put_operations q n actor slot v) ≡ true
-  put-succeeds = succeed-append (unless_own (own_slot q n v.key) (clear_operations q.layout actor slot)) (fill_operations q.layout slot v) (first (own_slot q n v.key)) (succeed-stores (slot_start q.layout slot + 1) (λ k. filled_word v (k + 1)) 0 (slot_words q.layout.version - 1))
-    where
-      first : (x : Option ℕ) → all_succeed (unless_own x (clear_operations q.layout actor slot)) ≡ true
-      first None = refl
-      first (Some own) = refl
+  put-succeeds = grind (arith, succeed-append, succeed-stores)
 
   put-few : length (put_operations q n actor slot v) ≤ slot_words q.layout.version + 2
-  put-few = omega (
-    arith,
-    length-append (unless_own (own_slot q n v.key) (clear_operations q.layout actor slot)) (fill_operations q.layout slot v),
-    first (own_slot q n v.key),
-    length-map-range_with_len (λ k. store_op (slot_start q.layout slot + 1 + k) (filled_word v (k + 1))) 0 (slot_words q.layout.version - 1),
-    line-words q.layout.version,
-  )
-    where
-      first : (x : Option ℕ) → length (unless_own x (clear_operations q.layout actor slot)) ≤ 3
-      first None = omega arith
-      first (Some own) = omega arith
+  put-few = grind (arith, length-append, length-map-range_with_len, line-words)
 
 pub puts-count : PutsCount
 puts-count = record {
@@ -69,16 +49,10 @@ puts-count = record {
 -- ---- a stamp
 
 stamp-succeeds : (q : State) (own ended : Option ℕ) (t : ℕ) → all_succeed (stamp_operations q own ended t) ≡ true
-stamp-succeeds q None None t = refl
-stamp-succeeds q None (Some e) t = refl
-stamp-succeeds q (Some s) None t = refl
-stamp-succeeds q (Some s) (Some e) t = refl
+stamp-succeeds q a b t = grind (arith)
 
 stamp-few : (q : State) (own ended : Option ℕ) (t : ℕ) → length (stamp_operations q own ended t) ≤ 2
-stamp-few q None None t = omega arith
-stamp-few q None (Some e) t = omega arith
-stamp-few q (Some s) None t = omega arith
-stamp-few q (Some s) (Some e) t = omega arith
+stamp-few q a b t = grind (arith)
 
 pub stamps-count : StampsCount
 stamps-count = record {

@@ -1,5 +1,5 @@
 -- The steps of sessions that store nothing.
-use Rattle.std.proofs.Common.{◌≡◌, ℕ, Bool, true, false, cond, [], ◌∷◌, refl, sym, ap, subst}
+use Rattle.std.proofs.Common.{◌≡◌, ℕ, Bool, true, false, cond, [], ◌∷◌, refl, ap, arith}
 use Rattle.std.specs.Prelude.{Option, Some, None, unwrap_or, length}
 use Rattle.base.specs.declared.key.Key.{Key}
 use Rattle.base.specs.declared.step.Step.{Step}
@@ -7,7 +7,7 @@ use Rattle.base.specs.declared.step.Step.TheVariants.{Begin, Get, Scan, Put, Del
 use Rattle.base.specs.declared.step.Reply.{Reply}
 use Rattle.base.specs.Commits.{Writes, with_write}
 use Rattle.base.specs.Lists.{replaced}
-use Rattle.machine.specs.Machine.{State, Session, Active, WroteNothing, Stepped, refused, answered, memory_refused, device_failed, free_session, writes_of, begun_of, is_own_at, is_held_by, held_after_delete, held_after_abort, state_drawn, next_state, operates}
+use Rattle.machine.specs.Machine.{State, Session, Active, WroteNothing, Stepped, free_session, writes_of, begun_of, is_own_at, is_held_by, held_after_delete, held_after_abort, state_drawn, next_state, operates}
 use Rattle.pmem.specs.Device.{Device}
 use Rattle.pmem.specs.Words.{value_of}
 use Rattle.pmem.proofs.Images.{leaves_refl}
@@ -73,53 +73,16 @@ module _ (o : Origin) (q : State) (device : Device) (u : Upholds o q device) whe
   next-leads Collect quiet keeps shows links = absurd (cc quiet)
 
 stores-none : (step : Step) → is_quiet step ≡ true → stores step ≡ false
-stores-none Begin quiet = refl
-stores-none (Get n key) quiet = refl
-stores-none (Scan n table lo hi) quiet = refl
-stores-none (Put n key row) quiet = absurd (cc quiet)
-stores-none (Delete n key) quiet = refl
-stores-none (Draw n) quiet = refl
-stores-none (Stamp n) quiet = absurd (cc quiet)
-stores-none (Poll n) quiet = refl
-stores-none (Abort n) quiet = refl
-stores-none (End n) quiet = refl
-stores-none CommitTick quiet = refl
-stores-none Collect quiet = absurd (cc quiet)
+stores-none a quiet = grind (arith)
 
 fills-none : (step : Step) → is_quiet step ≡ true → fills step ≡ false
-fills-none Begin quiet = refl
-fills-none (Get n key) quiet = refl
-fills-none (Scan n table lo hi) quiet = refl
-fills-none (Put n key row) quiet = absurd (cc quiet)
-fills-none (Delete n key) quiet = refl
-fills-none (Draw n) quiet = refl
-fills-none (Stamp n) quiet = refl
-fills-none (Poll n) quiet = refl
-fills-none (Abort n) quiet = refl
-fills-none (End n) quiet = refl
-fills-none CommitTick quiet = refl
-fills-none Collect quiet = refl
+fills-none a quiet = grind (arith)
 
 operates-none : (q : State) (step : Step) → is_quiet step ≡ true → operates q step ≡ true → ⊥
-operates-none q Begin quiet is = cc is
-operates-none q (Get n key) quiet is = cc is
-operates-none q (Scan n table lo hi) quiet is = cc is
-operates-none q (Put n key row) quiet is = cc quiet
-operates-none q (Delete n key) quiet is = cc is
-operates-none q (Draw n) quiet is = cc is
-operates-none q (Stamp n) quiet is = cc quiet
-operates-none q (Poll n) quiet is = cc is
-operates-none q (Abort n) quiet is = cc is
-operates-none q (End n) quiet is = cc is
-operates-none q CommitTick quiet is = cc quiet
-operates-none q Collect quiet is = cc quiet
+operates-none q a quiet is = grind (arith)
 
 quiet-upholds : (o : Origin) (q : State) (step : Step) (reply : Reply) (q' : State) (device : Device) → is_quiet step ≡ true → Stepped q step reply q' → Upholds o q device → Keeps o q' → SlotsShow o q' (value_of device) → Links o q' (value_of device) → Upholds o q' device
-quiet-upholds o q step reply q' device quiet (refused fault is told same) u keeps shows links = subst (λ (p : State). Upholds o p device) (sym same) u
-quiet-upholds o q step reply q' device quiet (answered none answer same) u keeps shows links =
-    subst (λ (p : State). Upholds o p device) (sym same) (next-leads o q device u step quiet (subst (Keeps o) same keeps) (subst (λ (p : State). SlotsShow o p (value_of device)) same shows) (subst (λ (p : State). Links o p (value_of device)) same links))
-quiet-upholds o q step reply q' device quiet (memory_refused none takes told same) u keeps shows links = subst (λ (p : State). Upholds o p device) (sym same) u
-quiet-upholds o q step reply q' device quiet (device_failed none makes told same) u keeps shows links = absurd (operates-none q step quiet makes)
+quiet-upholds o q step reply q' device quiet a u keeps shows links = grind (arith, next-leads, operates-none)
 
 pub quiet-steps-lead : QuietStepsLead
 quiet-steps-lead o q step reply q' device orderly quiet stepped u = record {

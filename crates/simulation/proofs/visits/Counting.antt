@@ -1,5 +1,5 @@
 -- How many operations a visit makes.
-use Rattle.std.proofs.Common.{◌≡◌, ℕ, ◌+◌, ◌/◌, ◌<◌, ◌≤◌, Bool, true, false, cond, List, [], ◌∷◌, ◌++◌, length, refl, arith}
+use Rattle.std.proofs.Common.{◌≡◌, ℕ, ◌+◌, ◌/◌, ◌<◌, ◌≤◌, Bool, true, cond, List, [], ◌∷◌, ◌++◌, length, arith}
 use Rattle.base.specs.Actors.{collector}
 use Rattle.base.specs.Layout.{slot_start}
 use Rattle.base.specs.Records.{is_in}
@@ -23,27 +23,13 @@ module _ (q : State) (value : ℕ → ℕ) where
   ops_by sweeping at_slot begins ends = cond at_slot (cond sweeping (zeroes begin begins ++ zeroes (begin + 1) ends ++ flush_op collector (begin / 8) ∷ []) []) (cond sweeping (fence_op collector ∷ []) [])
 
   succeeds : (sweeping at_slot begins ends : Bool) → all_succeed (ops_by sweeping at_slot begins ends) ≡ true
-  succeeds false false begins ends = refl
-  succeeds false true begins ends = refl
-  succeeds true false begins ends = refl
-  succeeds true true false false = refl
-  succeeds true true false true = refl
-  succeeds true true true false = refl
-  succeeds true true true true = refl
+  succeeds a b begins ends = grind (arith)
 
   few : (sweeping at_slot begins ends : Bool) → length (ops_by sweeping at_slot begins ends) ≤ cond sweeping (cond at_slot 3 1) 0
-  few false false begins ends = omega arith
-  few false true begins ends = omega arith
-  few true false begins ends = omega arith
-  few true true false false = omega arith
-  few true true false true = omega arith
-  few true true true false = omega arith
-  few true true true true = omega arith
+  few a b begins ends = grind (arith)
 
   sweeps : (sweeping at_slot begins ends : Bool) → 0 < length (ops_by sweeping at_slot begins ends) → sweeping ≡ true
-  sweeps true at_slot begins ends some = refl
-  sweeps false false begins ends some = absurd (omega (arith, some))
-  sweeps false true begins ends some = absurd (omega (arith, some))
+  sweeps a at_slot begins ends some = grind (arith)
 
   abbrev begins : Bool
   begins = is_in q.ruling.gaps (value begin)

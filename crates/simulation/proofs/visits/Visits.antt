@@ -1,6 +1,6 @@
 -- Where a visit leads.
 use Rattle.std.proofs.Common.{◌≡◌, ◌≢◌, ◌⊎◌, inl, inr, ℕ, suc, zero, ◌+◌, ◌/◌, ◌<◌, ◌≤◌, Bool, true, false, cond, not, List, [], ◌∷◌, ◌++◌, take, refl, sym, ◌∙◌, ap, subst, arith, true≢false}
-use Rattle.std.specs.Prelude.{Option, Some, None}
+use Rattle.std.specs.Prelude.{Option}
 use Rattle.std.proofs.lemmas.Bool.{cases_eq, and_parts, ltb-true, ltb-false, not-true}
 use Rattle.base.specs.declared.gap.Gap.{Gap}
 use Rattle.base.specs.Actors.{collector}
@@ -105,9 +105,7 @@ module _ (o : Origin) (q : State) (device : Device) (u : Upholds o q device) whe
 
 -- the device is as long as the layout says
 hand-size : (q : State) (device : Device) (hand : Option Hand) → HoldsHand q device hand → device.words ≡ total_words q.layout
-hand-size q device None holds = holds.stands.size
-hand-size q device (Some hand) (inl f) = f.follows.holds.stands.size
-hand-size q device (Some hand) (inr r) = r.replaces.stands.size
+hand-size q device a holds = grind (arith)
 
 -- each begin and each end has a survivor, its value
 pub value-survives : (o : Origin) (q : State) (device : Device) → Upholds o q device → IsOrderly device → (slot w : ℕ) → slot < q.layout.slots → w < 2 → Survives device (word_of q.layout slot w) (value_of device (word_of q.layout slot w))
@@ -150,20 +148,10 @@ module _ (o : Origin) (q : State) (up : q.failed ≡ false) (unswept : q.swept �
 
   -- the word then lies in no gap, and the other one has its value
   zeroes-out : (w : ℕ) (device : Device) → is_in q.ruling.gaps 0 ≡ false → value_of device (word_of q.layout slot w) ≡ value (word_of q.layout slot w) → is_in q.ruling.gaps (value_of (after (zeroes w) device) (word_of q.layout slot w)) ≡ false
-  zeroes-out w device none same = by (is_in q.ruling.gaps (value (word_of q.layout slot w))) refl
-    where
-      by : (b : Bool) → is_in q.ruling.gaps (value (word_of q.layout slot w)) ≡ b → is_in q.ruling.gaps (value_of (after (zeroes w) device) (word_of q.layout slot w)) ≡ false
-      by true gap =
-          ap (λ (ops : List Operation). is_in q.ruling.gaps (value_of (after ops device) (word_of q.layout slot w))) (zeroes-by w true gap)
-          ∙ ap (is_in q.ruling.gaps) (value-stored_same (word_of q.layout slot w) 0 device) ∙ none
-      by false out = ap (λ (ops : List Operation). is_in q.ruling.gaps (value_of (after ops device) (word_of q.layout slot w))) (zeroes-by w false out) ∙ ap (is_in q.ruling.gaps) same ∙ out
+  zeroes-out w device none same = grind (arith, zeroes-by, value-stored_same)
 
   zeroes-other : (w v : ℕ) (device : Device) → v ≢ w → value_of (after (zeroes w) device) (word_of q.layout slot v) ≡ value_of device (word_of q.layout slot v)
-  zeroes-other w v device apart = by (is_in q.ruling.gaps (value (word_of q.layout slot w))) refl
-    where
-      by : (b : Bool) → is_in q.ruling.gaps (value (word_of q.layout slot w)) ≡ b → value_of (after (zeroes w) device) (word_of q.layout slot v) ≡ value_of device (word_of q.layout slot v)
-      by true gap = ap (λ (ops : List Operation). value_of (after ops device) (word_of q.layout slot v)) (zeroes-by w true gap) ∙ value-stored_other (word_of q.layout slot w) 0 device (word_of q.layout slot v) (words-apart_within q.layout slot v w apart)
-      by false out = ap (λ (ops : List Operation). value_of (after ops device) (word_of q.layout slot v)) (zeroes-by w false out)
+  zeroes-other w v device apart = grind (arith, zeroes-by, value-stored_other, words-apart_within)
 
   module _ (old : Device) (start : IsZeroing o q slot old) (same : (w : ℕ) → w < 2 → value_of old (word_of q.layout slot w) ≡ value (word_of q.layout slot w)) where
     abbrev one : Device

@@ -1,6 +1,6 @@
 -- Slots are freed, the collector goes on, and a sweep ends, while the device does nothing.
-use Rattle.std.proofs.Common.{◌≡◌, inl, inr, ℕ, ◌<◌, Bool, true, arith}
-use Rattle.std.specs.Prelude.{Option, Some, None}
+use Rattle.std.proofs.Common.{◌≡◌, ℕ, ◌<◌, Bool, true, arith}
+use Rattle.std.specs.Prelude.{Option}
 use Rattle.machine.specs.Machine.{State, Hand, Version}
 use Rattle.pmem.specs.Device.{Device}
 use Rattle.pmem.specs.Words.{value_of}
@@ -39,9 +39,7 @@ module _ (o : Origin) (q : State) (device : Device) (held : ℕ → Option Versi
   slot-moved slot h = grind (arith) steps 800000
 
   hand-moved : (hand : Option Hand) → HoldsHand half device hand → HoldsHand then device hand
-  hand-moved None holds = holds
-  hand-moved (Some hand) (inl f) = inl record { chosen = f.chosen; within = f.within; follows = f.follows; ready = f.ready }
-  hand-moved (Some hand) (inr r) = inr record { stage = r.stage; staged = r.staged; under_way = r.under_way; ticks = r.ticks; replaces = r.replaces; settled = record { own = r.settled.own; ended = r.settled.ended } }
+  hand-moved a holds = grind (arith)
 
   pub upholds-moved : ((slot w : ℕ) → slot < q.layout.slots → w < 2 → IsNever o q (value_of device (word_of q.layout slot w)) → IsNever o then (value_of device (word_of q.layout slot w)))
       → IsSweeping then device → Upholds o then device

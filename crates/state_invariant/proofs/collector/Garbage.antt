@@ -8,7 +8,7 @@ use Rattle.base.specs.declared.key.Key.{Key}
 use Rattle.base.specs.Commits.{Commit, after, last_writer}
 use Rattle.base.specs.Records.{is_committed}
 use Rattle.base.specs.Stands.{has_timestamp}
-use Rattle.machine.specs.Machine.{most_sessions, State, Session, Active, Drew, WroteNothing, Drawn, Version, Writer, BySession, ByCommit, drawn_at, session_numbers}
+use Rattle.machine.specs.Machine.{most_sessions, State, Active, Drawn, Version, Writer, BySession, ByCommit, drawn_at, session_numbers}
 use Rattle.machine.specs.Collecting.{is_replaced_by, replace, sees_replaced, is_garbage}
 use Rattle.state_invariant.specs.Kept.{Origin, Keeps, IsInUse, wanted, version_by}
 use Rattle.state_invariant.specs.Shown.{word_of, counts_at, Newest, Replaced, IsWaiting, IsNewest, IsReplaced, ShowsAs, SlotShows, class_of_version, class_of_drawn, is_key_stamped, Begun, Waiting}
@@ -22,12 +22,7 @@ use Rattle.state_invariant.proofs.Places.{all-placed, front-fact}
 
 pub range-all : (p : ℕ → Bool) (from many k : ℕ) → list_all p (range_with_len from many) ≡ true → from ≤ k → k < from + many → p k ≡ true
 range-all p from zero k all low high = absurd (omega (arith, low, high))
-range-all p from (suc many) k all low high =
-    let both = and_parts (p from) (list_all p (range_with_len (from + 1) many)) all in
-    elim (cases_eq from k) [
-      | inl same ↦ ap p (sym same) ∙ both.0
-      | inr apart ↦ range-all p (from + 1) many k both.1 (omega (arith, low, apart)) (omega (arith, high))
-    ]
+range-all p from (suc many) k all low high = grind (arith, and_parts, cases_eq, range-all p (from + 1) many k)
 
 pub all-each : {X : Type 0} (p : X → Bool) (xs : List X) → ((x : X) → p x ≡ true) → list_all p xs ≡ true
 all-each p [] each = refl
@@ -37,10 +32,7 @@ has-more : (cs : List Commit) (m n t : ℕ) → m ≤ n → has_timestamp (take 
 has-more cs zero n t le has = grind (arith, false≢true)
 has-more [] (suc m) n t le has = absurd (false≢true has)
 has-more (c ∷ cs) (suc m) zero t le has = absurd (omega (arith, le))
-has-more (c ∷ cs) (suc m) (suc n) t le has = elim (or_cases (nat_eq c.timestamp t) (has_timestamp (take m cs) t) has) [
-  | inl here ↦ or_left (nat_eq c.timestamp t) (has_timestamp (take n cs) t) here
-  | inr later ↦ or_right (nat_eq c.timestamp t) (has_timestamp (take n cs) t) (has-more cs m n t (omega (arith, le)) later)
-]
+has-more (c ∷ cs) (suc m) (suc n) t le has = grind (arith, or_cases, or_left, or_right, has-more cs m n t)
 
 -- where a row is there, the last commit on its key is among the commits
 has-last : (cs : List Commit) (key : Key) (row : List ℕ) → after cs key ≡ Some row → has_timestamp cs (last_writer cs key) ≡ true
@@ -57,9 +49,7 @@ pub record IsGarbage (q : State) (slot : ℕ) : Type 0 where
   pub later : (n : ℕ) → IsInUse q n → last_writer (take n q.history) key ≢ timestamp
 
 replaced-parts : (cs : List Commit) (key : Key) (t : ℕ) → replace cs (Some (version_by key (ByCommit t))) ≡ true → (has_timestamp cs t ≡ true) × (last_writer cs key ≢ t)
-replaced-parts cs key t is =
-    let both = and_parts (has_timestamp cs t) (not (nat_eq (last_writer cs key) t)) is in
-    (both.0, λ same. false≢true (ap not (sym (eq-eqb (last_writer cs key) t same)) ∙ both.1))
+replaced-parts cs key t is = grind (arith, and_parts, false≢true, eq-eqb)
 
 replaced-from : (cs : List Commit) (key : Key) (t : ℕ) → has_timestamp cs t ≡ true → last_writer cs key ≢ t → replace cs (Some (version_by key (ByCommit t))) ≡ true
 replaced-from cs key t among later = and_from (has_timestamp cs t) (not (nat_eq (last_writer cs key) t)) among (ap not (ne_eqb (last_writer cs key) t later))
@@ -94,19 +84,7 @@ garbage-is o q slot kept is =
     by (Some v) held first each = by_writer v v.writer refl held first each
 
 pub is-garbage : (q : State) (slot : ℕ) → IsGarbage q slot → is_garbage q slot ≡ true
-is-garbage q slot g =
-    and_from (replace q.history (q.held slot)) (list_all (λ n. sees_replaced q.history (q.held slot) (q.sessions n)) session_numbers)
-    (ap (replace q.history) g.held ∙ ap (λ (cs : List Commit). replace cs (Some (version_by g.key (ByCommit g.timestamp)))) (sym (whole q)) ∙ at (length q.history) (inl refl))
-    (all-each (λ n. sees_replaced q.history (q.held slot) (q.sessions n)) session_numbers (λ n. ap (λ (x : Option Version). sees_replaced q.history x (q.sessions n)) g.held ∙ seen n (q.sessions n) refl))
-  where
-    at : (n : ℕ) → IsInUse q n → replace (take n q.history) (Some (version_by g.key (ByCommit g.timestamp))) ≡ true
-    at n in_use = replaced-from (take n q.history) g.key g.timestamp (g.among n in_use) (g.later n in_use)
-
-    seen : (n : ℕ) (s : Option Session) → q.sessions n ≡ s → sees_replaced q.history (Some (version_by g.key (ByCommit g.timestamp))) s ≡ true
-    seen n None is = refl
-    seen n (Some (Active begun writes)) is = at begun (inr (n, writes, is))
-    seen n (Some (Drew t)) is = refl
-    seen n (Some WroteNothing) is = refl
+is-garbage q slot g = grind (arith, and_from, whole q, all-each, replaced-from)
 
 -- ---- what a garbage version is to the state
 

@@ -38,8 +38,7 @@ module _ (o : Origin) (q : State) (kept : Keeps o q) (held : ℕ → Option Vers
   -- ---- what is kept
 
   gaps-stand : {gaps other : List Gap} → (gaps ≡ other) ⊎ ((q.swept ≡ true) × (gaps ≡ [])) → (gaps ≡ other) ⊎ ((swept ≡ true) × (gaps ≡ []))
-  gaps-stand (inl same) = inl same
-  gaps-stand (inr (over, none)) = inr (still over, none)
+  gaps-stand a = grind (arith)
 
   hand-then : (hand : Hand) → KeepsHand q hand → KeepsHand then hand
   hand-then hand k = record { extends = k.extends; persisted = k.persisted; window = k.window; gaps = gaps-stand k.gaps; longs = k.longs; drawn = k.drawn }
@@ -58,9 +57,7 @@ module _ (o : Origin) (q : State) (kept : Keeps o q) (held : ℕ → Option Vers
   same-commit slot g key t at = grind (arith, same-version)
 
   of-session : (slot n : ℕ) (key : Key) → IsGarbage q slot → q.held slot ≡ Some (version_by key (BySession n)) → ⊥
-  of-session slot n key g at =
-      let writers : ByCommit g.timestamp ≡ BySession n = ap (λ (v : Version). v.writer) (same-version slot g (version_by key (BySession n)) at) in
-      cc writers
+  of-session slot n key g at = grind (arith, same-version)
 
   of-drawn : (slot t : ℕ) (key : Key) (d : Drawn) → drawn_at q t ≡ Some d → IsGarbage q slot → q.held slot ≡ Some (version_by key (ByCommit t)) → ⊥
   of-drawn slot t key d found g at =

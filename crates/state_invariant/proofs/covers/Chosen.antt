@@ -4,6 +4,7 @@ use Rattle.std.specs.Prelude.{nat_eq, nat_lt, nat_le, max}
 use Rattle.std.specs.List.{list_any, list_all}
 use Rattle.std.specs.Option.{option_map}
 use Rattle.std.proofs.lemmas.Bool.{cases_eq, cases_lt, eq-eqb, eqb-true, ne_eqb, and_parts, and_from, ltb-true, lt-ltb, leb-true, le-leb, or_cases, or_left, or_right, false_from_ne_true, not-true}
+use Rattle.std.proofs.lemmas.Bool.Decides.{nat_tests}
 use Rattle.base.specs.Commits.{Commit}
 use Rattle.base.specs.Layout.{most_longs}
 use Rattle.base.specs.declared.gap.Gap.{Gap}
@@ -28,11 +29,7 @@ max-least p (t ∷ ts) = omega (arith, max-least (max p t) ts)
 
 pub max-has : (p t : ℕ) (ts : List ℕ) → list_any (nat_le t) ts ≡ true → t ≤ fold max p ts
 max-has p t [] any = absurd (cc any)
-max-has p t (u ∷ ts) any =
-    elim (or_cases (nat_le t u) (list_any (nat_le t) ts) any) [
-      | inl here ↦ omega (arith, leb-true t u here, max-least (max p u) ts)
-      | inr later ↦ max-has (max p u) t ts later
-    ]
+max-has p t (u ∷ ts) any = grind (arith, or_cases, leb-true, max-least, max-has (max p u) t ts)
 
 -- ---- rising lists of drawn commits
 
@@ -51,9 +48,7 @@ above-each x ds u d rising found =
 
 -- what is found among the rest is found in the whole
 pub found-later : (x : Drawn) (ds : List Drawn) (u : ℕ) (d : Drawn) → are_rising (map time_of (x ∷ ds)) ≡ true → find (λ (d : Drawn). nat_eq d.commit.timestamp u) ds ≡ Some d → find (λ (d : Drawn). nat_eq d.commit.timestamp u) (x ∷ ds) ≡ Some d
-found-later x ds u d rising found =
-    let a = above-each x ds u d rising found in
-    ap (λ (b : Bool). cond b (Some x) (find (λ (d : Drawn). nat_eq d.commit.timestamp u) ds)) (ne_eqb (time_of x) u (λ e. omega (arith, e, a.0))) ∙ found
+found-later x ds u d rising found = grind (arith, above-each, rising, ne_eqb)
 
 -- some that passes is found by its timestamp
 pub any-by_timestamp : (r : Drawn → Bool) (ds : List Drawn) → are_rising (map time_of ds) ≡ true → list_any r ds ≡ true → (d : Drawn) × (find (λ (e : Drawn). nat_eq e.commit.timestamp (time_of d)) ds ≡ Some d) × (r d ≡ true)
@@ -81,15 +76,7 @@ found-unfiltered f (x ∷ ds) u d rising found = grind (arith, found-unfiltered 
 -- a filter keeps what passes it
 kept-by_filter : (f : Drawn → Bool) (ds : List Drawn) (u : ℕ) (d : Drawn) → find (λ (e : Drawn). nat_eq e.commit.timestamp u) ds ≡ Some d → f d ≡ true → list_any (λ e. nat_eq e.commit.timestamp u) (filter f ds) ≡ true
 kept-by_filter f [] u d found passes = absurd (cc found)
-kept-by_filter f (x ∷ ds) u d found passes = by (f x) refl (nat_eq (time_of x) u) refl found (λ rest. kept-by_filter f ds u d rest passes)
-  where
-    by : (a : Bool) → f x ≡ a → (b : Bool) → nat_eq (time_of x) u ≡ b → cond b (Some x) (find (λ (e : Drawn). nat_eq e.commit.timestamp u) ds) ≡ Some d
-        → (find (λ (e : Drawn). nat_eq e.commit.timestamp u) ds ≡ Some d → list_any (λ e. nat_eq e.commit.timestamp u) (filter f ds) ≡ true)
-        → list_any (λ e. nat_eq e.commit.timestamp u) (cond a (x ∷ filter f ds) (filter f ds)) ≡ true
-    by true keeps true is found rest = or_left (nat_eq (time_of x) u) (list_any (λ (e : Drawn). nat_eq e.commit.timestamp u) (filter f ds)) is
-    by true keeps false is found rest = or_right (nat_eq (time_of x) u) (list_any (λ (e : Drawn). nat_eq e.commit.timestamp u) (filter f ds)) (rest found)
-    by false drops true is found rest = let same : x ≡ d = cc found in absurd (true≢false (sym passes ∙ ap f (sym same) ∙ drops))
-    by false drops false is found rest = rest found
+kept-by_filter f (x ∷ ds) u d found passes = grind (arith, kept-by_filter f ds u d, or_left, or_right)
 
 filter-none : {X : Type 0} (p : X → Bool) (xs : List X) → list_all (λ x. not (p x)) xs ≡ true → filter p xs ≡ []
 filter-none p [] all = refl
@@ -176,15 +163,7 @@ length-filtered p n (d ∷ ds) = grind (arith, length-filtered p (n + cond (p d)
 -- where what passes one passes the other, it has no more
 pub fewer-filtered : (p r : Drawn → Bool) (ds : List Drawn) → list_all (λ d. not (p d) || r d) ds ≡ true → length (filter p ds) ≤ length (filter r ds)
 fewer-filtered p r [] all = omega arith
-fewer-filtered p r (d ∷ ds) all =
-    let both = and_parts (not (p d) || r d) (list_all (λ d. not (p d) || r d) ds) all in
-    by (p d) (r d) both.0 (fewer-filtered p r ds both.1)
-  where
-    by : (a b : Bool) → (not a || b) ≡ true → length (filter p ds) ≤ length (filter r ds) → length (cond a (d ∷ filter p ds) (filter p ds)) ≤ length (cond b (d ∷ filter r ds) (filter r ds))
-    by true true e le = omega (arith, le)
-    by true false e le = cc e
-    by false true e le = omega (arith, le)
-    by false false e le = le
+fewer-filtered p r (d ∷ ds) all = grind (arith, and_parts, fewer-filtered p r ds)
 
 -- the greatest is the first number or stands in the list
 pub max-is : (p : ℕ) (ts : List ℕ) → (fold max p ts ≡ p) ⊎ (list_any (nat_eq (fold max p ts)) ts ≡ true)
@@ -347,12 +326,10 @@ module _ (o : Origin) (q : State) (kept : Keeps o q) where
   -- ---- the record
 
   gaps-of : (b : Bool) → q.swept ≡ b → (cond b [] q.ruling.gaps ≡ q.ruling.gaps) ⊎ ((q.swept ≡ true) × (cond b [] q.ruling.gaps ≡ []))
-  gaps-of true is = inr (is, refl)
-  gaps-of false is = inl refl
+  gaps-of a is = grind (arith)
 
   out-of_gaps : (t : ℕ) (b : Bool) → is_in q.ruling.gaps t ≡ false → is_in (cond b [] q.ruling.gaps) t ≡ false
-  out-of_gaps t true out = refl
-  out-of_gaps t false out = out
+  out-of_gaps t a out = grind (arith)
 
   has-window : 0 < q.layout.window
   has-window = has_window q.layout kept.numbers.layout
@@ -361,18 +338,7 @@ module _ (o : Origin) (q : State) (kept : Keeps o q) where
   with-longs : (version gate persisted dirty : ℕ) (gaps : List Gap) (longs : List ℕ) → is_well_formed version (record { gate = gate; persisted = persisted; dirty = dirty; gaps = gaps; longs = [] }) ≡ true
       → length longs ≤ most_longs version → list_all (λ t. nat_le 1 t && nat_le t persisted && not (is_in gaps t)) longs ≡ true → are_rising longs ≡ true
       → is_well_formed version (record { gate = gate; persisted = persisted; dirty = dirty; gaps = gaps; longs = longs }) ≡ true
-  with-longs version gate persisted dirty gaps longs formed few each up =
-      let was = well_formed-parts version (record { gate = gate; persisted = persisted; dirty = dirty; gaps = gaps; longs = [] }) formed in
-      well_formed-from version (record { gate = gate; persisted = persisted; dirty = dirty; gaps = gaps; longs = longs }) (record {
-        below = was.below;
-        limit = was.limit;
-        few = was.few;
-        fewer = few;
-        each = was.each;
-        apart = was.apart;
-        within = each;
-        rising = up;
-      })
+  with-longs version gate persisted dirty gaps longs formed few each up = grind (arith, well_formed-parts, well_formed-from, apart, rising, nat_tests)
 
   formed-target : is_well_formed q.layout.version (target_of q) ≡ true
   formed-target = with-longs q.layout.version (q.ruling.gate + 1) (reach q) (q.next + q.layout.window) (standing_gaps q) (passed_over q) (by q.swept) passed-few (each passed-each) passed-rising

@@ -124,8 +124,7 @@ module _ (o : Origin) (q : State) (hand : Hand) (value : ℕ → ℕ) (up : q.fa
       ∙ commit_at-drawn q t ∙ ap (λ (x : Option Drawn). option_map (λ (d : Drawn). d.commit) x) found
 
   row-there : (w : Option (Option (List ℕ))) (row : List ℕ) → unwrap_or w None ≡ Some row → is_some w ≡ true
-  row-there None row e = absurd (cc e)
-  row-there (Some x) row e = refl
+  row-there a row e = grind (arith)
 
 module _ (o : Origin) (q : State) (hand : Hand) (value : ℕ → ℕ) (up : q.failed ≡ false) (kept : Keeps o q) (k : KeepsHand q hand) (slot t : ℕ) (v : Version) (lt : slot < q.layout.slots) (held : q.held slot ≡ Some v) (by : v.writer ≡ ByCommit t) where
   abbrev after_it : State
@@ -236,9 +235,7 @@ module _ (o : Origin) (q : State) (hand : Hand) (value : ℕ → ℕ) (up : q.fa
 
   shows-undrawn : drawn_at q t ≡ None → has_timestamp hand.commits t ≡ false → (b : Bool) → nat_eq (last_writer q.history v.key) t ≡ b → ShowsAs o q value slot (cond b (Newest t v.key row) (Replaced t v.key row))
       → (c : Bool) → list_any (writes_key v.key) hand.commits ≡ c → ShowsAs o after_it value slot (cond (nat_eq (last_writer after_it.history v.key) t) (Newest t v.key row) (Replaced t v.key row))
-  shows-undrawn undrawn out true newest shows false none =
-      let last : last_writer after_it.history v.key ≡ t = last-covered o q hand value up kept k v.key ∙ writer-none v.key (last_writer q.history v.key) hand.commits none ∙ eqb-true (last_writer q.history v.key) t newest in
-      subst (λ (b : Bool). ShowsAs o after_it value slot (cond b (Newest t v.key row) (Replaced t v.key row))) (sym (eq-eqb (last_writer after_it.history v.key) t last)) (newest-stays none shows)
+  shows-undrawn undrawn out true newest shows false none = grind (arith, last-covered, writer-none, eqb-true, eq-eqb, newest-stays)
   shows-undrawn undrawn out true newest shows true some =
       let c = any-place (writes_key v.key) hand.commits some in
       let d = one-of_batch o q hand value up kept k c.0 c.1 c.2 in

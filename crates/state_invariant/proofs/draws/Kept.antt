@@ -44,16 +44,12 @@ found-old q writes t apart = grind (arith, find-append, ne_eqb, option_or-none)
 
 turned : (n t : ℕ) (k : Key) (x : Writer) (w : Version) → Some (version_by k (cond (is_by n x) (ByCommit t) x)) ≡ Some w
     → ((Some (version_by k x) ≡ Some (version_by w.key (BySession n))) × (w.writer ≡ ByCommit t)) ⊎ ((Some (version_by k x) ≡ Some w) × (is_by n w.writer ≡ false))
-turned n t k (BySession m) w e = grind (arith, eqb-true)
-turned n t k (ByCommit u) w e =
-    let same : version_by k (ByCommit u) ≡ w = cc e in
-    inr (e, ap (λ (v : Version). is_by n v.writer) (sym same))
+turned n t k a w e = grind (arith, eqb-true)
 
 -- what holds a slot after it was its session's, or held it before
 pub held-drawn : (n t : ℕ) (o : Option Version) (w : Version) → by_commit n t o ≡ Some w
     → ((o ≡ Some (version_by w.key (BySession n))) × (w.writer ≡ ByCommit t)) ⊎ ((o ≡ Some w) × (is_by n w.writer ≡ false))
-held-drawn n t None w e = absurd (cc e)
-held-drawn n t (Some v) w e = turned n t v.key v.writer w e
+held-drawn n t a w e = grind (arith, turned)
 
 pub held-stays : (n t : ℕ) (o : Option Version) (w : Version) → o ≡ Some w → is_by n w.writer ≡ false → by_commit n t o ≡ Some w
 held-stays n t o w e other = ap (by_commit n t) e ∙ ap (λ (b : Bool). Some (version_by w.key (cond b (ByCommit t) w.writer))) other

@@ -1,5 +1,5 @@
 -- What the slots show after a put, and after one that the device stopped midway.
-use Rattle.std.proofs.Common.{◌≡◌, ◌≢◌, ◌⊎◌, inl, inr, ℕ, ◌<◌, true, List, [], refl, sym, ◌∙◌, ap, subst, arith, Option, Some, None, true≢false}
+use Rattle.std.proofs.Common.{◌≡◌, ◌≢◌, ◌⊎◌, inl, inr, ℕ, ◌<◌, true, List, refl, sym, ◌∙◌, ap, subst, arith, Option, Some, None, true≢false}
 use Rattle.std.specs.Prelude.{unwrap_or, IsTrue}
 use Rattle.std.proofs.lemmas.Bool.{cases_eq}
 use Rattle.base.specs.declared.key.Key.{Key}
@@ -66,9 +66,7 @@ module _ (o : Origin) (q : State) (n : ℕ) (key : Key) (row : List ℕ) (kept :
       (λ same one. not-own s lt_s apart (at ∙ ap (λ (w : Writer). Some (version_by v.key w)) by ∙ ap (λ (j : ℕ). Some (version_by v.key (BySession j))) same ∙ ap (λ (k : Key). Some (version_by k (BySession n))) one)))))
 
   class-own : class_of o put slot ≡ Waiting key row
-  class-own =
-      ap (class_of_version o put) held
-      ∙ ap (λ (x : Option (Option (List ℕ))). Waiting key (unwrap_or (unwrap_or x None) [])) (lookup-here q n key (Some row) n key refl refl)
+  class-own = grind (arith, lookup-here)
 
   carries-put : Carries o q put
   carries-put =
@@ -90,8 +88,7 @@ module _ (o : Origin) (q : State) (n : ℕ) (key : Key) (row : List ℕ) (kept :
 
   -- what the slot was that the put takes: free, or the session's own
   class-before : (x : Option Version) → q.held slot ≡ x → (class_of_version o q x ≡ Free) ⊎ ((k : Key) × (r : List ℕ) × (class_of_version o q x ≡ Waiting k r))
-  class-before None at = inl refl
-  class-before (Some v) at = grind (arith, cases_eq, free_slot-some, replaced-other)
+  class-before a at = grind (arith, cases_eq, free_slot-some, replaced-other)
 
   -- where the device stops it, the slot's begin is 0 already, or its words are as they were
   shows-stopped_put : (value new : ℕ → ℕ) → StopsPut q.layout value new slot → SlotsShow o q value → SlotsShow o (record q { failed = true }) new

@@ -54,8 +54,7 @@ module _ (o : Origin) (q : State) (kept : Keeps o q) where
   zero-out = zero-gaps q.layout.version o.ruling kept.numbers.origin.formed
 
   out-never : (t : ℕ) → IsNever o q t → IsOutOfSwept o q t
-  out-never t (inl none) swept = ap (is_in o.ruling.gaps) none ∙ zero-out
-  out-never t (inr (unswept, inside)) swept = absurd (true≢false (sym swept ∙ unswept))
+  out-never t a swept = grind (arith, zero-out)
 
   -- ---- a slot
 

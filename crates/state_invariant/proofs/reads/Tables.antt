@@ -89,8 +89,7 @@ module _ (o : Origin) (q : State) (kept : Keeps o q) where
   -- ---- a covered version starts with its commit, or with the opening
 
   row-of : (w : Option (Option (List ℕ))) (row : List ℕ) → unwrap_or w None ≡ Some row → w ≡ Some (Some row)
-  row-of None row e = absurd (cc e)
-  row-of (Some v) row e = ap (λ (x : Option (List ℕ)). Some x) e
+  row-of a row e = grind (arith)
 
   started-by_commit : (key : Key) (row : List ℕ) (t begin place : ℕ) (c : Commit) → o.opened ≤ place → slice_get q.history place ≡ Some c → c.timestamp ≡ t → row_in c.writes key ≡ Some row → HasBegun o t begin
       → Started o q key row t begin

@@ -1,8 +1,9 @@
 -- One session changes, and with it what it holds.
-use Rattle.std.proofs.Common.{◌≡◌, ◌⊎◌, inl, inr, ℕ, ◌<◌, ◌≤◌, Bool, true, false, cond, ◌&&◌, List, [], ◌∷◌, map, length, refl, sym, ◌∙◌, ap, subst, Option, Some, None, arith}
+use Rattle.std.proofs.Common.{◌≡◌, ◌⊎◌, inl, inr, ℕ, ◌<◌, ◌≤◌, true, List, [], ◌∷◌, map, length, refl, sym, ◌∙◌, ap, Option, Some, None, arith}
 use Rattle.std.proofs.lemmas.Bool.{cases_eq, and_parts, and_from}
+use Rattle.std.proofs.lemmas.Bool.Decides.{nat_tests}
 use Rattle.base.specs.declared.key.Key.{Key}
-use Rattle.base.specs.Keys.{key_eq, key_lt, lookup_key, is_rising}
+use Rattle.base.specs.Keys.{key_lt, lookup_key, is_rising}
 use Rattle.base.specs.Commits.{Writes, with_write}
 use Rattle.base.specs.Stands.{has_timestamp}
 use Rattle.base.specs.Lists.{replaced}
@@ -113,23 +114,8 @@ keys_of writes = map (λ write. write.0) writes
 
 sorted-above : (a key : Key) (value : Option (List ℕ)) (writes : Writes) → key_lt a key ≡ true → is_rising (a ∷ keys_of writes) ≡ true → is_rising (a ∷ keys_of (with_write key value writes)) ≡ true
 sorted-above a key value [] less rising = and_from (key_lt a key) true less refl
-sorted-above a key value (write ∷ writes) less rising =
-    let both = and_parts (key_lt a write.0) (is_rising (write.0 ∷ keys_of writes)) rising in
-    by (key_eq key write.0) refl (key_lt key write.0) refl both.0 both.1 (λ above. sorted-above write.0 key value writes above both.1)
-  where
-    by : (e : Bool) → key_eq key write.0 ≡ e → (l : Bool) → key_lt key write.0 ≡ l → key_lt a write.0 ≡ true → is_rising (write.0 ∷ keys_of writes) ≡ true
-        → (key_lt write.0 key ≡ true → is_rising (write.0 ∷ keys_of (with_write key value writes)) ≡ true)
-        → is_rising (a ∷ keys_of (cond e ((key, value) ∷ writes) (cond l ((key, value) ∷ write ∷ writes) (write ∷ with_write key value writes)))) ≡ true
-    by true is l lt first rest go = subst (λ (k : Key). is_rising (a ∷ k ∷ keys_of writes) ≡ true) (sym (key_eq-true key write.0 is)) rising
-    by false is true lt first rest go = and_from (key_lt a key) (key_lt key write.0 && is_rising (write.0 ∷ keys_of writes)) less (and_from (key_lt key write.0) (is_rising (write.0 ∷ keys_of writes)) lt rest)
-    by false is false lt first rest go = and_from (key_lt a write.0) (is_rising (write.0 ∷ keys_of (with_write key value writes))) first (go (key_lt-swap key write.0 is lt))
+sorted-above a key value (write ∷ writes) less rising = grind (arith, and_parts, sorted-above write.0 key value writes, key_eq-true, and_from, key_lt-swap, nat_tests)
 
 pub sorted-with_write : (key : Key) (value : Option (List ℕ)) (writes : Writes) → is_rising (map (λ write. write.0) writes) ≡ true → is_rising (map (λ write. write.0) (with_write key value writes)) ≡ true
 sorted-with_write key value [] rising = refl
-sorted-with_write key value (write ∷ writes) rising = by (key_eq key write.0) refl (key_lt key write.0) refl
-  where
-    by : (e : Bool) → key_eq key write.0 ≡ e → (l : Bool) → key_lt key write.0 ≡ l
-        → is_rising (keys_of (cond e ((key, value) ∷ writes) (cond l ((key, value) ∷ write ∷ writes) (write ∷ with_write key value writes)))) ≡ true
-    by true is l lt = subst (λ (k : Key). is_rising (k ∷ keys_of writes) ≡ true) (sym (key_eq-true key write.0 is)) rising
-    by false is true lt = and_from (key_lt key write.0) (is_rising (write.0 ∷ keys_of writes)) lt rising
-    by false is false lt = sorted-above write.0 key value writes (key_lt-swap key write.0 is lt) rising
+sorted-with_write key value (write ∷ writes) rising = grind (arith, key_eq-true, and_from, sorted-above, key_lt-swap, nat_tests)

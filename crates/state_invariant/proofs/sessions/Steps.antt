@@ -20,25 +20,18 @@ use Rattle.state_invariant.proofs.sessions.Changes.{SessionKeeps, HeldKeeps, kee
 -- ---- versions
 
 pub version-parts : {k l : Key} {m n : ℕ} → version_by k (BySession m) ≡ version_by l (BySession n) → (m ≡ n) × (k ≡ l)
-version-parts {k} {l} {m} {n} e =
-    let writers : BySession m ≡ BySession n = ap (λ (v : Version). v.writer) e in
-    (cc writers, ap (λ (v : Version). v.key) e)
+version-parts {k} {l} {m} {n} e = grind (arith)
 
 pub apart-writers : {k l : Key} {t n : ℕ} → version_by k (BySession n) ≡ version_by l (ByCommit t) → ⊥
-apart-writers {k} {l} {t} {n} e =
-    let writers : BySession n ≡ ByCommit t = ap (λ (v : Version). v.writer) e in
-    cc writers
+apart-writers {k} {l} {t} {n} e = grind (arith)
 
 -- ---- slots that a session holds
 
 pub own-at : (n : ℕ) (key : Key) (o : Option Version) → is_own_at n key o ≡ true → o ≡ Some (version_by key (BySession n))
-own-at n key None own = absurd (cc own)
-own-at n key (Some v) own = grind (arith, and_parts, eqb-true, key_eq-true)
+own-at n key a own = grind (arith, and_parts, eqb-true, key_eq-true)
 
 pub own_slot-some : (q : State) (n : ℕ) (key : Key) (slot : ℕ) → own_slot q n key ≡ Some slot → (slot < q.layout.slots) × (q.held slot ≡ Some (version_by key (BySession n)))
-own_slot-some q n key slot found =
-    let at : (slot < q.layout.slots) × (is_own_at n key (q.held slot) ≡ true) = first_below-some q.layout.slots (λ s. is_own_at n key (q.held s)) slot found in
-    (at.0, own-at n key (q.held slot) at.1)
+own_slot-some q n key slot found = grind (arith, first_below-some, own-at)
 
 pub own_slot-none : (q : State) (n : ℕ) (key : Key) → own_slot q n key ≡ None → (slot : ℕ) → slot < q.layout.slots → q.held slot ≡ Some (version_by key (BySession n)) → ⊥
 own_slot-none q n key none slot lt own =

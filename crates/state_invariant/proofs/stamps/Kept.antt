@@ -1,5 +1,5 @@
 -- A stamp.
-use Rattle.std.proofs.Common.{◌||◌, ◌≡◌, ◌≢◌, ◌⊎◌, inl, inr, ℕ, ◌+◌, Bool, true, false, cond, not, ◌&&◌, List, [], ◌∷◌, ◌++◌, map, length, refl, sym, ◌∙◌, ap, arith, Option, Some, None, find, true≢false}
+use Rattle.std.proofs.Common.{◌||◌, ◌≡◌, ◌≢◌, ◌⊎◌, inl, inr, ℕ, ◌+◌, Bool, true, false, cond, not, ◌&&◌, List, [], ◌∷◌, ◌++◌, map, length, refl, sym, ◌∙◌, ap, arith, Option, Some, None, find}
 use Rattle.std.specs.Prelude.{nat_eq, nat_lt, nat_le}
 use Rattle.std.specs.List.{list_any, list_all}
 use Rattle.std.specs.Option.{option_map}
@@ -50,16 +50,7 @@ all-counted t p (d ∷ ds) = λ i. p (counted-commit t d i) && all-counted t p d
 within-counted : (t : ℕ) (ds : List Drawn) → list_all (λ d. nat_le d.stamped (length d.commit.writes)) ds ≡ true → list_any (λ d. nat_eq d.commit.timestamp t && is_stamped d) ds ≡ false
     → list_all (λ d. nat_le d.stamped (length d.commit.writes)) (map (counted t) ds) ≡ true
 within-counted t [] all none = refl
-within-counted t (d ∷ ds) all none =
-    let both = and_parts (nat_le d.stamped (length d.commit.writes)) (list_all (λ d. nat_le d.stamped (length d.commit.writes)) ds) all in
-    let parts = or_parts (nat_eq d.commit.timestamp t && is_stamped d) (list_any (λ d. nat_eq d.commit.timestamp t && is_stamped d) ds) none in
-    and_from (nat_le (counted t d).stamped (length (counted t d).commit.writes)) (list_all (λ d. nat_le d.stamped (length d.commit.writes)) (map (counted t) ds))
-    (by (nat_eq d.commit.timestamp t) both.0 parts.0) (within-counted t ds both.1 parts.1)
-  where
-    by : (b : Bool) → nat_le d.stamped (length d.commit.writes) ≡ true → (b && is_stamped d) ≡ false
-        → nat_le (cond b (let e : Drawn = record { commit = d.commit; stamped = d.stamped + 1 } in e) d).stamped (length (cond b (let e : Drawn = record { commit = d.commit; stamped = d.stamped + 1 } in e) d).commit.writes) ≡ true
-    by true le unfinished = le-leb (d.stamped + 1) (length d.commit.writes) (omega (arith, leb-true d.stamped (length d.commit.writes) le, eqb-false d.stamped (length d.commit.writes) unfinished))
-    by false le unfinished = le
+within-counted t (d ∷ ds) all none = grind (arith, and_parts, or_parts, and_from, within-counted t ds, le-leb, leb-true, eqb-false)
 
 -- ---- what is kept
 
@@ -77,13 +68,7 @@ module _ (o : Origin) (q : State) (t : ℕ) (unfinished : list_any (λ d. nat_eq
   -- the commit isn't stamped as a whole
   not-stamped : (ds : List Drawn) (u : ℕ) (d : Drawn) → list_any (λ d. nat_eq d.commit.timestamp t && is_stamped d) ds ≡ false → find (λ (d : Drawn). nat_eq d.commit.timestamp u) ds ≡ Some d → is_stamped d ≡ true → d.commit.timestamp ≢ t
   not-stamped [] u d none found stamped is = cc found
-  not-stamped (x ∷ ds) u d none found stamped is = by (nat_eq x.commit.timestamp u) (nat_eq x.commit.timestamp t && is_stamped x) refl none found (λ rest go. not-stamped ds u d rest go stamped is)
-    where
-      by : (a b : Bool) → (nat_eq x.commit.timestamp t && is_stamped x) ≡ b → (b || list_any (λ d. nat_eq d.commit.timestamp t && is_stamped d) ds) ≡ false → cond a (Some x) (find (λ (d : Drawn). nat_eq d.commit.timestamp u) ds) ≡ Some d
-          → (list_any (λ d. nat_eq d.commit.timestamp t && is_stamped d) ds ≡ false → find (λ (d : Drawn). nat_eq d.commit.timestamp u) ds ≡ Some d → ⊥) → ⊥
-      by a true this none found rest = cc none
-      by true false this none found rest = grind (arith, and_from, eq-eqb, true≢false)
-      by false false this none found rest = rest none found
+  not-stamped (x ∷ ds) u d none found stamped is = grind (arith, not-stamped ds u d, and_from, eq-eqb)
 
   life-stamped : drawn_of then ≡ drawn_of q
   life-stamped = commits-counted t q.drawn

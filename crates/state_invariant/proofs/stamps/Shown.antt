@@ -200,8 +200,7 @@ module _ (o : Origin) (q : State) (t : ℕ) (d : Drawn) (key : Key) (row : Optio
           not-newest x k l eq = cc eq
 
   commit-version : (x : Option Drawn) → drawn_at q u ≡ x → ShowsAs o q value slot (class_of_drawn q v.key u r x) → ShowsAs o (with_stamp q t) new slot (class_of_drawn (with_stamp q t) v.key u r (option_map (counted t) x))
-  commit-version (Some e) there here = drawn-version e there here
-  commit-version None undrawn here = covered-version undrawn (nat_eq (last_writer q.history v.key) u) refl here
+  commit-version a there here = grind (arith, drawn-version, covered-version)
 
 -- ---- every slot
 

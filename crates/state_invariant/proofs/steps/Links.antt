@@ -1,16 +1,15 @@
 -- Which version each one names, over each step.
-use Rattle.std.proofs.Common.{◌≡◌, ◌⊎◌, inl, inr, ℕ, ◌+◌, ◌<◌, Bool, true, false, cond, List, [], ◌∷◌, length, map, refl, sym, ◌∙◌, ap, subst, Option, Some, None, true≢false, arith}
+use Rattle.std.proofs.Common.{◌≡◌, ◌⊎◌, inl, ℕ, ◌+◌, ◌<◌, Bool, true, false, cond, List, [], ◌∷◌, length, map, refl, sym, ◌∙◌, ap, subst, Option, Some, None, true≢false, arith}
 use Rattle.std.specs.Prelude.{find, is_some, nat_eq, unwrap_or}
 use Rattle.std.specs.Option.{option_map}
 use Rattle.std.proofs.lemmas.Bool.{cases_eq}
 use Rattle.base.specs.declared.key.Key.{Key}
 use Rattle.base.specs.declared.step.Step.{Step}
 use Rattle.base.specs.declared.step.Step.TheVariants.{Begin, Get, Scan, Put, Delete, Draw, Stamp, Poll, Abort, End, Commit as CommitTick, Collect}
-use Rattle.base.specs.declared.step.Stage.{Stage}
 use Rattle.base.specs.Keys.{lookup_key}
-use Rattle.base.specs.Commits.{Writes, with_write}
+use Rattle.base.specs.Commits.{Writes}
 use Rattle.base.specs.Lists.{replaced}
-use Rattle.machine.specs.Machine.{State, Session, Active, WroteNothing, Drawn, Hand, Version, BySession, drawn_at, begun_of, writes_of, is_own_at, is_held_by, free_session, state_drawn, counted, timestamp_of, held_after_delete, held_after_abort, state_ticked, state_ticked_on, next_stage, next_state, refusal, refused, answered, memory_refused, device_failed}
+use Rattle.machine.specs.Machine.{State, Session, Active, WroteNothing, Drawn, Hand, Version, BySession, drawn_at, begun_of, writes_of, is_held_by, free_session, state_drawn, counted, timestamp_of, held_after_abort, state_ticked, next_state, refusal}
 use Rattle.machine.specs.Collecting.{is_at_slot, held_after_visit, slot_visited, sweep_ended}
 use Rattle.machine.proofs.stamps.Drawn.{counted-commit}
 use Rattle.state_invariant.specs.Kept.{Origin, Keeps, version_by}
@@ -46,8 +45,7 @@ module _ (o : Origin) (q : State) (n : ℕ) (s : Option Session) (held : ℕ →
   links-session value links = links-carried o q then (fills-none q (replaced n s q.sessions) held q.failed q.hand (λ up. up) was begun-then) value links
 
 freed-was : (b : Bool) (x : Option Version) (v : Version) → cond b None x ≡ Some v → x ≡ Some v
-freed-was true x v e = absurd (cc e)
-freed-was false x v e = e
+freed-was a x v e = grind (arith)
 
 links-with_hand : (o : Origin) (q : State) (failed : Bool) (hand : Option Hand) (value : ℕ → ℕ) → (failed ≡ false → q.failed ≡ false) → Links o q value → Links o (record q { failed = failed; hand = hand }) value
 links-with_hand o q failed hand value works links = links-carried o q (record q { failed = failed; hand = hand }) (fills-none q q.sessions q.held failed hand works (λ slot v at. at) (λ slot n key lt at. refl)) value links
@@ -84,11 +82,7 @@ stamp-carries q t = record {
 
 links-ticked : (o : Origin) (q : State) (value : ℕ → ℕ) (hand : Option Hand) → Keeps o q → q.hand ≡ hand → Links o q value → Links o (state_ticked q hand) value
 links-ticked o q value None kept is links = grind (arith, links-hand)
-links-ticked o q value (Some hand) kept is links = by (next_stage q hand)
-  where
-    by : (stage : Option Stage) → Links o (state_ticked_on q hand stage) value
-    by (Some stage) = links-hand o q (Some (record hand { ticks = hand.ticks + 1 })) value links
-    by None = links-covered o q hand kept (kept.numbers.hand hand is) value links
+links-ticked o q value (Some hand) kept is links = grind (arith, links-hand, links-covered o q hand kept (kept.numbers.hand hand is) value links)
 
 links-draw : (o : Origin) (q : State) (n : ℕ) (value : ℕ → ℕ) → Keeps o q → refusal q (Draw n) ≡ None → Links o q value → Links o (next_state q (Draw n)) value
 links-draw o q n value kept none links = by (writes_of (q.sessions n)) refl
@@ -107,9 +101,7 @@ links-next o q Begin value kept none quiet links = links-session o q (unwrap_or 
 links-next o q (Get n key) value kept none quiet links = links
 links-next o q (Scan n table lo hi) value kept none quiet links = links
 links-next o q (Put n key row) value kept none quiet links = absurd (true≢false quiet)
-links-next o q (Delete n key) value kept none quiet links =
-    links-session o q n (Some (Active (begun_of (q.sessions n)) (with_write key None (writes_of (q.sessions n))))) (held_after_delete q n key) (keeps-next o q (Delete n key) kept none)
-    (λ slot v at. freed-was (is_own_at n key (q.held slot)) (q.held slot) v at) (inr refl) value links
+links-next o q (Delete n key) value kept none quiet links = grind (arith, links-session, keeps-next o q (Delete n key) kept none, freed-was)
 links-next o q (Draw n) value kept none quiet links = links-draw o q n value kept none links
 links-next o q (Stamp n) value kept none quiet links = links-carried o q (next_state q (Stamp n)) (stamp-carries q (timestamp_of (q.sessions n))) value links
 links-next o q (Poll n) value kept none quiet links = links
@@ -124,10 +116,7 @@ links-next o q Collect value kept none quiet links = by (is_at_slot q)
     by false = links-moved o q q.held true 0 value (λ slot. stays refl) links
 
 pub links-step : StepsLink
-links-step o q step reply q' value kept (refused fault is told same) quiet links = subst (λ (p : State). Links o p value) (sym same) links
-links-step o q step reply q' value kept (answered none answer same) quiet links = subst (λ (p : State). Links o p value) (sym same) (links-next o q step value kept none quiet links)
-links-step o q step reply q' value kept (memory_refused none takes told same) quiet links = subst (λ (p : State). Links o p value) (sym same) links
-links-step o q step reply q' value kept (device_failed none makes told same) quiet links = subst (λ (p : State). Links o p value) (sym same) (links-failed o q value links)
+links-step o q step reply q' value kept a quiet links = grind (arith, links-next, links-failed)
 
 pub links-hand_covered : CoveringLinks
 links-hand_covered o q hand value kept is links = links-covered o q hand kept (kept.numbers.hand hand is) value links

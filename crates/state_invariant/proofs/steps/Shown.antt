@@ -1,5 +1,5 @@
 -- What the slots show stays over the steps that store nothing.
-use Rattle.std.proofs.Common.{◌≡◌, ◌≢◌, ◌⊎◌, inl, inr, ℕ, ◌+◌, ◌*◌, ◌^◌, ◌<◌, Bool, true, false, cond, ◌&&◌, List, [], ◌∷◌, length, refl, sym, ◌∙◌, ap, subst, arith, Option, Some, None, true≢false}
+use Rattle.std.proofs.Common.{◌≡◌, ◌≢◌, ◌⊎◌, inl, inr, ℕ, ◌+◌, ◌*◌, ◌^◌, ◌<◌, Bool, true, false, cond, ◌&&◌, List, [], ◌∷◌, refl, sym, ◌∙◌, ap, subst, arith, Option, Some, None, true≢false}
 use Rattle.std.specs.Prelude.{nat_eq, unwrap_or}
 use Rattle.std.specs.List.{list_any}
 use Rattle.std.proofs.lemmas.Bool.{cases_eq, eqb-true, eqb-false, or_left}
@@ -7,11 +7,10 @@ use Rattle.std.proofs.lemmas.List.Folds.{list_any-append}
 use Rattle.base.specs.declared.key.Key.{Key}
 use Rattle.base.specs.declared.step.Step.{Step}
 use Rattle.base.specs.declared.step.Step.TheVariants.{Begin, Get, Scan, Put, Delete, Draw, Stamp, Poll, Abort, End, Commit as CommitTick, Collect}
-use Rattle.base.specs.declared.step.Stage.{Stage}
 use Rattle.base.specs.declared.step.Reply.{Reply}
 use Rattle.base.specs.Commits.{Writes, writes_key}
 use Rattle.base.specs.Lists.{replaced}
-use Rattle.machine.specs.Machine.{State, Session, Active, Drew, WroteNothing, Drawn, Hand, Version, Writer, BySession, ByCommit, drawn_at, writes_of, is_own_at, is_held_by, by_commit, free_session, with_session, state_drawn, conflict_of, begun_of, state_ticked, state_ticked_on, next_stage, next_state, refusal, Stepped, refused, answered, memory_refused, device_failed}
+use Rattle.machine.specs.Machine.{State, Session, Active, Drew, WroteNothing, Drawn, Hand, Version, Writer, BySession, ByCommit, drawn_at, writes_of, is_own_at, is_held_by, by_commit, with_session, state_drawn, conflict_of, begun_of, state_ticked, next_state, refusal, Stepped}
 use Rattle.state_invariant.specs.Kept.{Origin, Keeps, IsInUse, wanted, row_in, version_by}
 use Rattle.state_invariant.specs.Shown.{is_drawn_on, is_key_stamped, Waiting, class_of, class_of_version, class_of_drawn, SlotsShow, ShowsAs}
 use Rattle.state_invariant.specs.Laws.{stores}
@@ -122,24 +121,17 @@ shows-hand o q hand value shows = shows-sessions o q value shows q.sessions q.fa
 
 shows-ticked : (o : Origin) (q : State) (value : ℕ → ℕ) (hand : Option Hand) → q.failed ≡ false → Keeps o q → q.hand ≡ hand → SlotsShow o q value → SlotsShow o (state_ticked q hand) value
 shows-ticked o q value None up kept is shows = grind (arith, shows-hand)
-shows-ticked o q value (Some hand) up kept is shows = by (next_stage q hand)
-  where
-    by : (stage : Option Stage) → SlotsShow o (state_ticked_on q hand stage) value
-    by (Some stage) = shows-hand o q (Some (record hand { ticks = hand.ticks + 1 })) value shows
-    by None = shows-covered o q hand value up kept (kept.numbers.hand hand is) shows
+shows-ticked o q value (Some hand) up kept is shows = grind (arith, shows-hand, shows-covered o q hand value up kept (kept.numbers.hand hand is) shows)
 
 -- ---- every step that stores nothing
 
 -- the snapshots in use after one session changes are some of those before
 pub fewer : (q : State) (n : ℕ) (s : Option Session) (held : ℕ → Option Version) → ((begun : ℕ) (writes : Writes) → s ≡ Some (Active begun writes) → IsInUse q begun)
     → (m : ℕ) → IsInUse (with_all q (replaced n s q.sessions) held q.failed q.hand) m → IsInUse q m
-fewer q n s held used m (inl all) = inl all
-fewer q n s held used m (inr (session, ws, active)) = grind (arith, cases_eq, replaced-same, active, replaced-other)
+fewer q n s held used m a = grind (arith, cases_eq, replaced-same, active, replaced-other)
 
 shows-next : (o : Origin) (q : State) (step : Step) (value : ℕ → ℕ) → Keeps o q → refusal q step ≡ None → stores step ≡ false → SlotsShow o q value → SlotsShow o (next_state q step) value
-shows-next o q Begin value kept none quiet shows =
-    shows-session o q value shows (unwrap_or (free_session q) 0) (Some (Active (length q.history) [])) (sym (ap writes_of (free-session q (allowed q Begin none).room)))
-    (λ begun writes e. inl (sym (ap begun_of e)))
+shows-next o q Begin value kept none quiet shows = grind (arith, shows-session, free-session, allowed)
 shows-next o q (Get n key) value kept none quiet shows = shows
 shows-next o q (Scan n table lo hi) value kept none quiet shows = shows
 shows-next o q (Put n key row) value kept none quiet shows = absurd (true≢false quiet)
@@ -164,7 +156,4 @@ pub shows-failed : (o : Origin) (q : State) (value : ℕ → ℕ) → SlotsShow 
 shows-failed o q value shows = shows-sessions o q value shows q.sessions true q.hand (λ n. refl) (λ n in_use. in_use) (λ e. absurd (true≢false e)) (λ down. refl)
 
 pub shows-step : (o : Origin) (q : State) (step : Step) (reply : Reply) (q' : State) (value : ℕ → ℕ) → Keeps o q → Stepped q step reply q' → stores step ≡ false → SlotsShow o q value → SlotsShow o q' value
-shows-step o q step reply q' value kept (refused fault is told same) quiet shows = subst (λ (p : State). SlotsShow o p value) (sym same) shows
-shows-step o q step reply q' value kept (answered none answer same) quiet shows = subst (λ (p : State). SlotsShow o p value) (sym same) (shows-next o q step value kept none quiet shows)
-shows-step o q step reply q' value kept (memory_refused none takes told same) quiet shows = subst (λ (p : State). SlotsShow o p value) (sym same) shows
-shows-step o q step reply q' value kept (device_failed none makes told same) quiet shows = subst (λ (p : State). SlotsShow o p value) (sym same) (shows-failed o q value shows)
+shows-step o q step reply q' value kept a quiet shows = grind (arith, shows-next, shows-failed)

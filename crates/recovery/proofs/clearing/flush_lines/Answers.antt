@@ -1,8 +1,7 @@
-use Rattle.std.proofs.Common.{◌≡◌, ℕ, ◌+◌, subst, arith}
+use Rattle.std.proofs.Common.{◌+◌, arith}
 use Rattle.base.proofs.Results.{on_err}
 use Rattle.base.specs.Actors.{committer}
-use Rattle.pmem.specs.Persisting.{flush_operations}
-use Rattle.pmem.specs.Trace.{flush_op, Runs}
+use Rattle.pmem.specs.Trace.{flush_op}
 use Rattle.pmem.proofs.Lists.{loop-more, loop-stops}
 use Rattle.pmem.proofs.Traces.{runs_none, words-run}
 use Rattle.recovery.proofs.clearing.flush_lines.Goals as goal
@@ -21,6 +20,4 @@ returns-in_err-flush-clause-stopped g c =
     on_err c.from_residual.result (loop-stops (λ k. flush_op committer (c.args.first + k)) c.loop-k.k c.args.count c.loop-k-test.true (g.met.D.Pmem.orderly c.flush.new.self) c.in_err-flush.ensures.err c.loop-k.invariant)
 
 pub returns-clause-run : goal.returns-clause-run
-returns-clause-run g c =
-    let done : c.loop-k.k ≡ c.args.count = omega (arith, c.loop-k-test.false, c.loop-k.auto) in
-    subst (λ (n : ℕ). Runs (flush_operations committer c.args.first n) (g.D.Pmem.state c.args.device.now) (g.D.Pmem.state c.loop-k.device)) done c.loop-k.invariant
+returns-clause-run g c = grind (arith)

@@ -1,7 +1,6 @@
-use Rattle.std.proofs.Common.{◌≡◌, ℕ, ◌+◌, subst, arith}
+use Rattle.std.proofs.Common.{◌+◌, arith}
 use Rattle.base.proofs.Results.{on_err}
-use Rattle.pmem.specs.Persisting.{store_operations}
-use Rattle.pmem.specs.Trace.{store_op, Runs}
+use Rattle.pmem.specs.Trace.{store_op}
 use Rattle.pmem.proofs.Lists.{loop-more, loop-stops}
 use Rattle.pmem.proofs.Traces.{runs_none, words-run}
 use Rattle.recovery.proofs.clearing.store_zeros.Goals as goal
@@ -20,6 +19,4 @@ returns-in_err-store-clause-stopped g c =
     on_err c.from_residual.result (loop-stops (λ k. store_op (c.args.first + k) 0) c.loop-k.k c.args.count c.loop-k-test.true (g.met.D.Pmem.orderly c.store.new.self) c.in_err-store.ensures.err c.loop-k.invariant)
 
 pub returns-clause-run : goal.returns-clause-run
-returns-clause-run g c =
-    let done : c.loop-k.k ≡ c.args.count = omega (arith, c.loop-k-test.false, c.loop-k.auto) in
-    subst (λ (n : ℕ). Runs (store_operations c.args.first (λ k. 0) n) (g.D.Pmem.state c.args.device.now) (g.D.Pmem.state c.loop-k.device)) done c.loop-k.invariant
+returns-clause-run g c = grind (arith)

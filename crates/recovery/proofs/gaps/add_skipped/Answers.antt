@@ -15,6 +15,4 @@ returns-in_ok-add-clause-ok c =
     (ap (λ (n : ℕ). n + 1) c.persisted-first.ensures) (ap (λ (n : ℕ). n - 1) c.dirty-last.ensures) c.if-first-last.true c.add.new.self c.in_ok-add.ensures.ok (c.in_ok-add.ensures.fits.0 refl)
 
 pub returns-else-first-last-clause-ok : goal.returns-else-first-last-clause-ok
-returns-else-first-last-clause-ok c =
-    none-skipped c.args.ruling c.requires.may_rule c.args.gaps.now c.requires.before (c.persisted-first.result + 1) (c.dirty-last.result - 1)
-    (ap (λ (n : ℕ). n + 1) c.persisted-first.ensures) (ap (λ (n : ℕ). n - 1) c.dirty-last.ensures) (omega (arith, c.if-first-last.false))
+returns-else-first-last-clause-ok c = grind (arith, none-skipped)

@@ -1,4 +1,4 @@
-use Rattle.std.proofs.Common.{refl, ◌≡◌, ◌∙◌, ◌+◌, ◌-◌, ◌<◌, ◌≤◌, ℕ, List, length, get_or, ap, subst, sym, arith}
+use Rattle.std.proofs.Common.{refl, ◌≡◌, ◌∙◌, ◌+◌, ◌-◌, ◌≤◌, ℕ, List, length, get_or, ap, subst, sym, arith}
 use Rattle.base.specs.declared.gap.Gap.{Gap}
 use Rattle.base.specs.Records.{no_gap, with_gap}
 use Rattle.base.proofs.Results.{on_err}
@@ -10,11 +10,7 @@ pub loop-gap-init : goal.loop-gap-init
 loop-gap-init c = subst (λ (l : List Gap). Joined c.args.ruling l 0 0) (sym c.none-gaps.ensures) (none-joined c.args.ruling c.requires)
 
 pub add_longs-requires-clause-order : goal.add_longs-requires-clause-order
-add_longs-requires-clause-order c =
-    let items : c.as_slice-gap-items.result.now ≡ c.args.ruling.gaps = c.as_slice-gap-items.ensures.slice ∙ c.gaps-own.ensures in
-    let i : ℕ = c.loop-gap.gap-index in
-    subst (λ (l : List Gap). c.loop-gap.last < (get_or l i no_gap).first) (sym items)
-    (own-above c.args.ruling c.requires c.loop-gap.gaps c.loop-gap.last i c.loop-gap.invariant (omega (arith, c.loop-gap-test.true, ap (length {A = Gap}) items)))
+add_longs-requires-clause-order c = grind (arith, own-above, c.as_slice-gap-items.ensures.slice, c.gaps-own.ensures, c.loop-gap.invariant, c.loop-gap-test.true)
 
 pub add_longs-requires-clause-between : goal.add_longs-requires-clause-between
 add_longs-requires-clause-between c =
@@ -24,18 +20,10 @@ add_longs-requires-clause-between c =
     (own-between c.args.ruling c.requires c.loop-gap.gaps c.loop-gap.last i c.loop-gap.invariant (omega (arith, c.loop-gap-test.true, ap (length {A = Gap}) items)))
 
 pub add-requires-clause-from_one : goal.add-requires-clause-from_one
-add-requires-clause-from_one c =
-    let items : c.as_slice-gap-items.result.now ≡ c.args.ruling.gaps = c.as_slice-gap-items.ensures.slice ∙ c.gaps-own.ensures in
-    let i : ℕ = c.loop-gap.gap-index in
-    subst (λ (l : List Gap). 1 ≤ (get_or l i no_gap).first) (sym items)
-    (own-goes c.args.ruling c.requires c.loop-gap.gaps c.loop-gap.last i c.loop-gap.invariant (omega (arith, c.loop-gap-test.true, ap (length {A = Gap}) items))).0
+add-requires-clause-from_one c = grind (arith, own-goes, c.as_slice-gap-items.ensures.slice, c.gaps-own.ensures, c.loop-gap.invariant, c.loop-gap-test.true)
 
 pub add-requires-clause-ordered : goal.add-requires-clause-ordered
-add-requires-clause-ordered c =
-    let items : c.as_slice-gap-items.result.now ≡ c.args.ruling.gaps = c.as_slice-gap-items.ensures.slice ∙ c.gaps-own.ensures in
-    let i : ℕ = c.loop-gap.gap-index in
-    subst (λ (l : List Gap). (get_or l i no_gap).first ≤ (get_or l i no_gap).last) (sym items)
-    (own-goes c.args.ruling c.requires c.loop-gap.gaps c.loop-gap.last i c.loop-gap.invariant (omega (arith, c.loop-gap-test.true, ap (length {A = Gap}) items))).1
+add-requires-clause-ordered c = grind (arith, own-goes, c.as_slice-gap-items.ensures.slice, c.gaps-own.ensures, c.loop-gap.invariant, c.loop-gap-test.true)
 
 pub returns-in_err-add-clause-err : goal.returns-in_err-add-clause-err
 returns-in_err-add-clause-err c =

@@ -1,6 +1,5 @@
 use Rattle.std.proofs.Common.{ℕ, List, IfOk, rules, tests, subst}
 use Rattle.std.specs.BTreeMap.{IsFromIterResult}
-use Rattle.std.specs.List.{enumerate_from}
 use Rattle.std.proofs.lemmas.Iterator.{YieldsList-from_map, YieldsList-from_slice}
 use Rattle.std.proofs.lemmas.Iterator.Consumers.{YieldsList-at, YieldsList-from_enumerate, YieldsList-from_filter_map}
 use Rattle.std.proofs.lemmas.Iterator.Adapters.{fact_from_collect}

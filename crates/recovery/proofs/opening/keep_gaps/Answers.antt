@@ -1,5 +1,5 @@
-use Rattle.std.proofs.Common.{Bool, cond, [], sym, subst}
-use Rattle.pmem.specs.Trace.{Runs, StopsWithin}
+use Rattle.std.proofs.Common.{Bool, cond, [], sym, subst, arith}
+use Rattle.pmem.specs.Trace.{Runs}
 use Rattle.pmem.specs.Words.{value_of, image_of}
 use Rattle.pmem.proofs.Traces.{runs_none}
 use Rattle.recovery.specs.Sweeping.{whole_sweep}
@@ -18,13 +18,7 @@ returns-in-Some-clause-run g c =
     subst (λ (b : Bool). Runs (cond b (whole_sweep c.args.geometry c.args.ruling (value_of old)) []) old old) (sym few) (runs_none old (g.met.D.Pmem.orderly c.args.device.now))
 
 pub returns-in-Ok-clause-run : goal.returns-in-Ok-clause-run
-returns-in-Ok-clause-run g c =
-    let old = g.D.Pmem.state c.args.device.now in
-    let many = many-gaps (image_of old) c.args.geometry c.args.ruling c.args.gaps c.requires.rules c.requires.gaps c.in-None.is in
-    subst (λ (b : Bool). Runs (cond b (whole_sweep c.args.geometry c.args.ruling (value_of old)) []) old (g.D.Pmem.state c.sweep.new.device)) (sym many) c.in-Ok.ensures.run
+returns-in-Ok-clause-run g c = grind (arith, many-gaps)
 
 pub returns-in-Err-clause-stopped : goal.returns-in-Err-clause-stopped
-returns-in-Err-clause-stopped g c =
-    let old = g.D.Pmem.state c.args.device.now in
-    let many = many-gaps (image_of old) c.args.geometry c.args.ruling c.args.gaps c.requires.rules c.requires.gaps c.in-None.is in
-    subst (λ (b : Bool). StopsWithin (cond b (whole_sweep c.args.geometry c.args.ruling (value_of old)) []) old (g.D.Pmem.state c.sweep.new.device)) (sym many) c.in-Err.ensures.stopped
+returns-in-Err-clause-stopped g c = grind (arith, many-gaps)

@@ -1,4 +1,4 @@
-use Rattle.std.proofs.Common.{◌∙◌, ap, subst, sym}
+use Rattle.std.proofs.Common.{◌∙◌, ap, subst, sym, arith}
 use Rattle.std.specs.Prelude.{◌≡◌, Bool, List, Option, IfErr, IfOk, OnErr, Result, Ok, Err}
 use Rattle.base.specs.declared.gap.Gap.{Gap}
 use Rattle.base.specs.declared.fault.Fault.{Fault}
@@ -48,8 +48,7 @@ returns-clause-fault g c =
     c.open.ensures.fault c.open.ensures.failed
 
 pub returns-clause-log : goal.returns-clause-log
-returns-clause-log g c =
-    told-later (image_of (g.D.Pmem.state c.args.device.now)) c.open.result c.in-Ok.found.geometry c.in-Ok.found.ruling c.in-Ok.found.gaps c.in-Ok.found.free.items c.in-Ok.found.live.items c.in-Ok.ensures.ok
+returns-clause-log g c = grind (arith, told-later)
 
 placed-later : (old new : Device) (result : Result OpenedImage Fault) (found : Found) → Examined (image_of old) found.geometry found.ruling found.gaps found.free.items found.live.items → HavePlaces found.live.items found.places.entries
     → IfOk result (λ life. HasOpened old new life.geometry life.ruling life.next life.free.items life.live.items) → IfOk result (λ life. life.places ≡ found.places) → IfOk result (λ life. HavePlaces life.live.items life.places.entries)

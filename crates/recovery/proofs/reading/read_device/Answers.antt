@@ -1,4 +1,4 @@
-use Rattle.std.proofs.Common.{length, ◌∙◌, ap}
+use Rattle.std.proofs.Common.{◌∙◌, arith}
 use Rattle.pmem.specs.Words.{image_of}
 use Rattle.recovery.proofs.sweeps.Slots.{ruled-size}
 use Rattle.recovery.proofs.reads.Images.{refusal-log, refusal-slots, refusal-memory, is-read}
@@ -9,13 +9,10 @@ pub returns-in-Err-clause-fault : goal.returns-in-Err-clause-fault
 returns-in-Err-clause-fault g c = refusal-log (image_of (g.D.Pmem.state c.args.device.now)) c.in-Err.fault c.in-Err.ensures.fault
 
 pub held_slots-requires-clause-size : goal.held_slots-requires-clause-size
-held_slots-requires-clause-size g c κs within =
-    ap length (c.as_slice-slots.ensures.value ∙ c.in-Ok.ensures.ok.slots_are) ∙ readings-size (image_of (g.D.Pmem.state c.args.device.now)) c.in-Ok.readings.geometry.slots
+held_slots-requires-clause-size g c κs within = grind (arith, readings-size)
 
 pub returns-in-Err-held_slots-clause-fault : goal.returns-in-Err-held_slots-clause-fault
-returns-in-Err-held_slots-clause-fault g c =
-    let image = image_of (g.D.Pmem.state c.args.device.now) in
-    refusal-slots c.in-Ok.readings.geometry c.in-Ok.readings.ruling image c.in-Ok.ensures.ok.rules c.in-Err-held_slots.fault (c.in-Err-held_slots.ensures.fault image (c.as_slice-slots.ensures.value ∙ c.in-Ok.ensures.ok.slots_are))
+returns-in-Err-held_slots-clause-fault g c = grind (arith, refusal-slots)
 
 -- ---- the rows
 
@@ -23,17 +20,13 @@ pub live_rows-requires-clause-size : goal.live_rows-requires-clause-size
 live_rows-requires-clause-size g c = ruled-size (g.D.Pmem.state c.args.device.now) c.in-Ok.readings.geometry c.in-Ok.readings.ruling c.in-Ok.ensures.ok.rules
 
 pub live_rows-requires-clause-live : goal.live_rows-requires-clause-live
-live_rows-requires-clause-live g c =
-    let image = image_of (g.D.Pmem.state c.args.device.now) in
-    c.as_slice.ensures.value ∙ (c.in-Ok-held_slots.ensures.held image (c.as_slice-slots.ensures.value ∙ c.in-Ok.ensures.ok.slots_are)).live_are
+live_rows-requires-clause-live g c = grind (arith)
 
 pub live_rows-requires-clause-laid_out : goal.live_rows-requires-clause-laid_out
 live_rows-requires-clause-laid_out g c = c.in-Ok.ensures.ok.rules.laid_out
 
 pub live_rows-requires-clause-good : goal.live_rows-requires-clause-good
-live_rows-requires-clause-good g c =
-    let image = image_of (g.D.Pmem.state c.args.device.now) in
-    (c.in-Ok-held_slots.ensures.held image (c.as_slice-slots.ensures.value ∙ c.in-Ok.ensures.ok.slots_are)).good
+live_rows-requires-clause-good g c = grind (arith)
 
 pub returns-in-Ok-live_rows-clause-ok : goal.returns-in-Ok-live_rows-clause-ok
 returns-in-Ok-live_rows-clause-ok g c =

@@ -12,11 +12,7 @@ abbrev Live : Type 0
 Live = Vec LiveSlot Global
 
 pub loop-slot-init : goal.loop-slot-init
-loop-slot-init c = record {
-  live = λ image are. c.in_ok-live.ensures.items ∙ sym (live-none image);
-  each = each-none c.args.readings.now c.in_ok-live.live.items;
-  keys = ap (map (λ (s : LiveSlot). s.key)) c.in_ok-live.ensures.items ∙ sym (keys-none c.args.readings.now);
-}
+loop-slot-init c = grind (arith, live-none, each-none, keys-none)
 
 pub loop-slot-preserved : goal.loop-slot-preserved
 loop-slot-preserved c = record {

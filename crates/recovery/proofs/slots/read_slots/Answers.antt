@@ -1,4 +1,4 @@
-use Rattle.std.proofs.Common.{◌≡◌, ◌++◌, ◌∙◌, take, drop, length, refl, sym, arith}
+use Rattle.std.proofs.Common.{◌≡◌, ◌∙◌, length, refl, sym, arith}
 use Rattle.std.proofs.lemmas.List.{same_lists, with_items_is}
 use Rattle.pmem.specs.Words.{image_of}
 use Rattle.recovery.specs.Slots.{readings_below}

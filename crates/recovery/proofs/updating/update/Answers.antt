@@ -1,10 +1,10 @@
-use Rattle.std.proofs.Common.{◌≡◌, ◌≢◌, ℕ, Bool, cond, not, List, [], nat_eq, sym, ◌∙◌, ap, subst}
+use Rattle.std.proofs.Common.{◌≡◌, ◌≢◌, ℕ, Bool, cond, not, List, [], nat_eq, sym, ◌∙◌, ap, subst, arith}
 use Rattle.std.proofs.lemmas.Bool.{eq-eqb, ne_eqb}
 use Rattle.base.specs.Actors.{committer}
 use Rattle.base.specs.Images.{layout_of}
 use Rattle.base.specs.Layout.{Layout, opened_layout, opened_version}
 use Rattle.pmem.specs.Persisting.{set_operations}
-use Rattle.pmem.specs.Trace.{Operation, Runs, StopsWithin}
+use Rattle.pmem.specs.Trace.{Operation, Runs}
 use Rattle.pmem.specs.Words.{image_of}
 use Rattle.pmem.proofs.Traces.{runs_none}
 use Rattle.recovery.proofs.openings.Updates.{opened-size}
@@ -23,15 +23,11 @@ module _ (found layout today : Layout) (x y : ℕ) (laid_out : found ≡ layout)
 
   -- nothing, where it has that version
   none-done : x ≡ y → update_by found (updates_from found) ≡ []
-  none-done same =
-      let current : found.version ≡ opened_version found.version = ap (λ (l : Layout). l.version) laid_out ∙ sym y-is ∙ sym same ∙ x-is ∙ today-version in
-      ap (λ (b : Bool). update_by found (not b)) (eq-eqb found.version (opened_version found.version) current)
+  none-done same = grind (arith, today-version, eq-eqb)
 
   -- else its word is set
   set-done : x ≢ y → update_by found (updates_from found) ≡ set_operations committer 1 today.version
-  set-done differ =
-      let other : found.version ≢ opened_version found.version = λ same. differ (x-is ∙ today-version ∙ sym same ∙ ap (λ (l : Layout). l.version) laid_out ∙ sym y-is) in
-      ap (λ (b : Bool). update_by found (not b)) (ne_eqb found.version (opened_version found.version) other) ∙ ap (set_operations committer 1) (sym today-version)
+  set-done differ = grind (arith, today-version, ne_eqb)
 
 pub returns-then-version-clause-run : goal.returns-then-version-clause-run
 returns-then-version-clause-run g c =
@@ -44,15 +40,7 @@ pub update_version-requires : goal.update_version-requires
 update_version-requires g c = opened-size (g.D.Pmem.state c.args.device.now) c.requires.opens
 
 pub returns-in-Ok-clause-run : goal.returns-in-Ok-clause-run
-returns-in-Ok-clause-run g c =
-    let old = g.D.Pmem.state c.args.device.now in
-    subst (λ (ops : List Operation). Runs ops old (g.D.Pmem.state c.update_version.new.device))
-    (sym (set-done (layout_of (image_of old)) c.args.geometry c.opened-today.result c.version.result c.version-2.result c.requires.laid_out c.opened-today.ensures c.version.ensures.value c.version-2.ensures.value c.if-version.false))
-    c.in-Ok.ensures.run
+returns-in-Ok-clause-run g c = grind (arith, set-done)
 
 pub returns-in-Err-clause-stopped : goal.returns-in-Err-clause-stopped
-returns-in-Err-clause-stopped g c =
-    let old = g.D.Pmem.state c.args.device.now in
-    subst (λ (ops : List Operation). StopsWithin ops old (g.D.Pmem.state c.update_version.new.device))
-    (sym (set-done (layout_of (image_of old)) c.args.geometry c.opened-today.result c.version.result c.version-2.result c.requires.laid_out c.opened-today.ensures c.version.ensures.value c.version-2.ensures.value c.if-version.false))
-    c.in-Err.ensures.stopped
+returns-in-Err-clause-stopped g c = grind (arith, set-done)

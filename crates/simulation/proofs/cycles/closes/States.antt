@@ -1,5 +1,5 @@
 -- From which state a close goes on, after a tick or a stamp.
-use Rattle.std.proofs.Common.{◌≡◌, ◌⊎◌, inl, inr, ℕ, ◌+◌, ◌-◌, Bool, true, false, cond, not, ◌||◌, List, [], ◌∷◌, ◌++◌, map, filter, refl, sym, ◌∙◌, ap, subst, arith, append_assoc, true≢false}
+use Rattle.std.proofs.Common.{◌≡◌, ◌⊎◌, inl, inr, ℕ, ◌+◌, ◌-◌, Bool, true, false, not, ◌||◌, List, [], ◌∷◌, ◌++◌, map, filter, refl, sym, ◌∙◌, ap, subst, arith, append_assoc, true≢false}
 use Rattle.std.specs.Prelude.{Option, Some, nat_eq, Contains, if◌then◌else◌}
 use Rattle.std.proofs.lemmas.Bool.{or_left, or_right}
 use Rattle.std.proofs.lemmas.List.Folds.{list_any-append}
@@ -49,8 +49,7 @@ filter-drawn p (d ∷ ds) = grind (arith, filter-drawn p ds)
 
 -- gaps stand as they did, or are dropped once they are swept
 gaps-dropped : (q : State) (gaps : List Gap) → (gaps ≡ q.ruling.gaps) ⊎ ((q.swept ≡ true) × (gaps ≡ [])) → (if q.swept then [] else gaps) ≡ (if q.swept then [] else q.ruling.gaps)
-gaps-dropped q gaps (inl same) = ap (λ (gs : List Gap). cond q.swept [] gs) same
-gaps-dropped q gaps (inr dropped) = ap (λ (b : Bool). cond b [] gaps) dropped.0 ∙ sym (ap (λ (b : Bool). cond b [] q.ruling.gaps) dropped.0)
+gaps-dropped q gaps a = grind (arith)
 
 -- the close covers the same commits, under the same record
 closed-covered : (q : State) (hand : Hand) → KeepsHand q hand → closed (state_covered q hand) ≡ closed (record q { hand = Some hand })

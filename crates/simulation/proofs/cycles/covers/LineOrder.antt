@@ -5,13 +5,14 @@ use Rattle.std.specs.List.{list_any, list_all, range_with_len, flat_map}
 use Rattle.std.proofs.lemmas.Bool.{and_parts, and_from, eq-eqb, leb-true, ltb-true, le-leb, lt-ltb, ne_eqb, or_cases, or_from, or_left, cases_eq, cases_lt}
 use Rattle.std.proofs.lemmas.List.Folds.{list_all-append, list_any-append}
 use Rattle.std.proofs.Math.Bool.{or-false}
+use Rattle.std.proofs.lemmas.Bool.Decides.{nat_tests}
 use Rattle.base.specs.Commits.{Commit, writes_key}
 use Rattle.base.specs.Layout.{Layout, slot_start, total_words, version_lines}
-use Rattle.machine.specs.Machine.{State, Version, Writer, BySession, ByCommit}
+use Rattle.machine.specs.Machine.{State, Version}
 use Rattle.base.specs.Records.{are_rising}
 use Rattle.base.proofs.Lists.{any-same, any-never, any-or, rising-rest}
 use Rattle.state_invariant.proofs.Lists.{rising-above, rising-with, all-weaken}
-use Rattle.device_invariant.specs.Log.{Line, line_at, line_number, lines_at, is_one_of, is_last_on, is_own, is_ended}
+use Rattle.device_invariant.specs.Log.{Line, line_at, line_number, lines_at, is_last_on, is_own, is_ended}
 use Rattle.simulation.specs.cycles.Batches.{line_numbers, is_line_of}
 use Rattle.simulation.specs.cycles.Laws.{LinesRise}
 
@@ -19,17 +20,11 @@ use Rattle.simulation.specs.cycles.Laws.{LinesRise}
 
 all-above : (x m : ℕ) (ys : List ℕ) → x < m → list_all (nat_le m) ys ≡ true → list_all (nat_lt x) ys ≡ true
 all-above x m [] less all = refl
-all-above x m (y ∷ ys) less all =
-    let both = and_parts (nat_le m y) (list_all (nat_le m) ys) all in
-    and_from (nat_lt x y) (list_all (nat_lt x) ys) (lt-ltb x y (omega (arith, less, leb-true m y both.0))) (all-above x m ys less both.1)
+all-above x m (y ∷ ys) less all = grind (arith, and_parts, and_from, lt-ltb, leb-true, all-above x m ys less)
 
 rising-append : (m : ℕ) (xs ys : List ℕ) → are_rising xs ≡ true → are_rising ys ≡ true → list_all (λ x. nat_lt x m) xs ≡ true → list_all (nat_le m) ys ≡ true → are_rising (xs ++ ys) ≡ true
 rising-append m [] ys rising_x rising_y below above = rising_y
-rising-append m (x ∷ xs) ys rising_x rising_y below above =
-    let both = and_parts (nat_lt x m) (list_all (λ x. nat_lt x m) xs) below in
-    rising-with x (xs ++ ys)
-    (list_all-append (nat_lt x) xs ys ∙ and_from (list_all (nat_lt x) xs) (list_all (nat_lt x) ys) (rising-above x xs rising_x) (all-above x m ys (ltb-true x m both.0) above))
-    (rising-append m xs ys (rising-rest x xs rising_x) rising_y both.1 above)
+rising-append m (x ∷ xs) ys rising_x rising_y below above = grind (arith, and_parts, rising-with, list_all-append, and_from, rising-above, all-above, ltb-true, rising-append m xs ys (rising-rest x xs rising_x) rising_y, rising-rest)
 
 -- the numbers rise from the first bound on, and end below the second
 record IsBetween (low high : ℕ) (xs : List ℕ) : Type 0 where
@@ -116,27 +111,13 @@ module _ (q : State) (line : ℕ) where
 
   -- either all its lines are touched, or the first alone
   by-kind : (slot : ℕ) (own ended : Bool) → among (cond own (all_of slot) (cond ended (first_of slot) [])) ≡ ((own && among (all_of slot)) || (ended && among (first_of slot)))
-  by-kind slot false true = refl
-  by-kind slot false false = refl
-  by-kind slot true false = grind arith
-  by-kind slot true true = grind (arith, first-among)
+  by-kind slot a b = grind (arith, first-among)
 
   own-any : (commits : List Commit) (v : Option Version) → is_own commits v ≡ list_any (λ c. is_own (c ∷ []) v) commits
-  own-any commits None = sym (any-never commits)
-  own-any commits (Some v) = by_writer v
-    where
-      by_writer : (v : Version) → is_own commits (Some v) ≡ list_any (λ c. is_own (c ∷ []) (Some v)) commits
-      by_writer v = by_it v.writer
-        where
-          by_it : (w : Writer) → is_one_of commits w ≡ list_any (λ c. is_one_of (c ∷ []) w) commits
-          by_it (BySession n) = sym (any-never commits)
-          by_it (ByCommit t) = any-same (λ (c : Commit). nat_eq c.timestamp t) (λ (c : Commit). nat_eq c.timestamp t || false) commits (λ c. sym (or-false (nat_eq c.timestamp t)))
+  own-any commits a = grind (arith, any-never commits, any-same, or-false)
 
   and-swap : (a b : Bool) → (a && b) ≡ (b && a)
-  and-swap true true = refl
-  and-swap true false = refl
-  and-swap false true = refl
-  and-swap false false = refl
+  and-swap a b = grind (arith)
 
   ended-any : (commits : List Commit) (v : Option Version) → is_ended q commits v ≡ list_any (λ c. is_ended q (c ∷ []) v) commits
   ended-any commits None = sym (any-never commits)
@@ -171,16 +152,10 @@ module _ (q : State) (line : ℕ) where
 
 none-below : (x : ℕ) (ys : List ℕ) → list_all (nat_lt x) ys ≡ true → is_line_of x ys ≡ false
 none-below x [] all = refl
-none-below x (y ∷ ys) all =
-    let both = and_parts (nat_lt x y) (list_all (nat_lt x) ys) all in
-    let less = ltb-true x y both.0 in
-    or_from (nat_eq y x) (is_line_of x ys) (ne_eqb y x (λ e. omega (arith, e, less))) (none-below x ys both.1)
+none-below x (y ∷ ys) all = grind (arith, and_parts, ltb-true, or_from, ne_eqb, none-below x ys)
 
 least : (x y : ℕ) (xs ys : List ℕ) → are_rising (y ∷ ys) ≡ true → is_line_of x (y ∷ ys) ≡ true → y ≤ x
-least x y xs ys rising is = elim (cases_lt x y) [
-  | inl less ↦ absurd (true≢false (sym is ∙ none-below x (y ∷ ys) (and_from (nat_lt x y) (list_all (nat_lt x) ys) (lt-ltb x y less) (all-above x y ys less (all-weaken (nat_lt y) (nat_le y) ys (λ z e. le-leb y z (omega (arith, ltb-true y z e))) (rising-above y ys rising))))))
-  | inr more ↦ more
-]
+least x y xs ys rising is = grind (arith, cases_lt, none-below, and_from, lt-ltb, all-above, all-weaken, le-leb, ltb-true, rising-above, nat_tests)
 
 first-in : (x : ℕ) (xs : List ℕ) → is_line_of x (x ∷ xs) ≡ true
 first-in x xs = or_left (nat_eq x x) (is_line_of x xs) (eq-eqb x x refl)

@@ -1,5 +1,5 @@
 -- The lines of the batch in hand stay over each step of a session.
-use Rattle.std.proofs.Common.{◌≡◌, ℕ, zero, suc, ◌+◌, ◌<◌, ◌≤◌, Bool, true, false, cond, ◌&&◌, List, [], ◌∷◌, ◌++◌, refl, sym, ◌∙◌, ap, subst, arith}
+use Rattle.std.proofs.Common.{◌≡◌, ℕ, zero, suc, ◌+◌, ◌<◌, ◌≤◌, Bool, true, false, cond, ◌&&◌, List, refl, sym, ◌∙◌, ap, arith}
 use Rattle.std.specs.Prelude.{Option, Some, None, nat_eq}
 use Rattle.std.specs.List.{range_with_len, flat_map, list_any}
 use Rattle.std.proofs.lemmas.Bool.{and_parts, ne_eqb, eqb-true, false_from_ne_true}
@@ -10,15 +10,14 @@ use Rattle.base.specs.declared.step.Reply.{Reply}
 use Rattle.base.specs.Commits.{Commit, writes_key, last_writer}
 use Rattle.machine.specs.Laws.{is_no_tick}
 use Rattle.base.specs.Stands.{has_timestamp}
-use Rattle.base.specs.Layout.{version_lines}
 use Rattle.machine.specs.Machine.{State, Hand, Version, BySession, Stepped, refused, answered, memory_refused, device_failed, next_state, held_after_put, held_after_delete, held_after_abort, is_by, by_commit}
 use Rattle.machine.specs.Collecting.{is_at_slot, held_after_visit, slot_visited, sweep_ended}
 use Rattle.state_invariant.specs.Kept.{Origin, Keeps, KeepsHand, version_by}
 use Rattle.state_invariant.proofs.Lookups.{first_below-some}
 use Rattle.state_invariant.proofs.collector.Garbage.{IsGarbage, garbage-undrawn, garbage-replaced}
-use Rattle.state_invariant.proofs.collector.Kept.{OnlyFrees, stays as same_holder, frees, visit-frees}
+use Rattle.state_invariant.proofs.collector.Kept.{OnlyFrees, visit-frees}
 use Rattle.state_invariant.proofs.Commits.{commit_at-has, committed-bounds}
-use Rattle.device_invariant.specs.Log.{Line, line_at, lines_at, lines_in, is_own, is_ended}
+use Rattle.device_invariant.specs.Log.{lines_at, lines_in, is_own, is_ended}
 use Rattle.device_invariant.proofs.PresentValues.{drawn-bounds, last-committed}
 use Rattle.simulation.specs.cycles.Laws.{LinesStay}
 
@@ -40,12 +39,7 @@ given_back q commits v n by_it = grind arith
 lines-alike : (q : State) (held : ℕ → Option Version) (commits : List Commit) (from n : ℕ) → ((slot : ℕ) → from ≤ slot → slot < from + n → IsAlike q commits (held slot) (q.held slot))
     → flat_map (lines_at (record q { held = held }) commits) (range_with_len from n) ≡ flat_map (lines_at q commits) (range_with_len from n)
 lines-alike q held commits from zero each = refl
-lines-alike q held commits from (suc n) each =
-    let here = each from (omega arith) (omega arith) in
-    let whole : List Line = flat_map (λ part. line_at from part ∷ []) (range_with_len 0 (version_lines q.layout)) in
-    ap (λ (b : Bool). cond b whole (cond (is_ended q commits (held from)) (line_at from 0 ∷ []) []) ++ flat_map (lines_at (record q { held = held }) commits) (range_with_len (from + 1) n)) here.own
-    ∙ ap (λ (b : Bool). cond (is_own commits (q.held from)) whole (cond b (line_at from 0 ∷ []) []) ++ flat_map (lines_at (record q { held = held }) commits) (range_with_len (from + 1) n)) here.ended
-    ∙ ap (λ (ls : List Line). lines_at q commits from ++ ls) (lines-alike q held commits (from + 1) n (λ slot le lt. each slot (omega (arith, le)) (omega (arith, lt))))
+lines-alike q held commits from (suc n) each = grind (arith, lines-alike q held commits (from + 1) n)
 
 held-lines : (q : State) (held : ℕ → Option Version) (commits : List Commit) → ((slot : ℕ) → slot < q.layout.slots → IsAlike q commits (held slot) (q.held slot)) → lines_in (record q { held = held }) commits ≡ lines_in q commits
 held-lines q held commits each = lines-alike q held commits 0 q.layout.slots (λ slot le lt. each slot (omega (arith, lt)))
@@ -96,8 +90,7 @@ module _ (o : Origin) (q : State) (hand : Hand) (kept : Keeps o q) (in_hand : q.
           absurd (cc (sym d.1 ∙ garbage-undrawn o q kept slot g))
 
   visit-alike : (slot : ℕ) → OnlyFrees q (held_after_visit q q.place) slot → IsAlike q hand.commits (held_after_visit q q.place slot) (q.held slot)
-  visit-alike slot (same_holder same) = subst (λ (v : Option Version). IsAlike q hand.commits v (q.held slot)) (sym same) (alike q hand.commits (q.held slot))
-  visit-alike slot (frees g none) = subst (λ (v : Option Version). IsAlike q hand.commits v (q.held slot)) (sym none) (freed-alike slot g)
+  visit-alike slot a = grind (arith, alike, freed-alike)
 
   visit-lines : (b : Bool) → lines_in (cond b (slot_visited q) (sweep_ended q)) hand.commits ≡ lines_in q hand.commits
   visit-lines true = held-lines q (held_after_visit q q.place) hand.commits (λ slot lt. visit-alike slot (visit-frees o q q.place slot kept))

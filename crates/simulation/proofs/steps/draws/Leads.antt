@@ -1,13 +1,12 @@
 -- A draw: the versions of its session become those of its commit, while the device does nothing.
 use Rattle.std.proofs.Common.{◌≡◌, ◌≢◌, ◌⊎◌, inl, inr, ℕ, suc, zero, ◌+◌, ◌-◌, ◌<◌, Bool, true, false, cond, ◌&&◌, List, [], ◌∷◌, ◌++◌, take, refl, sym, ◌∙◌, ap, subst, arith}
-use Rattle.std.specs.Prelude.{Option, Some, None, IsTrue, nat_eq}
+use Rattle.std.specs.Prelude.{Option, Some, None, IsTrue}
 use Rattle.std.specs.List.{list_any, flat_map, range_with_len}
 use Rattle.std.proofs.lemmas.Bool.{cases_eq, ne_eqb, or_left}
 use Rattle.std.proofs.lemmas.List.Folds.{list_any-append}
 use Rattle.base.specs.declared.key.Key.{Key}
 use Rattle.base.specs.Commits.{Writes, last_writer, writes_key}
 use Rattle.base.specs.Stands.{has_timestamp}
-use Rattle.base.specs.Records.{is_committed}
 use Rattle.base.specs.Layout.{version_lines}
 use Rattle.machine.specs.Machine.{State, Drawn, Hand, Version, Writer, BySession, ByCommit, drawn_at, is_by, by_commit, state_drawn}
 use Rattle.pmem.specs.Device.{Device}
@@ -28,17 +27,11 @@ module _ (o : Origin) (q : State) (n : ℕ) (write : Key × Option (List ℕ)) (
   then = state_drawn q n (write ∷ rest)
 
   drawn-still : (key : Key) (x : ℕ) → is_drawn_on q key x ≡ true → is_drawn_on then key x ≡ true
-  drawn-still key x drawn =
-      list_any-append (λ d. nat_eq d.commit.timestamp x && writes_key key d.commit) q.drawn (drawn_now q (write ∷ rest) ∷ [])
-      ∙ or_left (is_drawn_on q key x) (list_any (λ d. nat_eq d.commit.timestamp x && writes_key key d.commit) (drawn_now q (write ∷ rest) ∷ [])) drawn
+  drawn-still key x drawn = grind (arith, list_any-append, drawn_now, or_left)
 
   -- the last covered commit on a key was drawn before
   last-before : (key : Key) → last_writer q.history key < q.next
-  last-before key = by (last-committed o q kept key)
-    where
-      by : (last_writer q.history key ≡ 0) ⊎ (is_committed q.ruling (last_writer q.history key) ≡ true) → last_writer q.history key < q.next
-      by (inl none) = omega (arith, none, kept.numbers.persisted)
-      by (inr committed) = omega (arith, (committed-bounds q.ruling (last_writer q.history key) committed).1, kept.numbers.persisted)
+  last-before key = grind (arith, last-committed, committed-bounds)
 
   -- ---- a slot
 

@@ -1,17 +1,17 @@
 -- Where a stamp makes an operation, there is a line to touch.
-use Rattle.std.proofs.Common.{◌≡◌, ℕ, zero, suc, ◌<◌, Bool, true, false, cond, List, [], ◌∷◌, length, refl, sym, ◌∙◌, ap, arith, Option, Some, None, is_some}
-use Rattle.std.specs.Prelude.{nat_eq, slice_get, unwrap_or}
+use Rattle.std.proofs.Common.{◌≡◌, ℕ, zero, suc, ◌<◌, Bool, true, false, List, [], ◌∷◌, length, refl, sym, ◌∙◌, ap, arith, Option, Some, is_some}
+use Rattle.std.specs.Prelude.{slice_get}
 use Rattle.std.specs.Option.{option_or, option_map}
 use Rattle.std.proofs.lemmas.Bool.{or_left, or_right}
 use Rattle.base.specs.declared.key.Key.{Key}
-use Rattle.base.specs.Keys.{key_eq, lookup_key, is_rising}
+use Rattle.base.specs.Keys.{lookup_key, is_rising}
 use Rattle.base.specs.Commits.{Commit, Writes, after}
 use Rattle.base.specs.Records.{is_committed}
 use Rattle.base.specs.Stands.{has_timestamp}
 use Rattle.machine.specs.Machine.{State, Drawn, ByCommit, drawn_of, timestamp_of, operates_for}
 use Rattle.base.proofs.Keys.{key_eq-true, key_eq-same, keys-rest}
 use Rattle.base.proofs.Lists.{all-drop}
-use Rattle.state_invariant.specs.Kept.{Origin, Keeps, version_by, wanted, row_by, commit_at, commits_of_life, covered_since}
+use Rattle.state_invariant.specs.Kept.{Origin, Keeps, version_by, wanted, commit_at, commits_of_life, covered_since}
 use Rattle.state_invariant.proofs.Lookups.{find-all}
 use Rattle.state_invariant.proofs.Commits.{commit_at-none, commit_at-append, commit_at-drawn, timestamp-all}
 use Rattle.device_invariant.specs.Slots.{newest_of}
@@ -23,14 +23,8 @@ use Rattle.simulation.proofs.steps.stamps.Writes.{IsNext, next-of, keys_of, less
 -- the write has its key's row
 lookup-at : (writes : Writes) (i : ℕ) (key : Key) (row : Option (List ℕ)) → is_rising (keys_of writes) ≡ true → slice_get writes i ≡ Some (key, row) → lookup_key writes key ≡ Some row
 lookup-at [] i key row rising at = absurd (cc at)
-lookup-at (write ∷ writes) zero key row rising at =
-    let same : write ≡ (key, row) = cc at in
-    ap (λ (w : Key × Option (List ℕ)). cond (key_eq w.0 key) (Some w.1) (lookup_key writes key)) same ∙ ap (λ (b : Bool). cond b (Some row) (lookup_key writes key)) (key_eq-same key)
-lookup-at (write ∷ writes) (suc i) key row rising at = by (key_eq write.0 key) refl (lookup-at writes i key row (keys-rest write.0 (keys_of writes) rising) at)
-  where
-    by : (b : Bool) → key_eq write.0 key ≡ b → lookup_key writes key ≡ Some row → cond b (Some write.1) (lookup_key writes key) ≡ Some row
-    by true is rest = absurd (less-apart write.0 key (less-later write.0 writes i key row rising at) (key_eq-true write.0 key is))
-    by false is rest = rest
+lookup-at (write ∷ writes) zero key row rising at = grind (arith, key_eq-same)
+lookup-at (write ∷ writes) (suc i) key row rising at = grind (arith, lookup-at writes i key row (keys-rest write.0 (keys_of writes) rising) at, keys-rest, keys_of, less-apart, less-later, key_eq-true)
 
 module _ (o : Origin) (q : State) (kept : Keeps o q) (t : ℕ) (key : Key) (row : Option (List ℕ)) (next : IsNext q t key row) where
   uncovered : (b : Bool) → has_timestamp (covered_since o q) t ≡ b → b ≡ false
@@ -47,10 +41,7 @@ module _ (o : Origin) (q : State) (kept : Keeps o q) (t : ℕ) (key : Key) (row 
 
   -- the version of the write has its row
   wanted-this : wanted o q (version_by key (ByCommit t)) ≡ row
-  wanted-this =
-      ap (row_by o q key t) in_life
-      ∙ ap (λ (x : Option (Option (List ℕ))). unwrap_or x None)
-      (lookup-at next.drawn.commit.writes next.drawn.stamped key row (find-all (λ (d : Drawn). nat_eq d.commit.timestamp t) (λ (d : Drawn). is_rising (keys_of d.commit.writes)) q.drawn next.drawn kept.draws.in_order next.found) next.at)
+  wanted-this = grind (arith, in_life, lookup-at, find-all, keys_of)
 
   has-row : (slot : ℕ) → IsSlotOf q (version_by key (ByCommit t)) (Some slot) → is_some row ≡ true
   has-row slot its = let has = kept.owns.has slot (version_by key (ByCommit t)) its.0 its.1 in ap (λ (r : Option (List ℕ)). is_some r) (sym wanted-this ∙ has.1)
@@ -59,9 +50,7 @@ module _ (o : Origin) (q : State) (kept : Keeps o q) (t : ℕ) (key : Key) (row 
   has-newest slot its = let has = kept.owns.has slot (newest_of q key) its.0 its.1 in ap (λ (r : Option (List ℕ)). is_some r) (sym (wanted-newest o q kept key) ∙ has.1)
 
   touches : (own ended : Option ℕ) → IsSlotOf q (version_by key (ByCommit t)) own → IsSlotOf q (newest_of q key) ended → 0 < length (stamp_operations q own ended t) → operates_for q (Some (key, row)) ≡ true
-  touches (Some s) ended owns ends some = or_left (is_some row) (is_some (after q.history key)) (has-row s owns)
-  touches None (Some e) owns ends some = or_right (is_some row) (is_some (after q.history key)) (has-newest e ends)
-  touches None None owns ends some = absurd (omega (arith, some))
+  touches a ended owns ends some = grind (arith, or_left, has-row, or_right, has-newest)
 
 pub stamps-operate : StampsOperate
 stamps-operate o q n key row own ended kept write owns ends some =

@@ -1,8 +1,7 @@
 -- What is known of the write that a stamp deals with.
-use Rattle.std.proofs.Common.{◌≡◌, ◌≢◌, ◌⊎◌, inl, inr, ℕ, zero, suc, ◌<◌, Bool, true, false, ◌&&◌, ◌||◌, List, [], ◌∷◌, map, take, refl, sym, ◌∙◌, ap, arith, add-one}
-use Rattle.std.specs.Prelude.{Option, Some, None, nat_eq, nat_lt, slice_get}
+use Rattle.std.proofs.Common.{◌≡◌, ◌≢◌, ◌⊎◌, inl, inr, ℕ, zero, suc, ◌<◌, true, false, ◌||◌, List, [], ◌∷◌, map, take, refl, sym, ◌∙◌, ap, arith, add-one}
+use Rattle.std.specs.Prelude.{Option, Some, nat_eq, slice_get}
 use Rattle.std.specs.List.{list_any}
-use Rattle.std.specs.Option.{option_and_then}
 use Rattle.std.proofs.lemmas.Bool.{and_parts, or_cases, eqb-true, ltb-true, cases_eq, or_parts}
 use Rattle.base.specs.declared.key.Key.{Key}
 use Rattle.base.specs.Keys.{key_eq, key_lt, is_rising}
@@ -22,43 +21,27 @@ abbrev pub Less : Key → Key → Type 0
 Less a b = (a.table < b.table) ⊎ ((a.table ≡ b.table) × (a.key < b.key))
 
 less-of : (a b : Key) → key_lt a b ≡ true → Less a b
-less-of a b is = by (or_cases (nat_lt a.table b.table) (nat_eq a.table b.table && nat_lt a.key b.key) is)
-  where
-    by : (nat_lt a.table b.table ≡ true) ⊎ ((nat_eq a.table b.table && nat_lt a.key b.key) ≡ true) → Less a b
-    by (inl table) = inl (ltb-true a.table b.table table)
-    by (inr key) = let both = and_parts (nat_eq a.table b.table) (nat_lt a.key b.key) key in inr (eqb-true a.table b.table both.0, ltb-true a.key b.key both.1)
+less-of a b is = grind (arith, or_cases, ltb-true, and_parts, eqb-true)
 
 less-trans : (a b c : Key) → Less a b → Less b c → Less a c
-less-trans a b c (inl x) (inl y) = inl (omega (arith, x, y))
-less-trans a b c (inl x) (inr y) = inl (omega (arith, x, y.0))
-less-trans a b c (inr x) (inl y) = inl (omega (arith, x.0, y))
-less-trans a b c (inr x) (inr y) = inr (x.0 ∙ y.0, omega (arith, x.1, y.1))
+less-trans a b c d e = grind (arith)
 
 pub less-apart : (a b : Key) → Less a b → a ≡ b → ⊥
-less-apart a b (inl x) same = omega (arith, x, ap (λ (k : Key). k.table) same)
-less-apart a b (inr x) same = omega (arith, x.1, ap (λ (k : Key). k.key) same)
+less-apart a b d same = grind (arith)
 
 abbrev pub keys_of : Writes → List Key
 keys_of writes = map (λ write. write.0) writes
 
 pub less-later : (a : Key) (writes : Writes) (i : ℕ) (key : Key) (row : Option (List ℕ)) → is_rising (a ∷ keys_of writes) ≡ true → slice_get writes i ≡ Some (key, row) → Less a key
 less-later a [] i key row rising at = absurd (cc at)
-less-later a (write ∷ writes) zero key row rising at =
-    let same : write ≡ (key, row) = cc at in
-    less-of a key (ap (key_lt a) (ap (λ (w : Key × Option (List ℕ)). w.0) (sym same)) ∙ (and_parts (key_lt a write.0) (is_rising (write.0 ∷ keys_of writes)) rising).0)
-less-later a (write ∷ writes) (suc i) key row rising at =
-    let both = and_parts (key_lt a write.0) (is_rising (write.0 ∷ keys_of writes)) rising in
-    less-trans a write.0 key (less-of a write.0 both.0) (less-later write.0 writes i key row both.1 at)
+less-later a (write ∷ writes) zero key row rising at = grind (arith, less-of, and_parts)
+less-later a (write ∷ writes) (suc i) key row rising at = grind (arith, and_parts, less-trans, less-of, less-later write.0 writes i key row)
 
 -- the key of a write isn't one of those before it
 pub none-before : (writes : Writes) (i : ℕ) (key : Key) (row : Option (List ℕ)) → is_rising (keys_of writes) ≡ true → slice_get writes i ≡ Some (key, row) → list_any (λ write. key_eq write.0 key) (take i writes) ≡ false
 none-before [] i key row rising at = absurd (cc at)
 none-before (write ∷ writes) zero key row rising at = refl
-none-before (write ∷ writes) (suc i) key row rising at = by (key_eq write.0 key) refl (none-before writes i key row (keys-rest write.0 (keys_of writes) rising) at)
-  where
-    by : (b : Bool) → key_eq write.0 key ≡ b → list_any (λ write. key_eq write.0 key) (take i writes) ≡ false → (b || list_any (λ write. key_eq write.0 key) (take i writes)) ≡ false
-    by true is rest = absurd (less-apart write.0 key (less-later write.0 writes i key row rising at) (key_eq-true write.0 key is))
-    by false is rest = rest
+none-before (write ∷ writes) (suc i) key row rising at = grind (arith, none-before writes i key row, keys-rest, less-apart, less-later, key_eq-true)
 
 -- ---- the write
 
@@ -68,11 +51,7 @@ pub record IsNext (q : State) (t : ℕ) (key : Key) (row : Option (List ℕ)) : 
   pub at : slice_get drawn.commit.writes drawn.stamped ≡ Some (key, row)
 
 pub next-of : (q : State) (n : ℕ) (key : Key) (row : Option (List ℕ)) → stamped_write q n ≡ Some (key, row) → IsNext q (timestamp_of (q.sessions n)) key row
-next-of q n key row write = by (drawn_at q (timestamp_of (q.sessions n))) refl write
-  where
-    by : (x : Option Drawn) → drawn_at q (timestamp_of (q.sessions n)) ≡ x → option_and_then (λ d. slice_get d.commit.writes d.stamped) x ≡ Some (key, row) → IsNext q (timestamp_of (q.sessions n)) key row
-    by None found e = absurd (cc e)
-    by (Some d) found e = record { drawn = d; found = found; at = e }
+next-of q n key row write = grind (arith)
 
 module _ (o : Origin) (q : State) (kept : Keeps o q) (t : ℕ) (key : Key) (row : Option (List ℕ)) (next : IsNext q t key row) where
   pub not_stamped : is_key_stamped next.drawn key ≡ false

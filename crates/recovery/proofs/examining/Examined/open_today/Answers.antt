@@ -1,11 +1,9 @@
-use Rattle.std.proofs.Common.{◌∙◌, subst}
-use Rattle.base.specs.Records.{Record, opened_gaps}
+use Rattle.std.proofs.Common.{◌∙◌, subst, arith}
+use Rattle.base.specs.Records.{Record}
 use Rattle.pmem.specs.Trace.{Runs, StopsWithin}
 use Rattle.pmem.specs.Words.{image_of}
 use Rattle.pmem.proofs.Traces.{runs-then, stops-first, stops-then, words-run}
 use Rattle.log_area.specs.Writings.{record_operations}
-use Rattle.machine.specs.Openings.{gaps_kept, opening_record}
-use Rattle.recovery.specs.Opened.{gap_operations}
 use Rattle.recovery.proofs.sweeps.Slots.{ruled-size}
 use Rattle.recovery.proofs.openings.Devices.{is, some-dirty, limit, gate-limit, target-is}
 use Rattle.recovery.proofs.examining.Examined.open_today.Goals as goal
@@ -19,9 +17,7 @@ pub keep_gaps-requires-clause-gaps : goal.keep_gaps-requires-clause-gaps
 keep_gaps-requires-clause-gaps g c = (is (image_of (g.D.Pmem.state c.args.device.now)) c.args.self.geometry c.args.self.ruling c.args.self.gaps c.args.self.free.items c.args.self.live.items c.requires.examined).gaps_are
 
 pub returns-in-Err-clause-stopped : goal.returns-in-Err-clause-stopped
-returns-in-Err-clause-stopped g c =
-    let after = opening_record c.args.self.geometry c.args.self.ruling (gaps_kept (opened_gaps c.args.self.ruling)) in
-    stops-first {xs = gap_operations c.args.self.geometry c.args.self.ruling (g.D.Pmem.state c.args.device.now)} (record_operations c.args.self.geometry after) c.in-Err.ensures.stopped
+returns-in-Err-clause-stopped g c = grind (arith, stops-first)
 
 -- ---- the record
 
@@ -48,6 +44,4 @@ returns-in-Ok-write_record-clause-run g c =
     runs-then c.in-Ok.ensures.run (subst (λ (r : Record). Runs (record_operations c.args.self.geometry r) (g.D.Pmem.state c.keep_gaps.new.device) (g.D.Pmem.state c.write_record.new.device)) same c.in-Ok-write_record.ensures.run)
 
 pub returns-in-Ok-write_record-clause-ok : goal.returns-in-Ok-write_record-clause-ok
-returns-in-Ok-write_record-clause-ok g c =
-    let same = target-is (image_of (g.D.Pmem.state c.args.device.now)) c.args.self.geometry c.args.self.ruling c.args.self.gaps c.args.self.free.items c.args.self.live.items c.requires.examined c.next_record-target.result c.in-Ok.gaps c.in-Ok.ensures.ok c.next_record-target.ensures in
-    c.begun.ensures ∙ (λ i. record { geometry = c.args.self.geometry; ruling = same i; next = c.args.self.ruling.dirty; free = c.args.self.free; live = c.args.self.live; places = c.args.self.places })
+returns-in-Ok-write_record-clause-ok g c = grind (arith, target-is)
