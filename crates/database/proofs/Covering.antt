@@ -1,17 +1,16 @@
 -- What the steps of a commit come to.
-use Rattle.std.proofs.Common.{◌≡◌, ℕ, ◌+◌, Bool, true, false, cond, List, [], ◌∷◌, ◌++◌, Option, Some, None, refl, sym, ◌∙◌, ap, subst}
+use Rattle.std.proofs.Common.{◌≡◌, ℕ, ◌+◌, Bool, true, false, cond, List, [], ◌∷◌, ◌++◌, Option, Some, None, refl, sym, ◌∙◌, ap, subst, arith}
 use Rattle.std.specs.Prelude.{⊤, replicate, Result, Ok, Err, IsTrue, is_some}
 use Rattle.std.proofs.lemmas.List.{replicate_more}
 use Rattle.base.specs.declared.fault.Fault.{Fault}
 use Rattle.base.specs.declared.step.Step.{Step}
 use Rattle.base.specs.declared.step.Step.TheVariants.{Draw, Stamp, Poll, End}
 use Rattle.base.specs.declared.step.Reply.{Reply}
-use Rattle.base.specs.declared.step.Reply.TheVariants.{Committed, Waiting, Done, More, Drawn as DrewAs}
-use Rattle.base.specs.declared.step.Reply.TheVariants as reply
+use Rattle.base.specs.declared.step.Reply.TheVariants.{Done, More, Drawn as DrewAs}
 use Rattle.base.specs.Commits.{Writes}
 use Rattle.base.specs.Lists.{is_nil}
 use Rattle.base.specs.Stands.{has_timestamp}
-use Rattle.machine.specs.Machine.{State, Session, Active, Drew, WroteNothing, Stepped, refused, answered, memory_refused, device_failed, polled, writes_of, state_drawn, final}
+use Rattle.machine.specs.Machine.{State, Session, Stepped, polled, state_drawn, final}
 use Rattle.pmem.specs.Device.{Device, IsOrderly}
 use Rattle.pmem.specs.declared.device.Pmem.{Ghosts}
 use Rattle.room.specs.declared.room.Room.{Room}
@@ -67,21 +66,7 @@ answered-then state old mid new step answer repeats leads = (
 
 -- a stamp leaves more keys only where its reply is that
 is_more : (answer : Reply) → Ok false ≡ stamped_of answer → answer ≡ More
-is_more reply.More e = refl
-is_more reply.Stamped e = absurd (cc e)
-is_more reply.Done e = absurd (cc e)
-is_more reply.Waiting e = absurd (cc e)
-is_more reply.Idle e = absurd (cc e)
-is_more reply.SweepEnd e = absurd (cc e)
-is_more (reply.Began n) e = absurd (cc e)
-is_more (reply.Row row) e = absurd (cc e)
-is_more (reply.Rows rows) e = absurd (cc e)
-is_more (reply.Drawn t) e = absurd (cc e)
-is_more (reply.Committed t) e = absurd (cc e)
-is_more (reply.Ticked stage) e = absurd (cc e)
-is_more (reply.Covered batch) e = absurd (cc e)
-is_more (reply.Visited slot) e = absurd (cc e)
-is_more (reply.Refused fault) e = absurd (cc e)
+is_more a e = grind (arith)
 
 pub stamps-more : {D : Type 0} → {G : Ghosts D} → (state : D → Device) (old mid new : Room D G) (n : ℕ)
     → RepeatsAnswered state old mid (Stamp n) More → Obeys state mid new (Stamp n) stamped_of (Ok false) → RepeatsAnswered state old new (Stamp n) More
@@ -120,56 +105,32 @@ reported_time (Ok None) = 0
 reported_time (Err fault) = 0
 
 no_time : {A : Type 0} → true ≡ false → A
-no_time e = absurd (apart e)
-  where
-    apart : true ≡ false → ⊥
-    apart h = cc
+no_time e = grind (arith)
 
 abbrev told : ℕ → Result (Option ℕ) Fault
 told t = Ok (Some t)
 
 polled_covered : (q : State) (session : Option Session) (t : ℕ) → told t ≡ committed_of (polled q session) → has_timestamp q.history t ≡ true
-polled_covered q None t is = no_time (ap is_reported is)
-polled_covered q (Some (Active begun writes)) t is = no_time (ap is_reported is)
-polled_covered q (Some WroteNothing) t is = no_time (ap is_reported is)
-polled_covered q (Some (Drew t')) t is = by_test (has_timestamp q.history t') refl is
-  where
-    by_test : (b : Bool) → has_timestamp q.history t' ≡ b → told t ≡ committed_of (cond b (Committed t') Waiting) → has_timestamp q.history t ≡ true
-    by_test true e is' = ap (λ (n : ℕ). has_timestamp q.history n) (ap reported_time is') ∙ e
-    by_test false e is' = no_time (ap is_reported is')
+polled_covered q a t is = grind (arith, no_time)
 
 -- a poll that reports a timestamp finds it covered
 covered_by_poll : (q q' : State) (n t : ℕ) (reply : Reply) → Stepped q (Poll n) reply q' → told t ≡ committed_of reply → has_timestamp q'.history t ≡ true
-covered_by_poll q q' n t reply (refused fault why is same) tells = no_time (ap is_reported (tells ∙ ap committed_of is))
-covered_by_poll q q' n t reply (answered none is same) tells = subst (λ (s : State). has_timestamp s.history t ≡ true) (sym same) (polled_covered q (q.sessions n) t (tells ∙ ap committed_of is))
-covered_by_poll q q' n t reply (memory_refused none takes is same) tells = no_time (sym takes)
-covered_by_poll q q' n t reply (device_failed none operates is same) tells = no_time (sym operates)
+covered_by_poll q q' n t reply a tells = grind (arith, no_time, polled_covered)
 
 -- a poll changes nothing
 same_by_poll : (q q' : State) (n : ℕ) (reply : Reply) → Stepped q (Poll n) reply q' → q' ≡ q
-same_by_poll q q' n reply (refused fault why is same) = same
-same_by_poll q q' n reply (answered none is same) = same
-same_by_poll q q' n reply (memory_refused none takes is same) = same
-same_by_poll q q' n reply (device_failed none operates is same) = no_time (sym operates)
+same_by_poll q q' n reply a = grind (arith, no_time)
 
 pub stays-polled : {D A : Type 0} → {G : Ghosts D} → (state : D → Device) (old new : Room D G) (n : ℕ) (read : Reply → Result A Fault) (result : Result A Fault)
     → Obeys state old new (Poll n) read result → (q : State) → Shows state old q → Shows state new q
-stays-polled state old new n read result obeys q shows =
-    let a = obeys.1 q shows in
-    subst (λ (s : State). Shows state new s) (same_by_poll q a.0 n obeys.0 a.1.stepped) a.1.shows
+stays-polled state old new n read result obeys q shows = grind (arith, same_by_poll q (obeys.1 q shows).0 n obeys.0 (obeys.1 q shows).1.stepped)
 
 -- an end leaves the history and what is drawn as they are
 history_by_end : (q q' : State) (n : ℕ) (reply : Reply) → Stepped q (End n) reply q' → q'.history ≡ q.history
-history_by_end q q' n reply (refused fault why is same) = ap (λ (s : State). s.history) same
-history_by_end q q' n reply (answered none is same) = ap (λ (s : State). s.history) same
-history_by_end q q' n reply (memory_refused none takes is same) = ap (λ (s : State). s.history) same
-history_by_end q q' n reply (device_failed none operates is same) = ap (λ (s : State). s.history) same
+history_by_end q q' n reply a = grind (arith)
 
 drawn_by_end : (q q' : State) (n : ℕ) (reply : Reply) → Stepped q (End n) reply q' → q'.drawn ≡ q.drawn
-drawn_by_end q q' n reply (refused fault why is same) = ap (λ (s : State). s.drawn) same
-drawn_by_end q q' n reply (answered none is same) = ap (λ (s : State). s.drawn) same
-drawn_by_end q q' n reply (memory_refused none takes is same) = ap (λ (s : State). s.drawn) same
-drawn_by_end q q' n reply (device_failed none operates is same) = ap (λ (s : State). s.drawn) same
+drawn_by_end q q' n reply a = grind (arith)
 
 -- a poll that reported a timestamp, and an end
 pub covers-finish : {D A : Type 0} → {G : Ghosts D} → (state : D → Device) (old mid new : Room D G) (n t : ℕ) (polls : Result (Option ℕ) Fault) (read : Reply → Result A Fault) (result : Result A Fault)
@@ -197,17 +158,10 @@ history_for q n [] = refl
 history_for q n (write ∷ writes) = refl
 
 drawn_by_draw : (q q' : State) (n : ℕ) (reply : Reply) → Stepped q (Draw n) reply q' → has_drawn (drawn_of reply) ≡ false → q'.drawn ≡ q.drawn
-drawn_by_draw q q' n reply (refused fault why is same) none = ap (λ (s : State). s.drawn) same
-drawn_by_draw q q' n reply (answered free is same) none =
-    ap (λ (s : State). s.drawn) same ∙ drawn_for q n (writes_of (q.sessions n)) (ap (λ (r : Reply). has_drawn (drawn_of r)) (sym is) ∙ none)
-drawn_by_draw q q' n reply (memory_refused free takes is same) none = ap (λ (s : State). s.drawn) same
-drawn_by_draw q q' n reply (device_failed free operates is same) none = ap (λ (s : State). s.drawn) same
+drawn_by_draw q q' n reply a none = grind (arith, drawn_for)
 
 history_by_draw : (q q' : State) (n : ℕ) (reply : Reply) → Stepped q (Draw n) reply q' → q'.history ≡ q.history
-history_by_draw q q' n reply (refused fault why is same) = ap (λ (s : State). s.history) same
-history_by_draw q q' n reply (answered free is same) = ap (λ (s : State). s.history) same ∙ history_for q n (writes_of (q.sessions n))
-history_by_draw q q' n reply (memory_refused free takes is same) = ap (λ (s : State). s.history) same
-history_by_draw q q' n reply (device_failed free operates is same) = ap (λ (s : State). s.history) same
+history_by_draw q q' n reply a = grind (arith, history_for)
 
 -- a draw that was refused
 pub nothing-refused : {D : Type 0} → {G : Ghosts D} → (state : D → Device) (old new : Room D G) (n : ℕ) (fault : Fault)

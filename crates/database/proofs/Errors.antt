@@ -1,5 +1,5 @@
 -- What the error of a commit says.
-use Rattle.std.proofs.Common.{◌≡◌, ◌≢◌, ◌⊎◌, ◌↔◌, ◌≤◌, inl, inr, ℕ, Bool, true, false, List, [], ◌∷◌, length, leb, le-leb, leb-true, refl, sym, subst, arith}
+use Rattle.std.proofs.Common.{◌≡◌, ◌≢◌, ◌⊎◌, ◌↔◌, ◌≤◌, inl, inr, ℕ, Bool, false, List, [], ◌∷◌, length, leb, le-leb, leb-true, refl, sym, subst, arith}
 use mathlib.Core.HLevel.{⊥_prop}
 use Rattle.std.specs.Prelude.{⊤, Option, Some, None, IfSome, is_some, IsTrue, Result, Ok, Err}
 use Rattle.std.specs.Result.{ForOk, ForErr}
@@ -36,9 +36,7 @@ use Rattle.database.proofs.Reporting.{polled_so}
 -- ---- a tick that is refused
 
 by-tests : (failed past : Bool) (fault : Fault) → option_or (some_if failed Failed) (option_or (some_if past TimestampsOut) None) ≡ Some fault → IsLast fault
-by-tests true past fault e = let same : fault ≡ Failed = cc e in inr (inr same)
-by-tests false true fault e = let same : fault ≡ TimestampsOut = cc e in inl same
-by-tests false false fault e = absurd (cc e)
+by-tests a past fault e = grind (arith)
 
 is-last : (q q' : State) (fault : Fault) (reply : Reply) → Stepped q CommitTick reply q' → reply ≡ RefusedWith fault → fault ≢ OutOfMemory → IsLast fault
 is-last q q' fault reply (refused f why is same) told other = let same_fault : f ≡ fault = cc (sym is, told) in subst IsLast same_fault (by-tests q.failed _ f why)
@@ -130,17 +128,14 @@ stops-after {D} {G} {ended} state old new session refusals error run polls gives
 
 -- what is kept of a commit says what became of it
 pub answered-so : (session : ℕ) (result : Result ℕ CommitError) → ForOk result (IsAcknowledged session) → ForErr result (GivesUp session) → IsAnswered session result
-answered-so session (Ok t) told why = told t refl
-answered-so session (Err error) told why = why error refl
+answered-so session a told why = grind (arith)
 
 -- and of the commit with this timestamp, where it is its answer
 pub answered-at : (session t : ℕ) (answer : Result ℕ CommitError) (result : Result ⊤ CommitError) → IsAnswered session answer → AnswersTo t answer result → IsAnsweredAt session t result
-answered-at session t answer (Ok done) is to = subst (IsAnswered session) to is
-answered-at session t answer (Err error) is to = subst (IsAnswered session) to is
+answered-at session t answer a is to = grind (arith)
 
 pub answered-if : (session t : ℕ) (answer : Result ℕ CommitError) (result : Option (Result ⊤ CommitError)) → IsAnswered session answer → IfSome result (AnswersTo t answer) → IfSome result (IsAnsweredAt session t)
-answered-if session t answer None is to = tt
-answered-if session t answer (Some result) is to = answered-at session t answer result is to
+answered-if session t answer a is to = grind (arith, answered-at)
 
 -- its poll, or its end, was refused
 pub finish-refused : {D : Type 0} {G : Ghosts D} {ended : Option Fault} (state : D → Device) (old new : Room D G) (session : ℕ) (fault : Fault) → ∥ HasRun state old ended ∥₁
@@ -169,14 +164,8 @@ settled-exact {D} {G} state there room t status is going told =
     settles persisted same (inl ended) = absurd (cc (sym ended, going))
     settles persisted same (inr less) = le-leb t status.persisted (subst (λ (n : ℕ). t ≤ n) (sym same) less)
 
-not-last : (fault : Fault) (key : Key) → fault ≡ Conflict key → IsLast fault → ⊥
-not-last fault key e (inl out) = absurd (cc (sym e, out))
-not-last fault key e (inr (inl device)) = absurd (cc (sym e, device))
-not-last fault key e (inr (inr failed)) = absurd (cc (sym e, failed))
-
 not-given-up : (session : ℕ) (fault : Fault) (key : Key) → fault ≡ Conflict key → StopsAfter session (Refused fault) ⊎ StopsAtEnd session (Refused fault) → ⊥
-not-given-up session fault key e (inl stops) = absurd (cc (sym e, stops.0))
-not-given-up session fault key e (inr never) = absurd never
+not-given-up session fault key e a = grind (arith)
 
 -- a conflict is reported where the draw was refused so
 pub tells-refusal : (session : ℕ) (error : CommitError) → ReportsError session error → ReportsRefusal session error

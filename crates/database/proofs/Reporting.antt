@@ -1,5 +1,5 @@
 -- What a put and a commit make of a run from an opening.
-use Rattle.std.proofs.Common.{inl, inr, ℕ, ◌-◌, List, [], ◌∷◌, ◌++◌, refl, sym, ◌∙◌, ap, subst, ◌≡◌}
+use Rattle.std.proofs.Common.{inl, inr, ℕ, ◌-◌, List, [], ◌∷◌, ◌++◌, refl, sym, ap, ◌≡◌, arith}
 use Rattle.std.specs.Prelude.{⊤, Option, Some, None, Result, Ok, Err, IfOk, IfErr, replicate}
 use Rattle.std.proofs.lemmas.List.{append-nil, append_assoc}
 use Rattle.base.specs.declared.fault.Fault.{Fault}
@@ -68,21 +68,9 @@ write-along state old new session key None result one =
 -- writes that were all made, and others after them
 are-writes-join : (session : ℕ) (done others : List (Key × Option (List ℕ))) (result : Result ⊤ Fault) (steps more : List Step) (replies later : List Reply)
     → AreWrites session done (Ok tt) steps replies → AreWrites session others result more later → AreWrites session (done ++ others) result (steps ++ more) (replies ++ later)
-are-writes-join session [] others result steps more replies later (is, none, nothing) two =
-    subst (λ (s : List Step). AreWrites session others result (s ++ more) (replies ++ later)) (sym none)
-    (subst (λ (r : List Reply). AreWrites session others result more (r ++ later)) (sym nothing) two)
+are-writes-join session [] others result steps more replies later (is, none, nothing) two = grind (arith)
 are-writes-join session (write ∷ done) others result steps more replies later (inl (fault, is, made)) two = absurd (cc is)
-are-writes-join session (write ∷ done) others result steps more replies later (inr (first, rest, told, after, s, r, made, one)) two =
-    inr (
-      first,
-      rest ++ more,
-      told,
-      after ++ later,
-      ap (λ (l : List Step). l ++ more) s ∙ append_assoc first rest more,
-      ap (λ (l : List Reply). l ++ later) r ∙ append_assoc told after later,
-      made,
-      are-writes-join session done others result rest more after later one two,
-    )
+are-writes-join session (write ∷ done) others result steps more replies later (inr (first, rest, told, after, s, r, made, one)) two = grind (arith, append_assoc first rest more, append_assoc told after later, are-writes-join session done others result rest more after later one two)
 
 -- one more, which is made
 pub writes-more : {D : Type 0} {G : Ghosts D} (state : D → Device) (old mid new : Room D G) (session : ℕ) (done : List (Key × Option (List ℕ))) (write : Key × Option (List ℕ))

@@ -1,5 +1,5 @@
 -- What calls of a session add to what was acknowledged and drawn, and why a thread gives up.
-use Rattle.std.proofs.Common.{◌≡◌, ◌⊎◌, ℕ, ◌+◌, ◌≤◌, Bool, true, false, List, [], ◌∷◌, ◌++◌, Option, Some, None, length, drop, inl, inr, refl, sym, ap, ◌∙◌, subst, append_assoc, arith}
+use Rattle.std.proofs.Common.{◌≡◌, ◌⊎◌, ℕ, ◌+◌, ◌≤◌, Bool, true, false, List, [], ◌∷◌, ◌++◌, Option, Some, None, inl, inr, refl, sym, ap, ◌∙◌, subst, append_assoc, arith}
 use Rattle.std.specs.Prelude.{◌≢◌, All, Err, IfErr, IfOk, Ok, OnOk, Result, if◌then◌else◌, is_some, slice_index_or, ⊤}
 use Rattle.std.proofs.Math.Seq.{drop-append_seam}
 use Rattle.std.proofs.lemmas.Bool.{false≢true}
@@ -8,9 +8,9 @@ use Rattle.base.specs.declared.fault.Fault.{Fault}
 use Rattle.base.specs.declared.fault.Fault.TheVariants.{OutOfMemory, WrongState}
 use Rattle.base.specs.declared.key.Key.{Key}
 use Rattle.base.specs.declared.step.Step.{Step}
-use Rattle.base.specs.declared.step.Step.TheVariants.{Abort, Begin, Collect, Commit as Tick, Delete, Draw, End, Get, Poll, Put, Scan, Stamp}
+use Rattle.base.specs.declared.step.Step.TheVariants.{Abort, Begin, Draw, End, Poll, Put, Stamp}
 use Rattle.base.specs.declared.step.Note.{Note}
-use Rattle.base.specs.declared.step.Note.TheVariants.{Began, Committed, Covered as CoveredBy, Done, Drawn as DrewAs, Idle as IsIdle, More, Refused, Row, Rows, Stamped as AllStamped, SweepEnd, Ticked, Visited, Waiting}
+use Rattle.base.specs.declared.step.Note.TheVariants.{Began, Committed, Done, Refused}
 use Rattle.audited.specs.declared.receipt.Receipt.{Receipt}
 use Rattle.engine.specs.declared.phase.Phase.{Phase}
 use Rattle.engine.specs.declared.phase.Phase.TheVariants.{Idle, Active, Drawn, Stamped, Covered}
@@ -65,15 +65,7 @@ leaves-same : (old new : List Receipt) → new ≡ old → LeavesAll old new
 leaves-same old new is = record { acknowledges = ap acknowledged is; drawn = ap draws is }
 
 asked-plain : (old new : List Receipt) (step : Step) (note : Note) → IsPlain step → Asks old new step note → LeavesAll old new
-asked-plain old new step note plain a =
-    let ended : ended_of a.receipt.step a.receipt.note ≡ None = ap (λ (s : Step). ended_of s a.receipt.note) a.asked ∙ plain.ends a.receipt.note in
-    let drew : has_drawn a.receipt.step a.receipt.note ≡ false = ap (λ (s : Step). has_drawn s a.receipt.note) a.asked ∙ plain.draws a.receipt.note in
-    let none : ends (a.receipt ∷ []) ≡ 0 = count-one (λ r. is_some (ended_of r.step r.note)) a.receipt ∙ ap (λ (o : Option ℕ). if is_some o then 1 else 0) ended in
-    let nothing : draws (a.receipt ∷ []) ≡ 0 = count-one (λ r. has_drawn r.step r.note) a.receipt ∙ ap (λ (b : Bool). if b then 1 else 0) drew in
-    record {
-      acknowledges = ap acknowledged a.added ∙ acknowledged-none old (a.receipt ∷ []) none;
-      drawn = ap draws a.added ∙ omega (arith, draws-append old (a.receipt ∷ []), nothing);
-    }
+asked-plain old new step note plain a = grind (arith, ends, count-one, acknowledged-none, draws-append)
 
 refused-plain : (old new : List Receipt) (step : Step) (fault : Fault) → IsPlain step → Refuses old new step fault → LeavesAll old new
 refused-plain old new step fault plain (inl (same, memory)) = leaves-same old new same
@@ -141,18 +133,10 @@ draw-ends n r is = ap (λ (s : Step). ended_of s r.note) is
 
 -- a prepare ends nothing, and draws where nothing was drawn before
 prepare-ends : (phase : Phase) (xs : List Receipt) → AskPrepare phase xs → ends xs ≡ 0
-prepare-ends Idle xs none = ap ends none
-prepare-ends (Active n) xs (inl none) = ap ends none
-prepare-ends (Active n) xs (inr (r, rest, is, drew, stamps)) =
-    let first : ◌≡◌ {A = ℕ} (if is_some (ended_of r.step r.note) then 1 else 0) 0 = ap {B = ℕ} (λ (o : Option ℕ). if is_some o then 1 else 0) (draw-ends n r drew) in
-    omega (arith, ap ends is, ends-cons r rest, first, stamps-ends n rest stamps)
-prepare-ends (Drawn n t) xs stamps = stamps-ends n xs stamps
-prepare-ends (Stamped n t) xs none = ap ends none
-prepare-ends (Covered n) xs none = ap ends none
+prepare-ends a xs none = grind (arith, ends, draw-ends, ends-cons, stamps-ends)
 
 one-at-most : (b : Bool) → (if b then 1 else 0) ≤ 1
-one-at-most true = omega arith
-one-at-most false = omega arith
+one-at-most a = grind (arith)
 
 prepare-draws : (phase : Phase) (xs : List Receipt) → AskPrepare phase xs → draws xs + pending phase ≤ 1
 prepare-draws Idle xs none = omega (arith, ap draws none)
@@ -163,22 +147,10 @@ prepare-draws (Stamped n t) xs none = omega (arith, ap draws none)
 prepare-draws (Covered n) xs none = omega (arith, ap draws none)
 
 asked-draws : (phase : Phase) (added : List Receipt) (asks : AskCommit phase added) → draws added ≡ draws asks.prepare
-asked-draws phase added asks =
-    ap draws asks.is
-    ∙ omega (arith, draws-append asks.prepare (asks.polls ++ asks.end), draws-append asks.polls asks.end, polls-draws (number_of phase) asks.polls asks.all_polls, ends-draws (number_of phase) asks.end asks.ends)
+asked-draws phase added asks = grind (arith, draws-append asks.prepare (asks.polls ++ asks.end), draws-append asks.polls asks.end, polls-draws (number_of phase) asks.polls asks.all_polls, ends-draws (number_of phase) asks.end asks.ends)
 
 asked-ends : (phase : Phase) (added : List Receipt) (asks : AskCommit phase added) → ends added ≤ 1
-asked-ends phase added asks =
-    omega (
-      arith,
-      ap ends asks.is,
-      ends-append asks.prepare (asks.polls ++ asks.end),
-      ends-append asks.polls asks.end,
-      prepare-ends phase asks.prepare asks.asks,
-      polls-ends (number_of phase) asks.polls asks.all_polls,
-      ends-short asks.end,
-      asks.one_end,
-    )
+asked-ends phase added asks = grind (arith, ends, ends-append, prepare-ends, polls-ends, ends-short)
 
 -- ---- a commit that answers a timestamp
 
@@ -215,32 +187,7 @@ commit-some p q first old new (Some t) earlier called is = none-then-one p q fir
 -- ---- a commit that fails
 
 undone : (s : Step) (note : Note) → ((n : ℕ) → s ≡ End n → note ≢ Done) → is_some (ended_of s note) ≡ false
-undone (End n) Done still = absurd (still n refl refl)
-undone (End n) (Began k) still = refl
-undone (End n) (Row k) still = refl
-undone (End n) (Rows k) still = refl
-undone (End n) (DrewAs k) still = refl
-undone (End n) More still = refl
-undone (End n) AllStamped still = refl
-undone (End n) Waiting still = refl
-undone (End n) (Committed k) still = refl
-undone (End n) IsIdle still = refl
-undone (End n) (Ticked k) still = refl
-undone (End n) (CoveredBy k) still = refl
-undone (End n) (Visited k) still = refl
-undone (End n) SweepEnd still = refl
-undone (End n) (Refused k) still = refl
-undone Begin note still = refl
-undone (Get n k) note still = refl
-undone (Scan n t k l) note still = refl
-undone (Put n k r) note still = refl
-undone (Delete n k) note still = refl
-undone (Draw n) note still = refl
-undone (Stamp n) note still = refl
-undone (Poll n) note still = refl
-undone (Abort n) note still = refl
-undone Tick note still = refl
-undone Collect note still = refl
+undone a note still = grind (arith)
 
 unended-ends : (xs : List Receipt) → AreUnended xs → ends xs ≡ 0
 unended-ends xs all = none-counted (λ r. is_some (ended_of r.step r.note)) xs (λ k d less. undone (slice_index_or xs k d).step (slice_index_or xs k d).note (all k d less))
@@ -255,62 +202,16 @@ all-keep phase (r ∷ rs) all =
     omega (arith, (All-head Keeps r rs all).stays phase, all-keep (phase_after_step phase r.step r.note) rs (All-tail Keeps r rs all))
 
 pending-at-most : (phase : Phase) → pending phase ≤ 1
-pending-at-most Idle = omega arith
-pending-at-most (Active n) = omega arith
-pending-at-most (Drawn n t) = omega arith
-pending-at-most (Stamped n t) = omega arith
-pending-at-most (Covered n) = omega arith
+pending-at-most a = grind (arith)
 
 stamp-keeps : (n : ℕ) (phase : Phase) (note : Note) → pending phase ≤ pending (phase_after_step phase (Stamp n) note)
-stamp-keeps n phase AllStamped = pending-at-most phase
-stamp-keeps n phase Done = omega arith
-stamp-keeps n phase (Began k) = omega arith
-stamp-keeps n phase (Row k) = omega arith
-stamp-keeps n phase (Rows k) = omega arith
-stamp-keeps n phase (DrewAs k) = omega arith
-stamp-keeps n phase More = omega arith
-stamp-keeps n phase Waiting = omega arith
-stamp-keeps n phase (Committed k) = omega arith
-stamp-keeps n phase IsIdle = omega arith
-stamp-keeps n phase (Ticked k) = omega arith
-stamp-keeps n phase (CoveredBy k) = omega arith
-stamp-keeps n phase (Visited k) = omega arith
-stamp-keeps n phase SweepEnd = omega arith
-stamp-keeps n phase (Refused k) = omega arith
+stamp-keeps n phase a = grind (arith, pending-at-most)
 
 end-keeps : (n : ℕ) (phase : Phase) (note : Note) → note ≢ Done → pending phase ≤ pending (phase_after_step phase (End n) note)
-end-keeps n phase Done still = absurd (still refl)
-end-keeps n phase AllStamped still = omega arith
-end-keeps n phase (Began k) still = omega arith
-end-keeps n phase (Row k) still = omega arith
-end-keeps n phase (Rows k) still = omega arith
-end-keeps n phase (DrewAs k) still = omega arith
-end-keeps n phase More still = omega arith
-end-keeps n phase Waiting still = omega arith
-end-keeps n phase (Committed k) still = omega arith
-end-keeps n phase IsIdle still = omega arith
-end-keeps n phase (Ticked k) still = omega arith
-end-keeps n phase (CoveredBy k) still = omega arith
-end-keeps n phase (Visited k) still = omega arith
-end-keeps n phase SweepEnd still = omega arith
-end-keeps n phase (Refused k) still = omega arith
+end-keeps n phase a still = grind (arith)
 
 draw-keeps : (n k : ℕ) (note : Note) → (if has_drawn (Draw k) note then 1 else 0) ≤ pending (phase_after_step (Active n) (Draw k) note)
-draw-keeps n k (DrewAs t) = omega arith
-draw-keeps n k Done = omega arith
-draw-keeps n k AllStamped = omega arith
-draw-keeps n k (Began t) = omega arith
-draw-keeps n k (Row t) = omega arith
-draw-keeps n k (Rows t) = omega arith
-draw-keeps n k More = omega arith
-draw-keeps n k Waiting = omega arith
-draw-keeps n k (Committed t) = omega arith
-draw-keeps n k IsIdle = omega arith
-draw-keeps n k (Ticked t) = omega arith
-draw-keeps n k (CoveredBy t) = omega arith
-draw-keeps n k (Visited t) = omega arith
-draw-keeps n k SweepEnd = omega arith
-draw-keeps n k (Refused t) = omega arith
+draw-keeps n k a = grind (arith)
 
 keeps-as : (step : Step) (r : Receipt) → r.step ≡ step → ((phase : Phase) → pending phase ≤ pending (phase_after_step phase step r.note)) → Keeps r
 keeps-as step r is keeps = record { stays = λ phase. subst (λ (s : Step). pending phase ≤ pending (phase_after_step phase s r.note)) (sym is) (keeps phase) }
@@ -328,12 +229,7 @@ ends-keep n xs all still =
 prepare-keeps : (phase : Phase) (xs : List Receipt) → AskPrepare phase xs → draws xs + pending phase ≤ pending (phase_after phase xs)
 prepare-keeps Idle xs none = omega (arith, ap draws none)
 prepare-keeps (Active n) xs (inl none) = omega (arith, ap draws none)
-prepare-keeps (Active n) xs (inr (r, rest, is, drew, stamps)) =
-    let drawn : (if has_drawn r.step r.note then 1 else 0) ≤ pending (phase_after_step (Active n) r.step r.note) =
-    subst (λ (s : Step). (if has_drawn s r.note then 1 else 0) ≤ pending (phase_after_step (Active n) s r.note)) (sym drew) (draw-keeps n n r.note) in
-    let later : pending (phase_after_step (Active n) r.step r.note) ≤ pending (phase_after (phase_after_step (Active n) r.step r.note) rest) =
-    all-keep (phase_after_step (Active n) r.step r.note) rest (stamps-keep n rest stamps) in
-    omega (arith, ap draws is, draws-cons r rest, stamps-draws n rest stamps, drawn, later, ap (λ (rs : List Receipt). pending (phase_after (Active n) rs)) is)
+prepare-keeps (Active n) xs (inr (r, rest, is, drew, stamps)) = grind (arith, draw-keeps n n r.note, all-keep (phase_after_step (Active n) r.step r.note) rest (stamps-keep n rest stamps), stamps-keep n rest stamps, draws-cons r rest, stamps-draws n rest stamps)
 prepare-keeps (Drawn n t) xs stamps = omega (arith, stamps-draws n xs stamps, all-keep (Drawn n t) xs (stamps-keep n xs stamps))
 prepare-keeps (Stamped n t) xs none = omega (arith, ap draws none, ap (λ (rs : List Receipt). pending (phase_after (Stamped n t) rs)) none)
 prepare-keeps (Covered n) xs none = omega (arith, ap draws none)
@@ -352,21 +248,11 @@ asked-keeps phase added asks still =
     omega (arith, asked-draws phase added asks, prepare-keeps phase asks.prepare asks.asks, all-keep (phase_after phase asks.prepare) later keep, ap pending there)
 
 declined-there : (Halted : Fault → Type 0) (phase : Phase) (added : List Receipt) (fault : Fault) → phase ≢ Idle → DeclinesCall Halted phase added fault → ReportsEnd Halted added fault × AreUnended added
-declined-there Halted Idle added fault there declined = absurd (there refl)
-declined-there Halted (Active n) added fault there declined = declined
-declined-there Halted (Drawn n t) added fault there declined = declined
-declined-there Halted (Stamped n t) added fault there declined = declined
-declined-there Halted (Covered n) added fault there declined = declined
+declined-there a b added fault there declined = grind (arith)
 
 pub commit-none : (Halted : Fault → Type 0) (p q : Phase) (old new : List Receipt) (fault : Fault) → p ≢ Idle → Called old new (λ added. AskCommit p added × DeclinesCall Halted p added fault)
     → q ≡ phase_after p (added_since old new) → MakesNone p old q new
-commit-none Halted p q old new fault there called is =
-    let still = (declined-there Halted p called.added fault there called.holds.1).1 in
-    let since : added_since old new ≡ called.added = ap (drop (length old)) called.is ∙ drop-append_seam old called.added in
-    record {
-      acknowledges = ap acknowledged called.is ∙ acknowledged-none old called.added (unended-ends called.added still);
-      drawn = omega (arith, ap draws called.is, draws-append old called.added, asked-keeps p called.added called.holds.0 still, ap pending (is ∙ ap (phase_after p) since));
-    }
+commit-none Halted p q old new fault there called is = grind (arith, declined-there, drop-append_seam, acknowledged-none, unended-ends, draws-append, asked-keeps)
 
 -- ---- a call is refused
 
@@ -402,22 +288,12 @@ reports-nothing phase old new answer Asked none called =
 -- ---- a thread gives up
 
 no-memory : (fault : Fault) → may_pass fault ≡ false → fault ≡ OutOfMemory → ⊥
-no-memory fault final memory = apart (sym (ap may_pass memory) ∙ final)
-  where
-    apart : true ≡ false → ⊥
-    apart h = cc
+no-memory fault final memory = grind (arith)
 
 pub final-refused : (Refused' : Type 0) (fault : Fault) → may_pass fault ≡ false → (fault ≡ OutOfMemory) ⊎ Refused' → Refused'
-final-refused R fault final (inl memory) = absurd (no-memory fault final memory)
-final-refused R fault final (inr is) = is
+final-refused a fault final b = grind (arith, no-memory)
 
 -- after a step back that failed
 pub gives-up : (Halted : Fault → Type 0) (mid new : List Receipt) (fault why : Fault) → (fault ≡ OutOfMemory) ⊎ (((fault ≡ WrongState) × ReportsNothing mid) ⊎ IsRefusedWith Halted mid fault)
     → (may_pass why ≡ false) × (((why ≡ fault) × (new ≡ mid)) ⊎ ReportsLast new (Refused why)) → GivesUp Halted new why
-gives-up Halted mid new fault why is (final, inr last) = record { is_final = final; why = inr (inl last) }
-gives-up Halted mid new fault why is (final, inl (same, kept)) = record {
-  is_final = final;
-  why = subst (λ (f : Fault). ((f ≡ WrongState) × ReportsNothing new) ⊎ IsRefusedWith Halted new f) (sym same)
-      (subst (λ (rs : List Receipt). ((fault ≡ WrongState) × ReportsNothing rs) ⊎ IsRefusedWith Halted rs fault) (sym kept)
-      (final-refused (((fault ≡ WrongState) × ReportsNothing mid) ⊎ IsRefusedWith Halted mid fault) fault (ap may_pass (sym same) ∙ final) is));
-}
+gives-up a mid new fault why is b = grind (arith, final-refused)

@@ -41,16 +41,13 @@ ends-short receipts = count_by-le-length (λ (r : Receipt). is_some (ended_of r.
 -- ---- no end was done
 
 none-first : (o : Option ℕ) (n : ℕ) → (if is_some o then 1 else 0) + n ≡ 0 → o ≡ None
-none-first None n h = refl
-none-first (Some k) n h = absurd (omega (arith, h))
+none-first a n h = grind (arith)
 
 none-rest : (b : Bool) (n : ℕ) → (if b then 1 else 0) + n ≡ 0 → n ≡ 0
-none-rest true n h = absurd (omega (arith, h))
-none-rest false n h = omega (arith, h)
+none-rest a n h = grind (arith)
 
 same-none : (o : Option ℕ) → is_same o None ≡ false
-same-none None = refl
-same-none (Some n) = refl
+same-none a = grind (arith)
 
 unacknowledged : (r : Receipt) (added : List Receipt) → ends added ≡ 0 → is_acknowledged r added ≡ false
 unacknowledged r [] none = refl
@@ -68,9 +65,7 @@ acknowledged-none [] (e ∷ rest) none =
     let rest-none : ends rest ≡ 0 = none-rest (is_some (ended_of e.step e.note)) (ends rest) (sym (ends-cons e rest) ∙ none) in
     let first : ◌≡◌ {A = ℕ} (if is_acknowledged e rest then 1 else 0) 0 = ap {B = ℕ} (λ (b : Bool). if b then 1 else 0) (unacknowledged e rest rest-none) in
     let others : acknowledged rest ≡ 0 = acknowledged-none [] rest rest-none in omega (arith, first, others)
-acknowledged-none (r ∷ old) added none =
-    ap (λ (b : Bool). (if b then 1 else 0) + acknowledged (old ++ added)) (first-same r old added none)
-    ∙ ap (λ (n : ℕ). (if is_acknowledged r old then 1 else 0) + n) (acknowledged-none old added none)
+acknowledged-none (r ∷ old) added none = grind (arith, first-same, acknowledged-none old added none)
 
 -- ---- an end was done right after a poll
 
@@ -88,8 +83,4 @@ pub acknowledged-one : (xs : List Receipt) (poll end : Receipt) (n : ℕ) → re
     → acknowledged (xs ++ poll ∷ end ∷ []) ≡ acknowledged (xs ++ poll ∷ []) + 1
 acknowledged-one [] poll end n told ended =
     ap (λ (b : Bool). (if b then 1 else 0) + 0) (told-one (reported_to poll.step poll.note) (ended_of end.step end.note) n told ended)
-acknowledged-one (x ∷ xs) poll end n told ended =
-    let first = first-end x xs poll end in
-    let rest = acknowledged-one xs poll end n told ended in
-    ap (λ (b : Bool). (if b then 1 else 0) + acknowledged (xs ++ poll ∷ end ∷ [])) first
-    ∙ omega (arith, rest)
+acknowledged-one (x ∷ xs) poll end n told ended = grind (arith, first-end, acknowledged-one xs poll end n told ended)

@@ -1,5 +1,5 @@
 -- What a load says of the image that it opened.
-use Rattle.std.proofs.Common.{◌≡◌, ℕ, ◌*◌, Bool, true, false, List, [], inr, subst, sym}
+use Rattle.std.proofs.Common.{◌≡◌, ℕ, ◌*◌, Bool, true, false, List, [], inr, subst, sym, arith}
 use Rattle.std.proofs.Math.Logic.{∥∥₁_map}
 use Rattle.std.specs.Prelude.{None, MatchBool}
 use Rattle.base.specs.declared.fault.Fault.{Fault}
@@ -27,18 +27,10 @@ opens-to state image room opening Is may opens says = record {
 }
 
 pub of-true : (b : Bool) (A B : Type 0) → MatchBool b A B → b ≡ true → A
-of-true true A B is e = is
-of-true false A B is e = absurd (apart e)
-  where
-    apart : false ≡ true → ⊥
-    apart h = cc
+of-true a b d is e = grind (arith)
 
 pub of-false : (b : Bool) (A B : Type 0) → MatchBool b A B → b ≡ false → B
-of-false false A B is e = is
-of-false true A B is e = absurd (apart e)
-  where
-    apart : true ≡ false → ⊥
-    apart h = cc
+of-false a b d is e = grind (arith)
 
 pub made-from : {D : Type 0} {G : Ghosts D} (state : D → Device) (image named : Image) (sessions commits : ℕ) (room left : Room D G) (opening : Status) (entries : List (Step × Note))
     → image ≡ named → left ≡ room → ∥ IsAudited state room named opening entries ∥₁ → AreMade sessions commits entries → ∥ HasMadeFrom state image sessions commits left ∥₁
