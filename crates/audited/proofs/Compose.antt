@@ -1,8 +1,8 @@
 -- A history goes on by a step.
-use Rattle.std.proofs.Common.{◌≡◌, ℕ, ◌+◌, ◌<◌, ◌≤◌, List, [], ◌∷◌, ◌++◌, refl, sym, subst, ◌∙◌, arith, inl, inr, Bool, true, false}
-use Rattle.std.specs.Prelude.{Option, Some, None, Contains, nat_lt}
+use Rattle.std.proofs.Common.{◌≡◌, ℕ, ◌<◌, ◌≤◌, List, [], ◌∷◌, ◌++◌, refl, sym, subst, ◌∙◌, arith, inl, inr, Bool, true, false}
+use Rattle.std.specs.Prelude.{Option, None, Contains, nat_lt}
 use Rattle.std.proofs.lemmas.Bool.Decides.{nat_tests}
-use Rattle.std.proofs.lemmas.List.Elements.{Contains-append_left, Contains-append_right, Contains-append_cases}
+use Rattle.std.proofs.lemmas.List.Elements.{Contains-append_cases}
 use Rattle.base.specs.declared.fault.Fault.TheVariants.{OutOfMemory, Device as DeviceFault}
 use Rattle.base.specs.declared.step.Step.{Step}
 use Rattle.base.specs.declared.step.Note.{Note}
@@ -70,12 +70,7 @@ IsAudited-step {D} {G} state room room' image opening entries entries' step repl
 
 -- within a step that leads from a state to itself, images stand as between two steps
 one_of_hand : (q : State) (cover : Cover) (hand : Option Hand) → Contains (of_hand q hand ++ present q ∷ []) cover → Contains (present q ∷ of_hand q hand) cover
-one_of_hand q cover None found = found
-one_of_hand q cover (Some hand) found =
-    elim (Contains-append_cases (of_hand q (Some hand)) (present q ∷ []) cover found) [
-      | inl first ↦ Contains-append_right (present q ∷ []) (of_hand q (Some hand)) cover first
-      | inr last ↦ Contains-append_left (present q ∷ []) (of_hand q (Some hand)) cover last
-    ]
+one_of_hand q cover a found = grind (arith)
 
 StandsWithin-at : (q : State) (image : Image) → StandsWithin q q image → StandsAt q image
 StandsWithin-at q image s =

@@ -1,5 +1,5 @@
 -- Of all that may rule along a run, two with one gate are one.
-use Rattle.std.proofs.Common.{◌≡◌, ◌⊎◌, inl, inr, ℕ, zero, suc, ◌+◌, ◌<◌, ◌≤◌, Bool, true, false, cond, List, [], ◌∷◌, ◌++◌, refl, sym, ◌∙◌, ap, subst, arith}
+use Rattle.std.proofs.Common.{◌≡◌, ◌⊎◌, inl, inr, ℕ, ◌+◌, ◌<◌, ◌≤◌, Bool, true, false, cond, List, [], ◌∷◌, ◌++◌, refl, sym, ◌∙◌, ap, subst, arith}
 use Rattle.std.specs.Prelude.{Option, Some, None, Contains, is_some}
 use Rattle.std.proofs.lemmas.List.Elements.{Contains-append_left, Contains-append_right, Contains-append_cases, Contains-push}
 use Rattle.base.specs.declared.step.Step.{Step}
@@ -68,12 +68,7 @@ no_hand : (hand : Hand) → None ≡ Some hand → ⊥
 no_hand hand e = cc
 
 numbered-after : (q q' : State) → IsNumbered q → Moves q q' → IsNumbered q'
-numbered-after q q' numbered (stays r h same) hand is = numbered hand (sym same ∙ is) ∙ sym (ap (λ (x : Record). x.gate + 1) r)
-numbered-after q q' numbered (takes r h none taken now gate) hand is =
-    sym (ap (λ (x : Hand). x.target.gate) (same_hand taken hand (sym now ∙ is))) ∙ gate ∙ sym (ap (λ (x : Record). x.gate + 1) r)
-numbered-after q q' numbered (ticks r h held count was now) hand is =
-    sym (ap (λ (x : Hand). x.target.gate) (same_hand (record held { ticks = count }) hand (sym now ∙ is))) ∙ numbered held was ∙ sym (ap (λ (x : Record). x.gate + 1) r)
-numbered-after q q' numbered (covers held was r h none) hand is = absurd (no_hand hand (sym none ∙ is))
+numbered-after q q' numbered a hand is = grind (arith, same_hand, no_hand)
 
 -- ---- a cover beside a state
 
@@ -95,20 +90,14 @@ follows-own : (q : State) → IsNumbered q → Follows q (present q)
 follows-own q numbered = record { least = omega arith; own = λ same. refl; batch = λ hand is same. absurd (omega (arith, same, numbered hand is)) }
 
 follows-over : (q : State) → IsNumbered q → (hand : Hand) → q.hand ≡ Some hand → Follows q (over q hand)
-follows-over q numbered hand is = record {
-  least = omega (arith, numbered hand is);
-  own = λ same. absurd (omega (arith, same, numbered hand is));
-  batch = λ other there same. ap (over q) (same_hand hand other (sym is ∙ there));
-}
+follows-over q numbered hand is = grind (arith, same_hand)
 
 follows-at : (q : State) (cover : Cover) → IsNumbered q → IsAt q cover → Follows q cover
-follows-at q cover numbered (inl e) = subst (Follows q) (sym e) (follows-own q numbered)
-follows-at q cover numbered (inr (hand, is, e)) = subst (Follows q) (sym e) (follows-over q numbered hand is)
+follows-at q cover numbered a = grind (arith, follows-own, follows-over)
 
 -- with one gate they are one
 meets : (q : State) (cover other : Cover) → IsAt q cover → Follows q other → cover.ruled_by.gate ≡ other.ruled_by.gate → cover ≡ other
-meets q cover other (inl e) follows same = e ∙ sym (follows.own (sym same ∙ ap (λ (c : Cover). c.ruled_by.gate) e))
-meets q cover other (inr (hand, is, e)) follows same = e ∙ sym (follows.batch hand is (sym same ∙ ap (λ (c : Cover). c.ruled_by.gate) e))
+meets q cover other a follows same = grind (arith)
 
 present-same : (q q' : State) → q'.ruling ≡ q.ruling → q'.history ≡ q.history → present q' ≡ present q
 present-same q q' r h = λ i. record { ruled_by = r i; commits = h i }
@@ -118,16 +107,8 @@ over-same q q' hand h = λ i. record { ruled_by = hand.target; commits = h i ++ 
 
 -- what follows a state follows the one before
 follows-before : (q q' : State) (cover : Cover) → IsNumbered q → Moves q q' → Follows q' cover → Follows q cover
-follows-before q q' cover numbered (stays r h same) follows = record {
-  least = omega (arith, follows.least, ap (λ (x : Record). x.gate) r);
-  own = λ gate. follows.own (gate ∙ sym (ap (λ (x : Record). x.gate) r)) ∙ present-same q q' r h;
-  batch = λ hand is gate. follows.batch hand (same ∙ is) gate ∙ over-same q q' hand h;
-}
-follows-before q q' cover numbered (takes r h none taken now above) follows = record {
-  least = omega (arith, follows.least, ap (λ (x : Record). x.gate) r);
-  own = λ gate. follows.own (gate ∙ sym (ap (λ (x : Record). x.gate) r)) ∙ present-same q q' r h;
-  batch = λ hand is gate. absurd (no_hand hand (sym none ∙ is));
-}
+follows-before q q' cover numbered (stays r h same) follows = grind (arith, present-same, over-same)
+follows-before q q' cover numbered (takes r h none taken now above) follows = grind (arith, present-same, no_hand)
 follows-before q q' cover numbered (ticks r h held count was now) follows = record {
   least = omega (arith, follows.least, ap (λ (x : Record). x.gate) r);
   own = λ gate. follows.own (gate ∙ sym (ap (λ (x : Record). x.gate) r)) ∙ present-same q q' r h;
@@ -135,16 +116,7 @@ follows-before q q' cover numbered (ticks r h held count was now) follows = reco
       let same : held ≡ hand = same_hand held hand (sym was ∙ is) in
       follows.batch (record held { ticks = count }) now (gate ∙ sym (ap (λ (x : Hand). x.target.gate) same)) ∙ over-same q q' held h ∙ ap (over q) same;
 }
-follows-before q q' cover numbered (covers held was r h none) follows = record {
-  least = omega (arith, follows.least, ap (λ (x : Record). x.gate) r, numbered held was);
-  own = λ gate. absurd (omega (arith, gate, follows.least, ap (λ (x : Record). x.gate) r, numbered held was));
-  batch = λ hand is gate.
-      let same : held ≡ hand = same_hand held hand (sym was ∙ is) in
-      follows.own (gate ∙ sym (ap (λ (x : Hand). x.target.gate) same) ∙ sym (ap (λ (x : Record). x.gate) r)) ∙ covered r h ∙ ap (over q) same;
-}
-  where
-    covered : q'.ruling ≡ held.target → q'.history ≡ q.history ++ held.commits → present q' ≡ over q held
-    covered r h = λ i. record { ruled_by = r i; commits = h i }
+follows-before q q' cover numbered (covers held was r h none) follows = grind (arith, same_hand)
 
 -- ---- what lists of covers have
 
@@ -152,18 +124,13 @@ none-of : (cover : Cover) → Contains [] cover → ⊥
 none-of cover (k, within, is) = omega (arith, within)
 
 pub one-of : (only cover : Cover) → Contains (only ∷ []) cover → cover ≡ only
-one-of only cover (zero, within, is) = sym is
-one-of only cover (suc k, within, is) = absurd (omega (arith, within))
+one-of only cover a = grind (arith)
 
 of-hand : (q : State) (hand : Option Hand) (cover : Cover) → Contains (of_hand q hand) cover → (held : Hand) × (hand ≡ Some held) × (cover ≡ over q held)
-of-hand q None cover has = absurd (none-of cover has)
-of-hand q (Some hand) cover has = (hand, refl, one-of (over q hand) cover has)
+of-hand q a cover has = grind (arith, none-of, one-of)
 
 is-at : (q : State) (cover : Cover) → Contains (covers_at q) cover → IsAt q cover
-is-at q cover has = elim (Contains-append_cases (present q ∷ []) (of_hand q q.hand) cover has) [
-  | inl own ↦ inl (one-of (present q) cover own)
-  | inr batch ↦ inr (of-hand q q.hand cover batch)
-]
+is-at q cover has = grind (arith, one-of, of-hand)
 
 pub has-own : (q : State) → Contains (covers_at q) (present q)
 has-own q = Contains-append_left (present q ∷ []) (of_hand q q.hand) (present q) (Contains-push [] (present q))
@@ -173,15 +140,11 @@ has-over q hand is = subst (λ (o : Option Hand). Contains (present q ∷ of_han
     (Contains-append_right (present q ∷ []) (over q hand ∷ []) (over q hand) (Contains-push [] (over q hand)))
 
 has-at : (q : State) (cover : Cover) → IsAt q cover → Contains (covers_at q) cover
-has-at q cover (inl e) = subst (Contains (covers_at q)) (sym e) (has-own q)
-has-at q cover (inr (hand, is, e)) = subst (Contains (covers_at q)) (sym e) (has-over q hand is)
+has-at q cover a = grind (arith, has-own, has-over)
 
 -- what is in hand after a step is laid over what the step leaves
 kept-history : (q q' : State) (hand : Hand) → Moves q q' → q'.hand ≡ Some hand → q'.history ≡ q.history
-kept-history q q' hand (stays r h same) is = h
-kept-history q q' hand (takes r h none taken now above) is = h
-kept-history q q' hand (ticks r h held count was now) is = h
-kept-history q q' hand (covers held was r h none) is = absurd (no_hand hand (sym none ∙ is))
+kept-history q q' hand a is = grind (arith, no_hand)
 
 -- within a step rules what may rule before it or after it
 within-cases : (q q' : State) (cover : Cover) → Moves q q' → Contains (covers_within q q') cover → IsAt q cover ⊎ IsAt q' cover
@@ -214,10 +177,7 @@ rules-last q (q1 ∷ states) q' cover has = inr (rules-last q1 states q' cover h
 
 -- at the first state, or along the rest
 split : (q q' : State) (states : List State) (cover : Cover) → Moves q q' → MayRule q (q' ∷ states) cover → IsAt q cover ⊎ MayRule q' states cover
-split q q' states cover moved (inl within) = elim (within-cases q q' cover moved within) [
-  | inl before ↦ inl before
-  | inr after ↦ inr (rules-first q' states cover (has-at q' cover after))
-]
+split q q' states cover moved (inl within) = grind (arith, within-cases q q' cover moved within, rules-first, has-at)
 split q q' states cover moved (inr later) = inr later
 
 follows-along : (q : State) (steps : List Step) (replies : List Reply) (states : List State) (cover : Cover) → IsNumbered q → Run q steps replies states → MayRule q states cover → Follows q cover
@@ -264,17 +224,10 @@ closing-none : (q : State) → q.hand ≡ None → closing_gate q ≡ q.ruling.g
 closing-none q is = ap (λ (o : Option Hand). q.ruling.gate + cond (is_some o) 2 1) is
 
 closing-least : (q : State) → q.ruling.gate + 1 ≤ closing_gate q
-closing-least q = by q.hand refl
-  where
-    by : (o : Option Hand) → q.hand ≡ o → q.ruling.gate + 1 ≤ closing_gate q
-    by None is = omega (arith, closing-none q is)
-    by (Some hand) is = omega (arith, closing-some q hand is)
+closing-least q = grind (arith, closing-none, closing-some)
 
 closing-grows : (q q' : State) → IsNumbered q → Moves q q' → closing_gate q ≤ closing_gate q'
-closing-grows q q' numbered (stays r h same) = let e : closing_gate q' ≡ closing_gate q = (λ i. (r i).gate + cond (is_some (same i)) 2 1) in omega (arith, e)
-closing-grows q q' numbered (takes r h none taken now above) = omega (arith, closing-none q none, closing-some q' taken now, ap (λ (x : Record). x.gate) r)
-closing-grows q q' numbered (ticks r h held count was now) = omega (arith, closing-some q held was, closing-some q' (record held { ticks = count }) now, ap (λ (x : Record). x.gate) r)
-closing-grows q q' numbered (covers held was r h none) = omega (arith, closing-some q held was, closing-none q' none, ap (λ (x : Record). x.gate) r, numbered held was)
+closing-grows q q' numbered a = grind (arith, closing-none, closing-some)
 
 closing-run : (q : State) (steps : List Step) (replies : List Reply) (states : List State) → IsNumbered q → Run q steps replies states → closing_gate q ≤ closing_gate (final q states)
 closing-run q [] [] [] numbered run = omega arith
@@ -287,8 +240,7 @@ closing-run q (s1 ∷ steps) [] states numbered run = absurd run
 closing-run q (s1 ∷ steps) (r1 ∷ replies) [] numbered run = absurd run
 
 closes-at : (q : State) (cover : Cover) → IsNumbered q → IsAt q cover → cover.ruled_by.gate < closing_gate q
-closes-at q cover numbered (inl e) = omega (arith, ap (λ (c : Cover). c.ruled_by.gate) e, closing-least q)
-closes-at q cover numbered (inr (hand, is, e)) = omega (arith, ap (λ (c : Cover). c.ruled_by.gate) e, numbered hand is, closing-some q hand is)
+closes-at q cover numbered a = grind (arith, closing-least, closing-some)
 
 pub closes-above : (q : State) (steps : List Step) (replies : List Reply) (states : List State) → IsNumbered q → Run q steps replies states
     → (cover : Cover) → MayRule q states cover → cover.ruled_by.gate < (closed (final q states)).ruled_by.gate

@@ -1,5 +1,5 @@
 -- What may be found of such a device is an image of an earlier moment with the gates of now.
-use Rattle.std.proofs.Common.{◌≡◌, ◌⊎◌, inl, inr, ℕ, ◌+◌, ◌*◌, ◌%◌, ◌<◌, true, false, ◌&&◌, List, [], ◌==◌, sym, ◌∙◌, subst, arith, nat_lt}
+use Rattle.std.proofs.Common.{◌≡◌, ◌⊎◌, ℕ, ◌+◌, ◌*◌, ◌%◌, ◌<◌, true, false, ◌&&◌, List, [], ◌==◌, subst, arith, nat_lt}
 use Rattle.std.specs.Prelude.{slice_index}
 use Rattle.std.proofs.Math.Logic.{∥∥₁_map}
 use Rattle.std.proofs.lemmas.Bool.{and_from, cases_lt, or_left, or_right, eq-eqb, lt-ltb}
@@ -10,7 +10,7 @@ use Rattle.base.specs.Images.{Image, is_formatted}
 use Rattle.base.specs.declared.step.Step.{Step}
 use Rattle.base.specs.declared.step.Reply.{Reply}
 use Rattle.machine.specs.Machine.{State, final, StandsAt, StandsWithin, StandsClosing, StandsClosed}
-use Rattle.pmem.specs.Device.{Device, survivors_at, IsAmong, MayLeave, MightHaveLeft, IsOrderly}
+use Rattle.pmem.specs.Device.{Device, MayLeave, MightHaveLeft, IsOrderly}
 use Rattle.machine.specs.Openings.{OpensAs, StandsOpening}
 use Rattle.pmem.specs.Words.{Survives, Continues, LeavesOnly, image_of}
 use Rattle.pmem.specs.declared.device.Pmem as pmem
@@ -33,43 +33,21 @@ head : (places word : ℕ) → word < 8 → is_gate places word ≡ true
 head places word low = or_left (nat_lt word 8) ((word % 32 == 8) && nat_lt word (8 + 32 * places)) (lt-ltb word 8 low)
 
 first : (places place : ℕ) → place < places → is_gate places (place_start place) ≡ true
-first places place h =
-    or_right (nat_lt (place_start place) 8) ((place_start place % 32 == 8) && nat_lt (place_start place) (8 + 32 * places))
-    (and_from (place_start place % 32 == 8) (nat_lt (place_start place) (8 + 32 * places)) (eq-eqb (place_start place % 32) 8 (omega arith)) (lt-ltb (place_start place) (8 + 32 * places) (omega (arith, h))))
+first places place h = grind (arith, or_right, and_from, eq-eqb, lt-ltb)
 
 -- what a device left that began at 0 is what it might have left by any later moment
 pub left-since : (device later : Device) (since start : ℕ) (image : Image) → start ≡ 0 → Continues device later → MightHaveLeft device since image → MightHaveLeft later start image
-left-since device later since start image zero_is continues might = grows start continues (record {
-  moment = might.moment;
-  from = omega (arith, zero_is);
-  to = might.to;
-  left = might.left;
-})
+left-since device later since start image zero_is continues might = grind (arith, grows)
 
 -- before a moment it is what was left up to then, and else what was left since
 pub left-either : (P Q : Image → Type 0) (first mid last : Device) (image : Image) → LeavesOnly first mid P → LeavesOnly mid last Q → MightHaveLeft last first.clock image → P image ⊎ Q image
-left-either P Q first mid last image before after might = elim (cases_lt might.moment mid.clock) [
-  | inl early ↦ inl (before.each image (record { moment = might.moment; from = might.from; to = omega (arith, early); left = left_before might.moment after.continues (omega (arith, early)) might.left }))
-  | inr late ↦ inr (after.each image (record { moment = might.moment; from = late; to = might.to; left = might.left }))
-]
+left-either P Q first mid last image before after might = grind (arith, cases_lt might.moment mid.clock, left_before)
 
 -- what a device left, and whose gates survive, is found at that moment of what it becomes
 pub is-found : (layout : Layout) (places : ℕ) (device later : Device) (since : ℕ) (image : Image) → places ≡ layout.places → IsOrderly device → Continues device later
     → ((word : ℕ) → is_gate places word ≡ true → word < device.words → Survives device word (slice_index image word))
     → MightHaveLeft device since image → IsFound layout later 0 device.clock image
-is-found layout places device later since image same orderly continues gates might = record {
-  before = might.moment;
-  from = omega arith;
-  to = might.to;
-  left = left_still might.moment continues might.to might.left;
-  superblock = λ word low within. survives word (head places word low) within;
-  gates = λ place h within. survives (place_start place) (first places place (omega (arith, h, same))) within;
-}
-  where
-    survives : (word : ℕ) → is_gate places word ≡ true → word < later.words → IsAmong (survivors_at device.clock (later.history word)) (slice_index image word)
-    survives word is within =
-        subst (λ (l : List ℕ). IsAmong l (slice_index image word)) (sym (continues.past device.clock word (omega arith) ∙ orderly.now word))
-        (gates word is (omega (arith, within, continues.same_words)))
+is-found layout places device later since image same orderly continues gates might = grind (arith, left_still, head, first)
 
 module _ {I P : Type 0} {H : Ghosts I P} where
   -- what is known of an image that may be found of the device

@@ -16,7 +16,7 @@ use Rattle.base.proofs.Layouts.{in-limits}
 use Rattle.base.proofs.Spelling.{get_or-range}
 use Rattle.machine.specs.Machine.{State, Cover, drawn_of, StandsAsOne, StandsUnder}
 use Rattle.machine.proofs.openings.States.{whole-of, size-of}
-use Rattle.pmem.specs.Device.{Device, Entry, survivors_at, is_kept_by, IsAmong, LeftAt}
+use Rattle.pmem.specs.Device.{Device, Entry, survivors_at, IsAmong, LeftAt}
 use Rattle.file_laws.specs.Found.{IsFound, StandsFor}
 
 -- ---- one word
@@ -29,14 +29,7 @@ newest_at moment (entry ∷ older) = cond (nat_lt moment entry.born) (newest_at 
 -- where something might have been left earlier, that may be left
 newest-left : (early moment : ℕ) (history : List Entry) (x : ℕ) → early ≤ moment → IsAmong (survivors_at early history) x → IsAmong (survivors_at moment history) (newest_at moment history)
 newest-left early moment [] x le among = absurd among
-newest-left early moment (entry ∷ older) x le among = by_tests (newest-left early moment older x le) (nat_lt moment entry.born) refl (nat_lt early entry.born) refl among
-  where
-    by_tests : (IsAmong (survivors_at early older) x → IsAmong (survivors_at moment older) (newest_at moment older)) → (later : Bool) → nat_lt moment entry.born ≡ later → (past : Bool) → nat_lt early entry.born ≡ past
-        → IsAmong (cond past (survivors_at early older) (entry.value ∷ cond (is_kept_by early entry.kept) [] (survivors_at early older))) x
-        → IsAmong (cond later (survivors_at moment older) (entry.value ∷ cond (is_kept_by moment entry.kept) [] (survivors_at moment older))) (cond later (newest_at moment older) entry.value)
-    by_tests rest false is past was a = inl refl
-    by_tests rest true is true was a = rest a
-    by_tests rest true is false was a = absurd (omega (arith, le, ltb-true moment entry.born is, ltb-false early entry.born was))
+newest-left early moment (entry ∷ older) x le among = grind (arith, newest-left early moment older x le, ltb-true, ltb-false)
 
 -- ---- the image between
 
@@ -81,10 +74,7 @@ module _ (layout : Layout) (device : Device) (since moment : ℕ) (image : Image
   -- ---- what both have
 
   same : (word : ℕ) → is_gate word ≡ true → get_or mixed word 0 ≡ get_or image word 0
-  same word is = elim (cases_lt word device.words) [
-    | inl within ↦ word-is word within ∙ ap (λ (b : Bool). cond b (slice_index image word) (newest_at moment (device.history word))) is
-    | inr past ↦ get_or-eq_default mixed 0 (omega (arith, past, size)) ∙ sym (get_or-eq_default image 0 (omega (arith, past, found.left.size)))
-  ]
+  same word is = grind (arith, cases_lt, word-is, get_or-eq_default, size)
 
   low : (word : ℕ) → word < 8 → is_gate word ≡ true
   low word h = ap (λ (b : Bool). b || (nat_eq (word % 32) 8 && nat_lt word (8 + 32 * layout.places))) (lt-ltb word 8 h)

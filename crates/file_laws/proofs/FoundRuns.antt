@@ -61,11 +61,7 @@ means-closing q states image (cover, has, under) = elim (Contains-append_cases (
 module _ (q : State) (steps : List Step) (replies : List Reply) (states : List State) (numbered : IsNumbered q) (run : Run q steps replies states) (image : Image) where
   -- it stands for what may rule along the run, or is its close's, where it has that gate
   for-rule : Means q states image → is_formatted image ≡ false ⊎ ((cover : Cover) → MayRule q states cover → (ruling image).gate ≡ cover.ruled_by.gate → StandsFor cover image)
-  for-rule (raw e) = inl e
-  for-rule (older less) = inr (λ cover rules gate. absurd (omega (arith, less, gate, least-gate q steps replies states cover numbered run rules)))
-  for-rule (along other there for) = inr (λ cover rules gate.
-      subst (λ (c : Cover). StandsFor c image) (one-cover q steps replies states numbered run other cover there rules (sym (ap (λ (r : Record). r.gate) for.ruled) ∙ gate)) for)
-  for-rule (closing for) = inr (λ cover rules gate. absurd (omega (arith, gate, ap (λ (r : Record). r.gate) for.ruled, closes-above q steps replies states numbered run cover rules)))
+  for-rule a = grind (arith, least-gate, one-cover, closes-above)
 
   for-close : Means q states image → is_formatted image ≡ false ⊎ ((ruling image).gate ≡ (closed (final q states)).ruled_by.gate → StandsFor (closed (final q states)) image)
   for-close (raw e) = inl e

@@ -1,11 +1,10 @@
 -- What is known of bytes that are kept and then grow.
-use Rattle.std.proofs.Common.{◌≡◌, ℕ, List, ◌++◌, ◌∙◌, refl, sym, ap, append_assoc}
+use Rattle.std.proofs.Common.{◌≡◌, ℕ, List, ◌++◌, ◌∙◌, sym, ap, append_assoc, arith}
 use Rattle.std.specs.Prelude.{Option, Some, None}
 use Rattle.std.specs.Io.KnownBytes.{Appends, Keeps, append_known}
 
 pub keeps-same : (known : Option (List ℕ)) → Keeps known known
-keeps-same None = tt
-keeps-same (Some bytes) = refl
+keeps-same a = grind (arith)
 
 -- bytes that go behind those that are held go behind all
 pub held-appends : (old : Option (List ℕ)) (output : Option (List ℕ)) (held new more : List ℕ) → Keeps old (append_known output held) → new ≡ held ++ more

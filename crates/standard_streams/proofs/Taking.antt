@@ -1,10 +1,9 @@
 -- What a write takes of its bytes.
-use lib.Pointwise.{pointwise}
-use Rattle.std.proofs.Common.{◌≡◌, ◌⊎◌, ℕ, suc, zero, ◌+◌, ◌-◌, ◌<◌, ◌≤◌, eqb, get_or, Bool, true, false, List, [], ◌∷◌, ◌++◌, length, take, drop, ◌∙◌, refl, sym, ap, subst, inl, inr, arith}
+use Rattle.std.proofs.Common.{◌≡◌, ◌⊎◌, ℕ, suc, zero, ◌+◌, ◌<◌, ◌≤◌, get_or, Bool, true, false, List, [], ◌∷◌, ◌++◌, length, take, drop, refl, ap, arith}
 use Rattle.std.specs.Prelude.{if◌then◌else◌}
 use Rattle.std.proofs.lemmas.Bool.{false≢true}
 use Rattle.std.proofs.lemmas.List.{take-append-drop}
-use Rattle.standard_streams.specs.Lines.{IsFirstLine, IsHeldBack, IsOneLine, TakesLine, ends_work, is_ended, unfinished}
+use Rattle.standard_streams.specs.Lines.{IsFirstLine, IsOneLine, TakesLine, ends_work, is_ended, unfinished}
 
 drop-all : (xs : List ℕ) → drop (length xs) xs ≡ []
 drop-all [] = refl
@@ -12,12 +11,7 @@ drop-all (x ∷ xs) = drop-all xs
 
 -- the front of some bytes is their first line, where it has a line feed at its end, or is all of them
 pub first-of : (bytes line : List ℕ) → line ≡ take (length line) bytes → IsOneLine line → (is_ended line ≡ false → line ≡ bytes) → IsFirstLine bytes line
-first-of bytes line front one ended = record {
-  rest = drop (length line) bytes;
-  is = sym (take-append-drop (length line) bytes) ∙ ap (λ (xs : List ℕ). xs ++ drop (length line) bytes) (sym front);
-  one_line = one;
-  whole = λ unended. subst (λ (xs : List ℕ). drop (length xs) bytes ≡ []) (sym (ended unended)) (drop-all bytes);
-}
+first-of bytes line front one ended = grind (arith, take-append-drop (length line) bytes, drop-all bytes)
 
 pub unfinished-ended : (old : List ℕ) → is_ended old ≡ true → unfinished old ≡ []
 unfinished-ended old ended = ap (λ (b : Bool). if b then [] else old) ended
@@ -28,28 +22,12 @@ unfinished-open old ended = ap (λ (b : Bool). if b then [] else old) ended
 -- the line is held, behind what was held of its beginning
 pub takes-all : (old held line new bytes : List ℕ) (count : ℕ) → held ≡ unfinished old → IsFirstLine bytes line → count ≡ length line → new ≡ held ++ line
     → (unfinished old ≡ [] → is_ended line ≡ true → ends_work line ≡ false → ⊥) → TakesLine old new bytes count
-takes-all old held line new bytes count same first all grown other = record {
-  line = line;
-  first = first;
-  most = omega (arith, all);
-  holds = λ back. (all, grown ∙ ap (λ (xs : List ℕ). xs ++ line) same);
-  passes = λ none ended plain. absurd (other none ended plain);
-}
+takes-all old held line new bytes count same first all grown other = grind (arith)
 
 -- the line is passed on
 pub takes-some : (old line new bytes : List ℕ) (count : ℕ) → unfinished old ≡ [] → IsFirstLine bytes line → count ≤ length line → is_ended line ≡ true → ends_work line ≡ false → new ≡ []
     → TakesLine old new bytes count
-takes-some old line new bytes count empty first few ended plain none = record {
-  line = line;
-  first = first;
-  most = few;
-  holds = λ back. absurd (apart (subst (λ (xs : List ℕ). IsHeldBack (xs ++ line)) empty back));
-  passes = λ a b c. none;
-}
-  where
-    apart : IsHeldBack line → ⊥
-    apart (inl unended) = false≢true (sym unended ∙ ended)
-    apart (inr work) = false≢true (sym plain ∙ work)
+takes-some old line new bytes count empty first few ended plain none = grind (arith, false≢true)
 
 -- ---- one line
 
@@ -61,20 +39,13 @@ ended-at (x ∷ xs) (suc at) e is = ended-at xs at (omega (arith, e)) is
 
 -- a line that isn't ended has no line feed
 no-feed : (held : List ℕ) → IsOneLine held → is_ended held ≡ false → (at : ℕ) → at < length held → get_or held at 0 ≡ 10 → ⊥
-no-feed held one unended at less is =
-    let e : at + 1 ≡ length held = one at less is in
-    let last : length held - 1 ≡ at = omega (arith, e) in
-    let d : drop (length held - 1) held ≡ 10 ∷ [] = ap (λ (n : ℕ). drop n held) last ∙ ended-at held at e is in
-    let t : is_ended held ≡ true = ap (λ (xs : List ℕ). pointwise eqb (10 ∷ []) xs) d in
-    false≢true (sym unended ∙ t)
+no-feed held one unended at less is = grind (arith, ended-at, false≢true)
 
 pub feeds-none : (held : List ℕ) → (held ≡ []) ⊎ (is_ended held ≡ false) → IsOneLine held → (at : ℕ) → at < length held → get_or held at 0 ≡ 10 → ⊥
-feeds-none held (inl none) one at less is = let short : at < 0 = subst (λ (xs : List ℕ). at < length xs) none less in omega (arith, short)
-feeds-none held (inr unended) one at less is = no-feed held one unended at less is
+feeds-none held a one at less is = grind (arith, no-feed)
 
 one-line-behind : (x : ℕ) (xs : List ℕ) → (x ≡ 10 → ⊥) → IsOneLine xs → IsOneLine (x ∷ xs)
-one-line-behind x xs other rest zero less is = absurd (other is)
-one-line-behind x xs other rest (suc at) less is = let e : at + 1 ≡ length xs = rest at (omega (arith, less)) is in omega (arith, e)
+one-line-behind x xs other rest a less is = grind (arith)
 
 one-line-more : (held line : List ℕ) → IsOneLine line → ((at : ℕ) → at < length held → get_or held at 0 ≡ 10 → ⊥) → IsOneLine (held ++ line)
 one-line-more [] line one none = one
@@ -83,5 +54,4 @@ one-line-more (x ∷ xs) line one none =
 
 -- what is held is one line again, whether there was memory for more of it or not
 pub one-line-grown : (held line new : List ℕ) (grows : Bool) → new ≡ (if grows then held ++ line else held) → IsOneLine held → IsOneLine line → (held ≡ []) ⊎ (is_ended held ≡ false) → IsOneLine new
-one-line-grown held line new true is one more begun = subst IsOneLine (sym is) (one-line-more held line more (feeds-none held begun one))
-one-line-grown held line new false is one more begun = subst IsOneLine (sym is) one
+one-line-grown held line new a is one more begun = grind (arith, one-line-more, feeds-none)

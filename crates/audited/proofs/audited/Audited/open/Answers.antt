@@ -1,7 +1,3 @@
-use Rattle.std.proofs.Common.{sym, refl, subst, ◌≡◌, List, [], ℕ}
-use Rattle.base.specs.declared.step.Step.{Step}
-use Rattle.base.specs.declared.step.Note.{Note}
-use Rattle.machine.specs.Machine.{State, Noted}
 use Rattle.pmem.specs.Words.{image_of}
 use Rattle.audited.proofs.Compose.{IsAudited-opened}
 use Rattle.audited.proofs.audited.Audited.open.Goals as goal
