@@ -78,7 +78,7 @@ raises list waits stamp le h = raised (fold changed list waits) stamp h (le_tran
 -- the change that may follow the board's whole list may follow its history
 pub may_follow : (log waits front : List Change) (board : Shown) (change : Change) → 0 < length log → front ≡ log ++ waits → record { list = list_of log; waits = waits } ≡ board
     → IsPublished (list_of front) → 0 < length front → (IsPublished (whole board) → IsPublished (changed (whole board) change)) → IsPublished (list_of (front ++ change ∷ []))
-may_follow log waits front board change some is view published begun may = grind (arith, list_on, list_next)
+may_follow log waits front board change some is view published begun may = grind (arith, list_on)
 
 -- what a result without an error has
 pub done : {E P : Type 0} (Q : Type 0) (r : Result (Unit {0}) E) → is_err r ≡ false → MatchResult r (λ _. P) (λ _. Q) → P

@@ -22,11 +22,11 @@ after_version key v row (c ∷ cs) = grind (arith, after_version key (option_or 
 -- batches that follow a stamp leave nothing up to it, and nothing above their last
 pub none_under : (stamp : ℕ) (batches : List Batch) (key : Key) (at : ℕ) → Follow stamp batches → at ≤ stamp → version_at batches key at ≡ None
 none_under stamp [] key at h le = refl
-none_under stamp (b ∷ batches) key at h le = grind (arith, nat_tests, none_under b.stamp batches key at h.2)
+none_under stamp (b ∷ batches) key at h le = grind (arith, none_under b.stamp batches key at h.2)
 
 pub none_over : (stamp : ℕ) (batches : List Batch) (key : Key) (at : ℕ) → Follow stamp batches → last_from stamp batches < at → version_at batches key at ≡ None
 none_over stamp [] key at h lt = refl
-none_over stamp (b ∷ batches) key at h lt = grind (arith, last_rises, nat_tests, none_over b.stamp batches key at h.2 lt)
+none_over stamp (b ∷ batches) key at h lt = grind (arith, last_rises, none_over b.stamp batches key at h.2 lt)
 
 -- where nothing is left up to the stamp, the row stays
 row_stays : (stamp : ℕ) (batches : List Batch) (key : Key) (at : ℕ) (row : Option (List ℕ)) → Follow stamp batches → ((s : ℕ) → s ≤ at → version_at batches key s ≡ None) → after_batches key at row batches ≡ row
@@ -90,7 +90,7 @@ follow_push stamp (b ∷ batches) batch h from own = (h.0, h.1, follow_push b.st
 version_push : (stamp : ℕ) (batches : List Batch) (batch : Batch) (key : Key) (at : ℕ) → Follow stamp batches → last_from stamp batches < batch.stamp
     → version_at (batches ++ batch ∷ []) key at ≡ (if nat_eq batch.stamp at then version_after key None batch.commits else version_at batches key at)
 version_push stamp [] batch key at h lt = refl
-version_push stamp (b ∷ batches) batch key at h lt = grind (arith, version_push b.stamp batches batch key at h.2 lt, last_rises, nat_tests)
+version_push stamp (b ∷ batches) batch key at h lt = grind (arith, version_push b.stamp batches batch key at h.2 lt, last_rises)
 
 -- with the versions of one more batch
 pub indexed_push : (stamp : ℕ) (es fs : List (Place × Option (List ℕ))) (batches : List Batch) (batch : Batch) → Indexed stamp es batches → batch.from ≡ last_from stamp batches → batch.stamp ≡ last_from stamp batches + 1
@@ -100,7 +100,7 @@ indexed_push stamp es fs batches batch h from own entered = grind (arith, follow
 -- and without those of the first one
 pub indexed_rest : (stamp : ℕ) (es fs : List (Place × Option (List ℕ))) (batch : Batch) (batches : List Batch) → Indexed stamp es (batch ∷ batches)
     → ((k : Key) (s : ℕ) → lookup_version fs k s ≡ (if is_written k batch.commits && nat_eq batch.stamp s then None else lookup_version es k s)) → Indexed batch.stamp fs batches
-indexed_rest stamp es fs batch batches h gone = grind (arith, none_under, nat_tests, version_unwritten)
+indexed_rest stamp es fs batch batches h gone = grind (arith, none_under, version_unwritten)
 
 pub indexed_removed : (stamp : ℕ) (es fs : List (Place × Option (List ℕ))) (batch : Batch) (batches : List Batch) (first : Batch) → slice_get batches 0 ≡ Some first → batch ≡ get_or batches 0 batch → Indexed stamp es batches
     → ((k : Key) (s : ℕ) → lookup_version fs k s ≡ (if is_written k batch.commits && nat_eq batch.stamp s then None else lookup_version es k s)) → Indexed batch.stamp fs (drop 1 batches)

@@ -1,5 +1,5 @@
 -- What a map of versions has under a key at a stamp, and after changes.
-use Rattle.std.proofs.Common.{◌≡◌, ℕ, suc, ◌+◌, ◌<◌, ◌≤◌, ◌&&◌, ◌||◌, Bool, true, false, cond, List, [], ◌∷◌, drop, take, length, get_or, drop-cons, add-one, Option, Some, None, IsSome, is_some, if◌then◌else◌, refl, sym, ap, ◌∙◌, subst, arith, nat_eq}
+use Rattle.std.proofs.Common.{◌≡◌, ℕ, suc, ◌+◌, ◌<◌, ◌≤◌, ◌&&◌, Bool, true, false, cond, List, [], ◌∷◌, drop, take, length, get_or, drop-cons, add-one, Option, Some, None, IsSome, is_some, if◌then◌else◌, refl, sym, ap, ◌∙◌, subst, arith, nat_eq}
 use Rattle.std.proofs.lemmas.Bool.Decides.{nat_tests}
 use Rattle.std.specs.declared.cmp.Ordering.{Ordering}
 use Rattle.std.specs.declared.cmp.Ordering.TheVariants.{Less, Equal, Greater}
@@ -44,48 +44,27 @@ version_changed es fs p w h k s =
     sym (found_version fs q) ∙ (h q ∙ (ap (λ (b : Bool). if b then w else lookup (is_at (place_cmp q)) es) (is_at-place p q)
     ∙ ap (λ (r : Option (Option (List ℕ))). if key_eq p.key k && nat_eq p.stamp s then w else r) (found_version es q)))
 
--- one more write is entered
-entered_one : (here there : Bool) (w : Option (List ℕ)) (rest old : Option (Option (List ℕ)))
-    → (if here && there then Some w else (if there then option_or rest old else old)) ≡ (if there then option_or (if here then Some w else rest) old else old)
-entered_one true true w rest old = refl
-entered_one true false w rest old = refl
-entered_one false true w rest old = refl
-entered_one false false w rest old = refl
-
 drop_at : {A : Type 0} (xs : List A) (i : ℕ) (x : A) → x ≡ get_or xs i x → i < length xs → drop i xs ≡ x ∷ drop (i + 1) xs
 drop_at xs i x is lt = drop-cons xs i x lt ∙ (ap (λ y. y ∷ drop (suc i) xs) (sym is) ∙ rw add-one refl)
 
 pub entered_next : (ws : List (Key × Option (List ℕ))) (i j : ℕ) (x : Key × Option (List ℕ)) (k : Key) (there : Bool) (old now next : Option (Option (List ℕ))) → x ≡ get_or ws i x → i < length ws → j ≡ i + 1
     → now ≡ (if there then option_or (lookup_key (drop j ws) k) old else old) → next ≡ (if key_eq x.0 k && there then Some x.1 else now)
     → next ≡ (if there then option_or (lookup_key (drop i ws) k) old else old)
-entered_next ws i j x k there old now next is lt n before after = grind (arith, entered_one, drop_at)
-
--- one more write, or commit, is forgotten
-forgotten_one : (here there rest : Bool) (now : Option (Option (List ℕ)))
-    → (if rest && there then None else (if here && there then None else now)) ≡ (if (here || rest) && there then None else now)
-forgotten_one true true true now = refl
-forgotten_one true true false now = refl
-forgotten_one true false true now = refl
-forgotten_one true false false now = refl
-forgotten_one false there rest now = refl
-
-is_some-pick : {X : Type 0} (here : Bool) (x : X) (rest : Option X) → is_some (if here then Some x else rest) ≡ (here || is_some rest)
-is_some-pick true x rest = refl
-is_some-pick false x rest = refl
+entered_next ws i j x k there old now next is lt n before after = grind (arith, drop_at)
 
 pub forgotten_write : (ws : List (Key × Option (List ℕ))) (i : ℕ) (x : Key × Option (List ℕ)) (k : Key) (there : Bool) (now next : Option (Option (List ℕ))) → x ≡ get_or ws i x → i < length ws
     → next ≡ (if key_eq x.0 k && there then None else now)
     → (if is_some (lookup_key (drop (i + 1) ws) k) && there then None else next) ≡ (if is_some (lookup_key (drop i ws) k) && there then None else now)
-forgotten_write ws i x k there now next is lt after = grind (arith, forgotten_one, is_some-pick, drop_at)
+forgotten_write ws i x k there now next is lt after = grind (arith, drop_at)
 
 pub forgotten_commit : (cs : List Commit) (i : ℕ) (c : Commit) (k : Key) (there : Bool) (now next : Option (Option (List ℕ))) → c ≡ get_or cs i c → i < length cs
     → next ≡ (if is_some (lookup_key c.writes k) && there then None else now)
     → (if is_written k (drop (i + 1) cs) && there then None else next) ≡ (if is_written k (drop i cs) && there then None else now)
-forgotten_commit cs i c k there now next is lt after = grind (arith, forgotten_one, drop_at)
+forgotten_commit cs i c k there now next is lt after = grind (arith, drop_at)
 
 -- at another stamp, or where nothing is written, the version stays
 pub unentered : (a s : ℕ) (w old : Option (Option (List ℕ))) → (a ≡ s → w ≡ None) → (if nat_eq a s then option_or w old else old) ≡ old
-unentered a s w old none = grind (arith, nat_tests)
+unentered a s w old none = grind (arith)
 
 -- commits that don't write a key leave its version
 pub version_unwritten : (k : Key) (v : Option (Option (List ℕ))) (commits : List Commit) → is_written k commits ≡ false → version_after k v commits ≡ v
@@ -94,7 +73,7 @@ version_unwritten k v (c ∷ cs) h = grind (arith, version_unwritten k v cs)
 
 pub unentered_commits : (a s : ℕ) (k : Key) (old : Option (Option (List ℕ))) (commits : List Commit) (i : ℕ) → (a ≡ s → is_written k commits ≡ false)
     → (if nat_eq a s then version_after k old (take i commits) else old) ≡ old
-unentered_commits a s k old commits i none = grind (arith, version_unwritten, unwritten_first, nat_tests)
+unentered_commits a s k old commits i none = grind (arith, version_unwritten, unwritten_first)
 
 not_gt : (a b : ℕ) → a ≤ b → is_gt (nat_cmp a b) ≡ false
 not_gt a b le = grind (arith, nat_tests)
@@ -119,7 +98,7 @@ key_self key = ap (λ (o : Ordering). ordering_then o (nat_cmp key.key key.key))
 
 -- keys of which neither comes after the other are one
 one_key : (a b : Key) → is_gt (key_cmp a b) ≡ false → is_gt (key_cmp b a) ≡ false → a ≡ b
-one_key a b h g = grind (arith, first_part, le_from_not_gt, second_part, equal)
+one_key a b h g = grind (arith, first_part, le_from_not_gt)
 
 -- places of one key are ordered by their stamps
 same_key : (key : Key) (a b : ℕ) → place_cmp (record { key = key; stamp = a }) (record { key = key; stamp = b }) ≡ nat_cmp a b

@@ -5,7 +5,7 @@ use Rattle.std.specs.Map.{lookup}
 use Rattle.base.specs.declared.key.Key.{Key}
 use Rattle.base.specs.Keys.{key_eq, lookup_key}
 use Rattle.base.specs.Commits.{Commit}
-use Rattle.base.proofs.KeyOrder.{is_at-key, key_cmp, looked-up}
+use Rattle.base.proofs.KeyOrder.{key_cmp, looked-up}
 use Rattle.board.specs.Cells.{after_commits, is_written}
 
 -- a map finds the first entry with the key
@@ -16,7 +16,7 @@ found es key = sym (looked-up es key)
 pub changed_at : (es fs : List (Key × List ℕ)) (key : Key) (row : Option (List ℕ))
     → ((q : Key) → lookup (is_at (key_cmp q)) fs ≡ cond (is_at (key_cmp key) q) row (lookup (is_at (key_cmp q)) es))
     → (k : Key) → lookup_key fs k ≡ (if key_eq key k then row else lookup_key es k)
-changed_at es fs key row h k = grind (arith, found, key_cmp, is_at-key)
+changed_at es fs key row h k = grind (arith, found)
 
 -- a key that isn't written isn't written by the rest
 pub none_on : {X : Type 0} (xs : List (Key × X)) (i : ℕ) (k : Key) → lookup_key xs k ≡ None → lookup_key (drop i xs) k ≡ None

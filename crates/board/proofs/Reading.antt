@@ -12,7 +12,7 @@ use Rattle.board.proofs.Staying.{rows_stay, stamps_stay}
 
 -- an answer with a row is the list's, at a stamp that the list has
 answered : (list : Published) (stamp : ℕ) (key : Key) (row : Option (List ℕ)) → Ok row ≡ answer list stamp key → (stamp ≤ last_stamp list) × (row ≡ row_at list stamp key)
-answered list stamp key row h = grind (arith, nat_tests)
+answered list stamp key row h = grind (arith)
 
 pub answers_agree : AnswersAgree
 answers_agree before seen later last stamp key row other first on second =
@@ -29,7 +29,7 @@ high_of (Ok pair) = pair.1
 high_of (Err fault) = 0
 
 pub time_rises : TimeRises
-time_rises before seen later last low high floor top first on second = grind (arith, begins_on seen later last on second.begins, stamps_stay seen last second.published (begins_on seen later last on second.begins))
+time_rises before seen later last low high floor top first on second = grind (arith, stamps_stay seen last second.published (begins_on seen later last on second.begins))
 
 pub learnt_is_read : LearntIsRead
 learnt_is_read told before after key reply learnt answered_so = ⊎_elim saw (λ none. inr (inr none.replied)) answered_so

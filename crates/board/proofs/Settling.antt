@@ -1,6 +1,5 @@
 -- What is stored still stands for the published list once the first batch is laid into the rows, or some of it is.
 use Rattle.std.proofs.Common.{◌≡◌, ℕ, ◌≤◌, false, List, [], ◌∷◌, Some, slice_get, arith}
-use Rattle.std.proofs.lemmas.Bool.Decides.{nat_tests}
 use Rattle.base.specs.declared.key.Key.{Key}
 use Rattle.base.specs.Keys.{lookup_key}
 use Rattle.base.specs.Batches.{Batch}
@@ -15,4 +14,4 @@ pub stands_alike : (coverage : Coverage) (floor : ℕ) (rows other : List (Key �
     → ((k : Key) → is_written k batch.commits ≡ false → lookup_key other k ≡ lookup_key rows k)
     → Stands coverage floor rows batches list → Stands coverage floor other batches list
 stands_alike coverage floor rows other [] batch list at low same h = absurd (cc at)
-stands_alike coverage floor rows other (b ∷ batches) batch list at low same h = grind (arith, nat_tests, laid_alike)
+stands_alike coverage floor rows other (b ∷ batches) batch list at low same h = grind (arith, laid_alike)

@@ -8,7 +8,7 @@ use Rattle.std.proofs.lemmas.Nat.{and_le_l}
 use Rattle.dirty_table.specs.declared.sessions.SessionSet.{SessionSet}
 use Rattle.dirty_table.specs.Bits.{has_bit}
 use Rattle.dirty_table.specs.Touches.{has, meets}
-use Rattle.dirty_table.proofs.Words.{nonzero, past-bit, and-true, and-false}
+use Rattle.dirty_table.proofs.Words.{past-bit, and-true, and-false}
 use Rattle.dirty_table.proofs.Summaries.{no-bits}
 
 -- ---- one set
@@ -55,4 +55,4 @@ meets-apart one two apart =
 
 -- a session in both
 pub meets-at : (one two : SessionSet) (n : ℕ) → has one n ≡ true → has two n ≡ true → meets one two ≡ true
-meets-at one two n here there = grind (arith, nonzero, bit_at_and one.bits two.bits n, eqb-true (bit_at one.bits n) 1 here, eqb-true (bit_at two.bits n) 1 there)
+meets-at one two n here there = grind (arith, bit_at_and one.bits two.bits n)

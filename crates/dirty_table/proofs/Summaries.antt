@@ -1,11 +1,11 @@
 -- A summary of words: which of them aren't 0.
 use Rattle.std.proofs.Common.{◌≡◌, ◌≢◌, ℕ, ◌+◌, ◌*◌, ◌/◌, ◌%◌, ◌^◌, ◌<◌, ◌≤◌, true, false, ◌||◌, ◌&&◌, not, nat_eq, List, length, get_or, replicate, sym, ◌∙◌, ap, subst, arith}
 use Rattle.std.specs.Int.{bit_at}
-use Rattle.std.proofs.lemmas.Bool.{cases_eq, cases_lt, eqb-true, eqb-false}
+use Rattle.std.proofs.lemmas.Bool.{cases_eq, eqb-true, eqb-false}
 use Rattle.std.proofs.lemmas.List.{get_or_past, get_or-replicate, length-replicate}
 use Rattle.std.proofs.lemmas.Nat.Bits.{same_from_bits, bit_at-zero, bit_at-lt}
 use Rattle.dirty_table.specs.Bits.{has_bit, is_in, IsLowestBit, IsLowest, IsSummed}
-use Rattle.dirty_table.proofs.Words.{zero-bit, nonzero, at-word}
+use Rattle.dirty_table.proofs.Words.{zero-bit}
 
 zero-word : (word : ℕ) → word ≡ 0 → not (nat_eq word 0) ≡ false
 zero-word word is = ap (λ (w : ℕ). not (nat_eq w 0)) is
@@ -27,11 +27,11 @@ module _ (words summary now summary' : List ℕ) (line : ℕ) (summed : IsSummed
 
   -- with a line, its word is in the summary
   pub summed-with : is_in now line ≡ true → ((i : ℕ) → is_in summary' i ≡ (nat_eq i (line / 64) || is_in summary i)) → IsSummed now summary'
-  summed-with here now_is = grind (arith, enough, eqb-true, nonzero, kept, eqb-false)
+  summed-with here now_is = grind (arith, eqb-true, eqb-false)
 
   -- a word that has become 0 isn't
   pub summed-without : get_or now (line / 64) 0 ≡ 0 → ((i : ℕ) → is_in summary' i ≡ (is_in summary i && not (nat_eq i (line / 64)))) → IsSummed now summary'
-  summed-without none without = grind (arith, enough, zero-word, eqb-true, kept, eqb-false)
+  summed-without none without = grind (arith, eqb-true)
 
 -- one that hasn't stays
 pub summed-still : (words summary now : List ℕ) (line : ℕ) → IsSummed words summary → length now ≡ length words → ((at : ℕ) → at ≢ line / 64 → get_or now at 0 ≡ get_or words at 0) → get_or now (line / 64) 0 ≤ get_or words (line / 64) 0
@@ -44,13 +44,13 @@ summed-same words summary words' summary' same same' summed = subst (λ (ws : Li
 -- ---- words of 0
 
 zeros-word : (count at : ℕ) → ◌≡◌ {A = ℕ} (get_or (replicate count 0) at 0) 0
-zeros-word count at = grind (arith, cases_lt, get_or-replicate, get_or_past, length-replicate)
+zeros-word count at = grind (arith, get_or-replicate, get_or_past, length-replicate)
 
 pub zeros-clear : (count : ℕ) (words : List ℕ) → words ≡ replicate count 0 → (i : ℕ) → is_in words i ≡ false
 zeros-clear count words is i = zero-bit (get_or words (i / 64) 0) (i % 64) (ap (λ (ws : List ℕ). get_or ws (i / 64) 0) is ∙ zeros-word count (i / 64))
 
 pub summed-zeros : (count count' : ℕ) (words summary : List ℕ) → words ≡ replicate count 0 → summary ≡ replicate count' 0 → count ≤ 64 * count' → count < 2 ^ 57 → count' < 2 ^ 57 → IsSummed words summary
-summed-zeros count count' words summary is is' le few few' = grind (arith, length-replicate, zeros-clear, zero-word, zeros-word, enough)
+summed-zeros count count' words summary is is' le few few' = grind (arith, length-replicate, zeros-word)
 
 -- ---- the lowest line
 
@@ -64,10 +64,10 @@ module _ (words summary : List ℕ) (summed : IsSummed words summary) where
   some-word at here none = absurd (cc (sym here ∙ summed.sums at ∙ zero-word (get_or words at 0) none))
 
   pub word-within : (at : ℕ) → is_in summary at ≡ true → at < length words
-  word-within at here = grind (arith, cases_lt, some-word, get_or_past)
+  word-within at here = grind (arith, get_or_past)
 
   pub in-words : (from at bit : ℕ) → IsLowest summary from at → IsLowestBit (get_or words at 0) 0 bit → IsLowest words (64 * from) (64 * at + bit)
-  in-words from at bit first found = grind (arith, word-within, at-word, cases_lt, zero-bit, clear-word)
+  in-words from at bit first found = grind (arith, word-within, zero-bit, clear-word)
 
   pub never-empty : (from at : ℕ) → IsLowest summary from at → ((i : ℕ) → 0 ≤ i → has_bit (get_or words at 0) i ≡ false) → ⊥
   never-empty from at first none = some-word at first.here (no-bits (get_or words at 0) (λ i. none i (omega arith)))

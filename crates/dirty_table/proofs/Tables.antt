@@ -2,7 +2,7 @@
 use Rattle.std.proofs.Common.{◌≡◌, inl, inr, ℕ, zero, suc, ◌+◌, ◌<◌, ◌≤◌, Bool, true, false, cond, ◌&&◌, not, nat_eq, nat_le, List, ◌∷◌, length, get_or, set, length-set, refl, sym, ◌∙◌, ap, arith}
 use Rattle.std.specs.Prelude.{Option, Some, None, IfSome, IfNone}
 use Rattle.std.specs.List.{list_any, filter, find, range_with_len}
-use Rattle.std.proofs.lemmas.Bool.{cases_eq, cases_lt, and_parts, and_from, le-leb, lt-ltb, eqb-true, eqb-false, eq-eqb}
+use Rattle.std.proofs.lemmas.Bool.{cases_eq, cases_lt, and_parts, eqb-true, eqb-false, eq-eqb}
 use Rattle.std.proofs.lemmas.Bool.Decides.{nat_tests}
 use Rattle.std.proofs.lemmas.List.{get_or_past, get_or_default, get_or-set_other}
 use Rattle.std.proofs.lemmas.List.Folds.{list_any_at}
@@ -59,7 +59,7 @@ module _ (table : List SessionSet) (noted : List ℕ) (is : IsNoted table noted)
   }
 
   pub next-none : (from : ℕ) (r : Option ℕ) → IfNone r (IsClearFrom noted from) → IfNone r (IsUntouchedFrom table from)
-  next-none from a clear = grind (arith, unnoted)
+  next-none from a clear = grind (arith)
 
 -- ---- all lines of some sessions are forgotten
 
@@ -77,10 +77,10 @@ module _ (sessions : SessionSet) (old now : List SessionSet) (from : ℕ) (forgo
   neither n k ge none = none ∙ ap (λ (b : Bool). b && not (has sessions n)) (sym none ∙ forgot.rest n k ge)
 
   pub forgot-on : (line : ℕ) (after : List SessionSet) → IsNextTouched now from line → ((n k : ℕ) → is_touched after n k ≡ (is_touched now n k && not (nat_eq k line && has sessions n))) → length after ≡ length now → Forgot sessions old after (line + 1)
-  forgot-on line after next is size = grind (arith, and-true, nat_tests, eqb-true, eqb-false, cases_lt, neither)
+  forgot-on line after next is size = grind (arith, eqb-true, eqb-false, cases_lt, neither)
 
   pub forgot-all : IsUntouchedFrom now from → Forgets sessions old now
-  forgot-all none = grind (arith, cases_lt, neither)
+  forgot-all none = grind (arith)
 
 -- ---- the lines of some sessions
 
@@ -90,7 +90,7 @@ module _ (p : ℕ → Bool) where
 
   find-passing : (from line n a : ℕ) → a ≤ line → line < a + n → from ≤ line → p line ≡ true → ((k : ℕ) → from ≤ k → k < line → p k ≡ false) → find (nat_le from) (filter p (range_with_len a n)) ≡ Some line
   find-passing from line zero a le lt low here before = absurd (omega (arith, le, lt))
-  find-passing from line (suc n) a le lt low here before = grind (arith, find-passing from line n (a + 1), before, cases_lt, under, le-leb, cases_eq)
+  find-passing from line (suc n) a le lt low here before = grind (arith, find-passing from line n (a + 1))
 
   find-none : (from n a : ℕ) → ((k : ℕ) → from ≤ k → p k ≡ false) → find (nat_le from) (filter p (range_with_len a n)) ≡ None
   find-none from zero a none = refl
@@ -98,7 +98,7 @@ module _ (p : ℕ → Bool) where
 
   rising-after : (low n a : ℕ) → low < a → are_rising (low ∷ filter p (range_with_len a n)) ≡ true
   rising-after low zero a lt = refl
-  rising-after low (suc n) a lt = grind (arith, rising-after a n (a + 1), rising-after low n (a + 1), and_from, lt-ltb)
+  rising-after low (suc n) a lt = grind (arith, rising-after a n (a + 1))
 
   rising-passing : (n a : ℕ) → are_rising (filter p (range_with_len a n)) ≡ true
   rising-passing zero a = refl

@@ -2,7 +2,7 @@
 use Rattle.std.proofs.Common.{◌≡◌, ◌≢◌, inl, inr, ℕ, ◌+◌, ◌-◌, ◌*◌, ◌/◌, ◌%◌, ◌^◌, ◌<◌, ◌≤◌, Bool, true, false, ◌||◌, ◌&&◌, not, nat_eq, List, length, get_or, set, bit_and, bit_or, refl, sym, ◌∙◌, ap, arith}
 use Rattle.std.specs.Prelude.{min}
 use Rattle.std.specs.Int.{bit_at, trailing_zeros, w64}
-use Rattle.std.proofs.lemmas.Bool.{cases_eq, cases_lt, eqb-true, eqb-false}
+use Rattle.std.proofs.lemmas.Bool.{cases_eq, cases_lt, eqb-false}
 use Rattle.std.proofs.lemmas.Nat.{and_le_l}
 use Rattle.std.proofs.lemmas.Nat.Bits.{bit_at-zero, bit_at-lt, bit_at_above, bit_at_and, bit_at_mask_inside, bit_at_mask_below, ones_shl, bit_at-trailing_zeros, bit_at_set_same, bit_at_set_other, bit_at_clear_same, bit_at_clear_other}
 use Rattle.std.proofs.lemmas.List.{get_or_past, get_or-set_other}
@@ -16,10 +16,6 @@ zero-bit word i none = ap (λ (w : ℕ). nat_eq (bit_at w i) 1) none ∙ ap (λ 
 
 pub past-bit : (word i : ℕ) → word < 2 ^ 64 → 64 ≤ i → has_bit word i ≡ false
 past-bit word i small past = ap (λ (b : ℕ). nat_eq b 1) (bit_at_above word 64 i small past)
-
--- a word with a bit isn't 0
-pub nonzero : (word i : ℕ) → has_bit word i ≡ true → nat_eq word 0 ≡ false
-nonzero word i here = grind (arith, zero-bit, eqb-true) steps 800000
 
 module _ (word low : ℕ) (small : word < 2 ^ 64) (lt : low < 64) where
   -- the word without the bits below
@@ -107,10 +103,10 @@ module _ (words : List ℕ) (k : ℕ) (within : k / 64 < length words) where
   clear-others i lt apart = bit_at_clear_other w64 word (k % 64) (omega arith) i lt apart
 
   pub inserted : (i : ℕ) → is_in (set words (k / 64) with_bit) i ≡ (nat_eq i k || is_in words i)
-  inserted i = grind (arith, eqb-true, at-place, set-here, set-others, elsewhere, eqb-false)
+  inserted i = grind (arith, at-place, set-here, set-others, elsewhere)
 
   pub removed : (i : ℕ) → is_in (set words (k / 64) without_bit) i ≡ (is_in words i && not (nat_eq i k))
-  removed i = grind (arith, eqb-true, at-place, clear-here, clear-others, and-false, elsewhere, eqb-false, and-true)
+  removed i = grind (arith, at-place, clear-here, clear-others, elsewhere, eqb-false, and-true)
 
   pub other-words : (w at : ℕ) → at ≢ k / 64 → get_or (set words (k / 64) w) at 0 ≡ get_or words at 0
   other-words w at apart = get_or-set_other words (k / 64) at w 0 apart
@@ -120,9 +116,6 @@ module _ (words : List ℕ) (k : ℕ) (within : k / 64 < length words) where
   removed-less at = grind (arith, cases_eq, get_or-set_at, and_le_l, other-words) steps 800000
 
 -- ---- the walk over words
-
-pub at-word : (words : List ℕ) (at i bit : ℕ) → bit < 64 → i ≡ 64 * at + bit → is_in words i ≡ has_bit (get_or words at 0) bit
-at-word words at i bit lt is = grind (arith)
 
 pub past-words : (words : List ℕ) (i : ℕ) → length words ≤ i / 64 → is_in words i ≡ false
 past-words words i past = zero-bit (get_or words (i / 64) 0) (i % 64) (get_or_past words (i / 64) 0 past)
@@ -138,4 +131,4 @@ looks-first words from = record { fits = omega arith; place = omega arith; none 
 
 module _ (words : List ℕ) (from at low : ℕ) (looks : Looks words from at low) where
   pub looks-past : length words ≤ at → IsClearFrom words from
-  looks-past past i ge = grind (arith, cases_lt, past-words)
+  looks-past past i ge = grind (arith, past-words)

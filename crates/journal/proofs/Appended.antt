@@ -58,7 +58,7 @@ pub rest_size : (words room position : ℕ) (found : List ℕ) → length found 
 rest_size words room position found size = omega (arith, length-drop position (journal_in words room found), journal_size words room found size)
 
 pub behind_at : (words room position at : ℕ) (file begun behind : List ℕ) → IsBehind words room position file begun behind → position + at < room → get_or behind at 0 ≡ get_or file (words + position + at) 0
-behind_at words room position at file begun behind is lt = grind (arith, get_or-append-add, along, journal_word)
+behind_at words room position at file begun behind is lt = grind (arith, get_or-append-add, journal_word)
 
 pub split : (words room position : ℕ) (file found begun behind : List ℕ) → IsBehind words room position file begun behind → length found ≡ words + room + 8
     → ((word : ℕ) → words ≤ word → word < words + position → get_or found word 0 ≡ get_or file word 0) → journal_in words room found ≡ begun ++ rest_of words room position found
@@ -192,7 +192,7 @@ pub pasted_within : (file : List ℕ) (start : ℕ) (news : List ℕ) → start 
 pasted_within file start news fits at lt = pasted_from file start news fits at ∙ get_or_append_left news (drop (start + length news) file) 0 at lt
 
 pub pasted_after : (file : List ℕ) (start : ℕ) (news : List ℕ) → start + length news ≤ length file → (word : ℕ) → start + length news ≤ word → get_or (pasted file start news) word 0 ≡ get_or file word 0
-pasted_after file start news fits word le = grind (arith, along, pasted_from file start news fits (length news + (word - (start + length news))), get_or-append-add news (drop (start + length news) file) (word - (start + length news)) 0, get_or-drop (start + length news) file (word - (start + length news)) 0)
+pasted_after file start news fits word le = grind (arith, pasted_from file start news fits (length news + (word - (start + length news))), get_or-append-add news (drop (start + length news) file) (word - (start + length news)) 0, get_or-drop (start + length news) file (word - (start + length news)) 0)
 
 pub append-kept : (old new : ℕ → ℕ → Type 0) (words room : ℕ) (pass : Bool) (position : ℕ) (durable next : List ℕ) (changed : List Line) → Rests old words room pass position durable → AreLines changed
     → position + length (entry pass (payloads_of_lines changed)) ≤ room → length next ≡ words → ((word : ℕ) → word < words → put_over changed word (get_or durable word 0) ≡ get_or next word 0)
@@ -308,4 +308,4 @@ two a lt = grind (arith)
 
 pub found-knows : (may_hold : ℕ → ℕ → Type 0) (words room : ℕ) (file durable : List ℕ) (pass : Bool) → length file ≡ words + room + 8 → HoldsOnly may_hold (length file) file → Opens words room file durable
     → get_or file (words + room + 3) 0 < 2 → pass ≡ pass_of (get_or file (words + room + 3) 0) → Knows may_hold words room pass durable
-found-knows may_hold words room file durable pass size holds opens in_pass is = grind (arith, two)
+found-knows may_hold words room file durable pass size holds opens in_pass is = grind (arith)

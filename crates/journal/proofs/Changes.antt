@@ -1,7 +1,7 @@
 -- Lines that put what differs.
 use Rattle.std.proofs.Common.{◌≡◌, ◌⊎◌, inl, inr, ℕ, ◌+◌, ◌*◌, ◌/◌, ◌%◌, ◌<◌, ◌≤◌, ◌^◌, Bool, true, false, List, [], ◌∷◌, ◌++◌, length, get_or, refl, sym, ◌∙◌, ap, arith}
 use Rattle.std.specs.Prelude.{All}
-use Rattle.std.proofs.lemmas.Bool.{or_cases, or_left, or_right, eqb-true, false≢true}
+use Rattle.std.proofs.lemmas.Bool.{false≢true}
 use Rattle.std.proofs.lemmas.List.{length-map, ext_get_or}
 use Rattle.std.proofs.lemmas.List.Elements.{All-append, All-cons}
 use Rattle.journal.specs.declared.line.Line.{Line}
@@ -17,7 +17,7 @@ use Rattle.journal.proofs.Opened.{size}
 -- a word that lines are put over is one that they put, or as it was
 pub over_puts : (lines : List Line) (word v : ℕ) → IsPut lines word (put_over lines word v) ⊎ ((is_put_at lines (word / 8) ≡ false) × (put_over lines word v ≡ v))
 over_puts [] word v = inr (refl, refl)
-over_puts (line ∷ lines) word v = grind (arith, over_puts lines word (get_or line.words (word % 8) 0), over_puts lines word v, eqb-true)
+over_puts (line ∷ lines) word v = grind (arith, over_puts lines word (get_or line.words (word % 8) 0), over_puts lines word v)
 
 -- so the lines of the numbers in which words differ make them of the durable ones
 pub found-changed : (lines : List Line) (durable words numbers : List ℕ) → AreFound lines durable words numbers → DiffersIn numbers words durable → AreChanged lines durable words
@@ -40,11 +40,11 @@ found-changed lines durable words numbers found differs = record {
 -- ---- one number more
 
 listed-cases : (numbers : List ℕ) (last number : ℕ) → is_listed (numbers ++ last ∷ []) number ≡ true → (is_listed numbers number ≡ true) ⊎ (last ≡ number)
-listed-cases [] last number is = grind (arith, or_cases, eqb-true, false≢true)
-listed-cases (first ∷ numbers) last number is = grind (arith, or_cases, or_left, listed-cases numbers last number, or_right)
+listed-cases [] last number is = grind (arith)
+listed-cases (first ∷ numbers) last number is = grind (arith, listed-cases numbers last number)
 
 pub found-none : (durable words : List ℕ) → AreFound [] durable words []
-found-none durable words = grind (arith, false≢true)
+found-none durable words = grind (arith)
 
 -- of a line that is durable, or is none of theirs, nothing is added
 pub found-stood : (lines : List Line) (durable words numbers : List ℕ) (number : ℕ) → AreFound lines durable words numbers

@@ -203,7 +203,7 @@ off-opens old new words room pass durable here puts = found_opens new words room
 
 pub off-kept : (old new : ℕ → ℕ → Type 0) (words room : ℕ) (pass : Bool) (durable : List ℕ) → IsInPlace old words room pass durable → Puts old new (words + room) (tail_of 0 words room pass)
     → Keeps new (words + room) (tail_of 0 words room pass) → IsOff new words room durable
-off-kept old new words room pass durable here puts keeps = grind (arith, at_run)
+off-kept old new words room pass durable here puts keeps = grind (arith)
 
 -- ---- nothing is left in it
 
@@ -231,7 +231,7 @@ clear-opens old new words room durable here puts = found_opens new words room du
     (lines-off words room found (λ e. zero-magic (sym off ∙ e))))
 
 pub clear-kept : (old new : ℕ → ℕ → Type 0) (words room : ℕ) (durable : List ℕ) → IsOff old words room durable → Puts old new words (clear words room) → Keeps new words (clear words room) → IsClear new words room durable
-clear-kept old new words room durable here puts keeps = grind (arith, cases_lt, get_or_append_left, clear_size, get_or-append-add, along)
+clear-kept old new words room durable here puts keeps = grind (arith, get_or_append_left, clear_size, get_or-append-add)
 
 -- ---- the journal counts
 

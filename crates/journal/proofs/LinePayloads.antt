@@ -1,6 +1,6 @@
 -- Lines as payloads, and back.
 use Rattle.std.proofs.Common.{◌≡◌, ℕ, suc, ◌+◌, ◌*◌, ◌/◌, ◌%◌, ◌<◌, ◌≤◌, ◌^◌, List, [], ◌∷◌, ◌++◌, length, map, take, drop, set, get_or, refl, sym, ◌∙◌, ap, arith}
-use Rattle.std.proofs.lemmas.List.{length-map, length-take, take_at, drop_at, drop_more, take_more_set, append_assoc, get_or-take, get_or_at}
+use Rattle.std.proofs.lemmas.List.{length-map, take_at, drop_at, take_more_set, get_or_at}
 use Rattle.journal.specs.declared.line.Line.{Line}
 use Rattle.journal.specs.LinePayloads.{low, packed, line_payloads, joined, number_in, line_of, payloads_of_lines, lines_of, IsLine, LinesReturn}
 
@@ -61,12 +61,12 @@ lines-return (line ∷ lines) all =
 -- ---- the loop that takes a line apart
 
 at_drop : (payloads : List ℕ) (place : ℕ) → place < 8 → 9 ≤ length payloads → drop place (take 8 payloads) ≡ get_or payloads place 0 ∷ drop (place + 1) (take 8 payloads)
-at_drop payloads place lt long = grind (arith, drop_more, length-take, get_or-take)
+at_drop payloads place lt long = grind (arith)
 
 pub joined-more : (payloads words start : List ℕ) (place rest value : ℕ) → place < 8 → 9 ≤ length payloads → length words ≡ 8 → value ≡ get_or payloads place 0 % 2 ^ 63 + rest % 2 * 2 ^ 63
     → take place words ++ joined (drop place (take 8 payloads)) rest ≡ start
     → take (place + 1) (set words place value) ++ joined (drop (place + 1) (take 8 payloads)) (rest / 2) ≡ start
-joined-more payloads words start place rest value lt long size is before = grind (arith, take_more_set, append_assoc, at_drop)
+joined-more payloads words start place rest value lt long size is before = grind (arith, take_more_set)
 
 pub number-more : (payloads : List ℕ) (place rest number : ℕ) → place < 8 → 9 ≤ length payloads → number_in (drop place (take 8 payloads)) rest ≡ number → number_in (drop (place + 1) (take 8 payloads)) (rest / 2) ≡ number
 number-more payloads place rest number lt long before = sym (ap (λ (l : List ℕ). number_in l rest) (at_drop payloads place lt long)) ∙ before

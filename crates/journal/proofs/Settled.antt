@@ -2,7 +2,6 @@
 use Rattle.std.proofs.Common.{◌≡◌, ◌≢◌, ◌⊎◌, inl, inr, ℕ, List, [], ◌∷◌, length, get_or, refl, ap, arith}
 use Rattle.std.proofs.Math.Logic.{∥∥₁_elim, ∥∥₁_map}
 use Rattle.std.proofs.Math.Nat.{ℕ_set}
-use Rattle.std.proofs.lemmas.Bool.{cases_eq}
 use Rattle.std.proofs.lemmas.List.{ext_get_or}
 
 abbrev head : List ℕ → ℕ
@@ -22,7 +21,7 @@ pub cases_list : (a b : List ℕ) → (a ≡ b) ⊎ (a ≢ b)
 cases_list [] [] = inl refl
 cases_list [] (y ∷ b) = inr (λ e. omega (arith, ap (λ (l : List ℕ). length l) e))
 cases_list (x ∷ a) [] = inr (λ e. omega (arith, ap (λ (l : List ℕ). length l) e))
-cases_list (x ∷ a) (y ∷ b) = grind (arith, cases_eq, cases_list a b)
+cases_list (x ∷ a) (y ∷ b) = grind (arith, cases_list a b)
 
 pub either_out : (image a b : List ℕ) → ∥ (image ≡ a) ⊎ (image ≡ b) ∥₁ → (image ≡ a) ⊎ (image ≡ b)
 either_out image a b some = elim (cases_list image a) [

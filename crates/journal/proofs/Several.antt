@@ -1,6 +1,6 @@
 -- Several entries are read.
-use Rattle.std.proofs.Common.{◌≡◌, inl, inr, ℕ, zero, suc, ◌+◌, ◌/◌, ◌≤◌, Bool, true, false, cond, ◌&&◌, List, [], ◌∷◌, ◌++◌, length, take, drop, Some, None, nat_le, refl, ◌∙◌, ap, arith}
-use Rattle.std.proofs.lemmas.Bool.{and_parts, and_from, le-leb, true≢false}
+use Rattle.std.proofs.Common.{◌≡◌, inl, inr, ℕ, zero, suc, ◌+◌, ◌/◌, ◌≤◌, Bool, true, cond, ◌&&◌, List, [], ◌∷◌, ◌++◌, length, take, drop, None, nat_le, refl, ◌∙◌, ap, arith}
+use Rattle.std.proofs.lemmas.Bool.{and_from}
 use Rattle.std.proofs.lemmas.List.{length-map, length-append, take_at, drop_at}
 use Rattle.journal.specs.Entries.{marks, payloads_of, are_of, NoneOf, entry, read, over, IsMixture}
 use Rattle.journal.specs.Several.{read_most, journal, AppendIsWhole, NoneIsNothing, IsScrub, ScrubIsNone}
@@ -16,7 +16,7 @@ marks_read pass (payload ∷ payloads) = λ i. half pass payload i ∷ marks_rea
 
 -- a whole entry is read, and then what stands behind it
 pub one_more : (pass : Bool) (most : ℕ) (payloads rest : List ℕ) → read_most pass (suc most) (entry pass payloads ++ rest) ≡ payloads ∷ read_most pass most rest
-one_more pass most payloads rest = grind (arith, half, length-map, take_at, drop_at, length-append, and_from, own_bit, le-leb, marks_are, marks_read)
+one_more pass most payloads rest = grind (arith, length-map, take_at, drop_at, length-append, marks_are, marks_read)
 
 pub none_more : (pass : Bool) (most : ℕ) (words : List ℕ) → NoneOf pass words → read_most pass most words ≡ []
 none_more pass zero words none = refl
@@ -24,13 +24,10 @@ none_more pass (suc most) [] none = refl
 none_more pass (suc most) (word ∷ words) none =
     ap (λ (b : Bool). cond (b && (nat_le (word / 2) (length words) && are_of pass (take (word / 2) words))) (payloads_of (take (word / 2) words) ∷ read_most pass most (drop (word / 2) words)) []) none.0
 
-pub not_whole : (b : Bool) (payloads : List ℕ) → cond b (Some payloads) None ≡ None → b ≡ false
-not_whole a payloads e = grind (arith, true≢false)
-
 pub torn_more : (pass : Bool) (most : ℕ) (words : List ℕ) → read pass words ≡ None → read_most pass most words ≡ []
 torn_more pass zero words torn = refl
 torn_more pass (suc most) [] torn = refl
-torn_more pass (suc most) (word ∷ words) torn = grind (arith, not_whole)
+torn_more pass (suc most) (word ∷ words) torn = grind (arith)
 
 -- those before
 pub before : (pass : Bool) (entries : List (List ℕ)) (last : List (List ℕ)) (words : List ℕ) (most : ℕ) → ((left : ℕ) → most ≡ length entries + left → read_most pass left words ≡ last)
@@ -103,12 +100,9 @@ scrub_are : (pass : Bool) (n : ℕ) (old words : List ℕ) → IsScrub pass old 
 scrub_are pass zero old words scrub are = refl
 scrub_are pass (suc n) [] words scrub are = refl
 scrub_are pass (suc n) (word ∷ old) [] scrub are = absurd scrub
-scrub_are pass (suc n) (word ∷ old) (found ∷ words) scrub are = grind (arith, and_parts, and_from, scrub_are pass n old words scrub.1, true≢false)
-
-true_or : (b : Bool) → (b ≡ true → ⊥) → b ≡ false
-true_or a refuted = grind (arith)
+scrub_are pass (suc n) (word ∷ old) (found ∷ words) scrub are = grind (arith, scrub_are pass n old words scrub.1)
 
 pub scrub-is_none : ScrubIsNone
 scrub-is_none pass [] words torn scrub = ap (read pass) scrub
 scrub-is_none pass (word ∷ old) [] torn scrub = absurd scrub
-scrub-is_none pass (word ∷ old) (found ∷ words) torn scrub = grind (arith, true_or, and_parts, true≢false, scrub_size, scrub_are, and_from, not_whole)
+scrub-is_none pass (word ∷ old) (found ∷ words) torn scrub = grind (arith, scrub_size, scrub_are)

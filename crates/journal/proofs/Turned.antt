@@ -98,7 +98,7 @@ filled-opens may_hold words room pass position durable found r filled =
 filled-found : (old new : ℕ → ℕ → Type 0) (words room : ℕ) (pass : Bool) (position : ℕ) (file durable found : List ℕ) → HoldsOnly old (words + room + 8) file → length durable ≡ words → position ≤ room
     → ((word x : ℕ) → new word x → (old word x ⊎ IsInRun (words + position) (fillings pass (room - position)) word x) ⊎ IsInRun 0 durable word x)
     → IsFound new (words + room + 8) found → IsFilled words room pass position file durable found
-filled-found old new words room pass position file durable found holds was within puts is = grind (arith, fillings_size, along, get_or-replicate)
+filled-found old new words room pass position file durable found holds was within puts is = grind (arith, fillings_size, get_or-replicate)
 
 pub fill-opens : (old new : ℕ → ℕ → Type 0) (words room : ℕ) (pass : Bool) (position : ℕ) (durable : List ℕ) → position ≤ room → Rests old words room pass position durable
     → ((word x : ℕ) → new word x → (old word x ⊎ IsInRun (words + position) (fillings pass (room - position)) word x) ⊎ IsInRun 0 durable word x) → FoundOpens new words room durable

@@ -2,7 +2,7 @@
 use Rattle.std.proofs.Common.{Result, ℕ, Bool, List, arith}
 use Rattle.std.specs.Prelude.{OnOk}
 use Rattle.std.proofs.Math.Logic.{∥∥₁_map}
-use Rattle.journal.specs.Files.{MayBe, IsStoodFor}
+use Rattle.journal.specs.Files.{MayBe}
 use Rattle.journal.specs.States.{Rests}
 
 abbrev pub IsWithin : (ℕ → ℕ → Type 0) → (ℕ → ℕ → Type 0) → Type 0
@@ -29,11 +29,8 @@ rests_one old new words room pass position image within r = record {
 pub rests_within : (old new : ℕ → ℕ → Type 0) (words room : ℕ) (pass : Bool) (position : ℕ) (image : List ℕ) → IsWithin old new → ∥ Rests old words room pass position image ∥₁ → ∥ Rests new words room pass position image ∥₁
 rests_within old new words room pass position image within some = ∥∥₁_map some (λ r. rests_one old new words room pass position image within r)
 
-stood_within : (old new : ℕ → ℕ → Type 0) (words room : ℕ) (image : List ℕ) → IsWithin old new → IsStoodFor new words room image → IsStoodFor old words room image
-stood_within old new words room image within stood = grind (arith)
-
 pub may_be_within : (old new : ℕ → ℕ → Type 0) (room : ℕ) (written image : List ℕ) → IsWithin old new → MayBe new room written image → MayBe old room written image
-may_be_within old new room written image within a = grind (arith, stood_within)
+may_be_within old new room written image within a = grind (arith)
 
 pub both_ok : {T E P Q R : Type 0} (result : Result T E) → (P → Q → R) → OnOk result P → OnOk result Q → OnOk result R
 both_ok a f p q = grind (arith)

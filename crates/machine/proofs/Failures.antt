@@ -1,17 +1,15 @@
 -- Which replies report a failing device, and what a failed state answers.
-use Rattle.std.proofs.Common.{◌≡◌, ℕ, Bool, true, false, cond, [], ◌∷◌, refl, sym, ◌∙◌, ap, subst, arith}
+use Rattle.std.proofs.Common.{◌≡◌, Bool, true, false, cond, sym, ◌∙◌, ap, arith}
 use Rattle.std.specs.Prelude.{Option, Some, None}
 use Rattle.std.specs.Option.{option_or, option_map}
 use Rattle.base.specs.declared.key.Key.{Key}
 use Rattle.base.specs.declared.fault.Fault.{Fault}
 use Rattle.base.specs.declared.fault.Fault.TheVariants.{Failed, Conflict}
 use Rattle.base.specs.declared.step.Step.{Step}
-use Rattle.base.specs.declared.step.Stage.{Stage}
 use Rattle.base.specs.declared.step.Reply.{Reply}
 use Rattle.base.specs.declared.step.Reply.TheVariants.{Refused}
-use Rattle.base.specs.Commits.{Writes}
 use Rattle.base.specs.Search.{some_if}
-use Rattle.machine.specs.Machine.{State, Hand, Stepped, refused, answered, memory_refused, device_failed, refusal, next_state, state_drawn, state_ticked, state_ticked_on}
+use Rattle.machine.specs.Machine.{State, Stepped, refused, answered, memory_refused, device_failed, refusal, next_state}
 use Rattle.base.specs.Replies.{is_failure}
 use Rattle.machine.proofs.Runs.{IsAnswer, Answers-answer}
 use Rattle.machine.proofs.collector.Visits.{visit-changes}
@@ -25,14 +23,11 @@ Quiet o = (fault : Fault) → o ≡ Some fault → is_failure (Refused fault) �
 quiet-none : Quiet None
 quiet-none fault e = absurd (cc e)
 
-quiet-some : (known : Fault) → is_failure (Refused known) ≡ false → Quiet (Some known)
-quiet-some known quiet fault e = let same : known ≡ fault = cc e in subst (λ (f : Fault). is_failure (Refused f) ≡ false) same quiet
-
 quiet-if : (test : Bool) (known : Fault) → is_failure (Refused known) ≡ false → Quiet (some_if test known)
-quiet-if a known quiet = grind (arith, quiet-some, quiet-none)
+quiet-if a known quiet = grind (arith)
 
 quiet-conflict : (o : Option Key) → Quiet (option_map Conflict o)
-quiet-conflict a = grind (arith, quiet-none, quiet-some)
+quiet-conflict a = grind (arith)
 
 quiet-or : (a b : Option Fault) → Quiet a → Quiet b → Quiet (option_or a b)
 quiet-or a b p r = grind (arith)
@@ -48,18 +43,8 @@ answer-quiet b a = grind (arith)
 choice : (b : Bool) (x y : State) (v : Bool) → x.failed ≡ v → y.failed ≡ v → (cond b x y).failed ≡ v
 choice a x y v p r = grind (arith)
 
-drawn-works : (q : State) (n : ℕ) (writes : Writes) → (state_drawn q n writes).failed ≡ q.failed
-drawn-works q n [] = refl
-drawn-works q n (write ∷ writes) = refl
-
-ticked-on-works : (q : State) (hand : Hand) (o : Option Stage) → (state_ticked_on q hand o).failed ≡ q.failed
-ticked-on-works q hand a = grind (arith)
-
-ticked-works : (q : State) (o : Option Hand) → (state_ticked q o).failed ≡ q.failed
-ticked-works q a = grind (arith, choice, ticked-on-works)
-
 answered-works : (q : State) (step : Step) → (next_state q step).failed ≡ q.failed
-answered-works q a = grind (arith, drawn-works, ticked-works, visit-changes)
+answered-works q a = grind (arith, visit-changes)
 
 pub failed-after : (q : State) (step : Step) (reply : Reply) (q' : State) → Stepped q step reply q' → q.failed ≡ false → q'.failed ≡ is_failure reply
 failed-after q step reply q' (refused fault e r s) works = ap (λ (x : State). x.failed) s ∙ works ∙ sym (refusal-quiet q step fault e) ∙ sym (ap is_failure r)

@@ -6,13 +6,12 @@ use Rattle.base.specs.declared.fault.Fault.TheVariants.{Device}
 use Rattle.base.specs.declared.step.Step.{Step}
 use Rattle.base.specs.declared.step.Step.TheVariants.{Begin, Get, Scan, Put, Delete, Draw, Stamp, Poll, Abort, End, Commit as CommitTick, Collect}
 use Rattle.base.specs.declared.step.Stage.{Stage}
-use Rattle.base.specs.declared.step.Stage.TheVariants.{Chosen}
 use Rattle.base.specs.declared.step.Reply.{Reply}
-use Rattle.base.specs.declared.step.Reply.TheVariants.{Done, Drawn as DrewAs, Committed, Idle, Ticked, Refused}
+use Rattle.base.specs.declared.step.Reply.TheVariants.{Done, Drawn as DrewAs, Committed, Refused}
 use Rattle.base.specs.Commits.{Commit, Writes}
 use Rattle.base.specs.Stands.{has_timestamp}
 use Rattle.base.specs.Lists.{is_nil}
-use Rattle.machine.specs.Machine.{State, Session, Hand, Stepped, refused, answered, memory_refused, device_failed, Answers, Run, final, next_state, state_ticked, state_ticked_on, state_drawn, next_stage, is_idle, writes_of, polled, ticked, ticked_on}
+use Rattle.machine.specs.Machine.{State, Hand, Stepped, refused, answered, memory_refused, device_failed, Answers, Run, final, next_state, state_ticked, state_ticked_on, state_drawn, next_stage, is_idle, writes_of, ticked}
 use Rattle.machine.specs.Laws.{drawn_by, drawn_in, RiseBetween}
 use Rattle.machine.specs.Collecting.{visited}
 use Rattle.machine.proofs.Runs.{Answers-answer}
@@ -99,14 +98,8 @@ any-append (x ∷ xs) ys t e = or-more (nat_eq x.timestamp t) (has_timestamp xs 
 pub stays-in : (history : List Commit) (q : State) (t : ℕ) → Extends history q → has_timestamp history t ≡ true → has_timestamp q.history t ≡ true
 stays-in history q t (more, e) h = subst (λ (l : List Commit). has_timestamp l t ≡ true) (sym e) (any-append history more t h)
 
-committed_is : (t other : ℕ) → Committed t ≡ Committed other → t ≡ other
-committed_is t other e = cc
-
-pub polled-in : (q : State) (o : Option Session) (t : ℕ) → Committed t ≡ polled q o → has_timestamp q.history t ≡ true
-polled-in q a t e = grind (arith, committed_is)
-
 poll-in : (q : State) (n t : ℕ) (q' : State) → Stepped q (Poll n) (Committed t) q' → has_timestamp q.history t ≡ true
-poll-in q n t q' b = grind (arith, polled-in)
+poll-in q n t q' b = grind (arith)
 
 pub acknowledged-stays : (q : State) (n t : ℕ) (q' : State) (steps : List Step) (replies : List Reply) (states : List State)
     → Stepped q (Poll n) (Committed t) q' → Run q' steps replies states → IsTrue (has_timestamp (final q' states).history t)
@@ -124,23 +117,8 @@ rise-append from mid to (x ∷ xs) ys a b = (a.0, rise-append (x + 1) mid to xs 
 abbrev Same : State → Reply → State → Type 0
 Same q reply q' = (drawn_by reply ≡ []) × (q'.next ≡ q.next)
 
-same-rise : (q : State) (reply : Reply) (q' : State) → Same q reply q' → RiseBetween q.next (drawn_by reply) q'.next
-same-rise q reply q' (none, same) = subst (λ (l : List ℕ). RiseBetween q.next l q'.next) (sym none) (omega (arith, same))
-
-either_none : (b : Bool) (x y : Reply) → drawn_by x ≡ [] → drawn_by y ≡ [] → drawn_by (if b then x else y) ≡ []
-either_none a x y p q = grind (arith)
-
-polled_none : (q : State) (o : Option Session) → drawn_by (polled q o) ≡ []
-polled_none q a = grind (arith, either_none)
-
-idle-same : (q : State) (hand : Hand) (b : Bool) → Same q (if b then Idle else Ticked Chosen) (if b then q else record q { hand = Some hand })
-idle-same q hand a = grind (arith)
-
-on-same : (q : State) (hand : Hand) (o : Option Stage) → Same q (ticked_on q hand o) (state_ticked_on q hand o)
-on-same q hand a = grind (arith)
-
 ticked-same : (q : State) (o : Option Hand) → Same q (ticked q o) (state_ticked q o)
-ticked-same q a = grind (arith, idle-same, on-same)
+ticked-same q a = grind (arith)
 
 drawn-rise : (q : State) (n : ℕ) (writes : Writes) → RiseBetween q.next (drawn_by (if is_nil writes then Done else DrewAs q.next)) (state_drawn q n writes).next
 drawn-rise q n [] = omega arith
@@ -150,13 +128,10 @@ along : (q : State) (reply other : Reply) (q' : State) → reply ≡ other → R
 along q reply other q' e r = subst (λ (x : Reply). RiseBetween q.next (drawn_by x) q'.next) (sym e) r
 
 next-rise : (q : State) (step : Step) (reply : Reply) → Answers q step reply → RiseBetween q.next (drawn_by reply) (next_state q step).next
-next-rise q b reply a = grind (arith, along, drawn-rise, same-rise, either_none, polled_none, ticked-same, visit-changes)
-
-refused-rise : (q : State) (reply : Reply) (fault : Fault) (q' : State) → reply ≡ Refused fault → q'.next ≡ q.next → RiseBetween q.next (drawn_by reply) q'.next
-refused-rise q reply fault q' r s = same-rise q reply q' (ap drawn_by r, s)
+next-rise q b reply a = grind (arith, drawn-rise, ticked-same, visit-changes)
 
 pub stepped-rise : (q : State) (step : Step) (reply : Reply) (q' : State) → Stepped q step reply q' → RiseBetween q.next (drawn_by reply) q'.next
-stepped-rise q step reply q' b = grind (arith, refused-rise, next-rise)
+stepped-rise q step reply q' b = grind (arith, next-rise)
 
 pub run-rise : (q : State) (steps : List Step) (replies : List Reply) (states : List State) → Run q steps replies states → RiseBetween q.next (drawn_in replies) (final q states).next
 run-rise q [] [] [] run = omega arith

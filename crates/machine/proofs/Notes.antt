@@ -2,38 +2,26 @@
 use Rattle.std.proofs.Common.{◌≡◌, ℕ, sym, ap, ◌∙◌, Bool, true, false, List, [], ◌∷◌, arith}
 use Rattle.std.specs.Prelude.{Option, if◌then◌else◌}
 use Rattle.base.specs.declared.key.Key.{Key}
-use Rattle.base.specs.declared.fault.Fault.{Fault}
 use Rattle.base.specs.declared.step.Step.{Step}
-use Rattle.base.specs.declared.step.Step.TheVariants.{Poll, Commit as CommitTick}
-use Rattle.base.specs.declared.step.Stage.{Stage}
+use Rattle.base.specs.declared.step.Step.TheVariants.{Commit as CommitTick}
 use Rattle.base.specs.declared.step.Reply.{Reply}
-use Rattle.base.specs.declared.step.Reply.TheVariants.{Rows, Refused}
+use Rattle.base.specs.declared.step.Reply.TheVariants.{Rows}
 use Rattle.base.specs.Replies.{note_of}
-use Rattle.machine.specs.Machine.{State, Hand, Session, Stepped, Answers, next_state, polled, ticked, ticked_on}
+use Rattle.machine.specs.Machine.{State, Hand, Stepped, Answers, next_state, ticked}
 use Rattle.machine.specs.Notes.{fits, StepsFit, RunsFit}
-
--- a refusal fits each step
-refused_fits : (step : Step) (fault : Fault) → fits step (note_of (Refused fault)) ≡ true
-refused_fits a fault = grind (arith)
 
 either_fits : (step : Step) (b : Bool) (x y : Reply) → fits step (note_of x) ≡ true → fits step (note_of y) ≡ true → fits step (note_of (if b then x else y)) ≡ true
 either_fits step a x y p q = grind (arith)
 
-polled_fits : (q : State) (n : ℕ) (o : Option Session) → fits (Poll n) (note_of (polled q o)) ≡ true
-polled_fits q n a = grind (arith, either_fits)
-
-ticked_on_fits : (q : State) (hand : Hand) (o : Option Stage) → fits CommitTick (note_of (ticked_on q hand o)) ≡ true
-ticked_on_fits q hand a = grind (arith)
-
 ticked_fits : (q : State) (o : Option Hand) → fits CommitTick (note_of (ticked q o)) ≡ true
-ticked_fits q a = grind (arith, either_fits, ticked_on_fits)
+ticked_fits q a = grind (arith, either_fits)
 
 along : (step : Step) (reply other : Reply) → reply ≡ other → fits step (note_of other) ≡ true → fits step (note_of reply) ≡ true
 along step reply other is fit = ap (λ (r : Reply). fits step (note_of r)) is ∙ fit
 
 -- an answer fits its step
 answered_fits : (q : State) (step : Step) (reply : Reply) → Answers q step reply → fits step (note_of reply) ≡ true
-answered_fits q b reply a = grind (arith, along, either_fits, polled_fits, ticked_fits)
+answered_fits q b reply a = grind (arith, either_fits, ticked_fits)
 
 -- ---- replies that list rows
 
@@ -41,28 +29,16 @@ abbrev lists : Reply → Bool
 lists (Rows rows) = true
 lists _ = false
 
-either_lists : (b : Bool) (x y : Reply) → lists x ≡ false → lists y ≡ false → lists (if b then x else y) ≡ false
-either_lists a x y p q = grind (arith)
-
-ticked_on_lists : (q : State) (hand : Hand) (o : Option Stage) → lists (ticked_on q hand o) ≡ false
-ticked_on_lists q hand a = grind (arith)
-
-ticked_lists : (q : State) (o : Option Hand) → lists (ticked q o) ≡ false
-ticked_lists q a = grind (arith, either_lists, ticked_on_lists)
-
-unlisted : {P : Type 0} (reply other : Reply) → lists reply ≡ true → reply ≡ other → lists other ≡ false → P
-unlisted reply other has is none = grind arith
-
 -- only a scan lists rows, and it changes nothing
 listed : (q : State) (step : Step) (reply : Reply) → lists reply ≡ true → Answers q step reply → next_state q step ≡ q
-listed q b reply has a = grind (arith, unlisted, either_lists, ticked_lists)
+listed q b reply has a = grind (arith)
 
 -- a step that lists rows changes nothing
 pub rows-unchanged : (q q' : State) (step : Step) (rows : List (Key × List ℕ)) → Stepped q step (Rows rows) q' → q' ≡ q
 rows-unchanged q q' step rows b = grind (arith, listed)
 
 pub steps-fit : StepsFit
-steps-fit q q' step reply b = grind (arith, along, refused_fits, answered_fits)
+steps-fit q q' step reply b = grind (arith, answered_fits)
 
 pub runs-fit : RunsFit
 runs-fit q q' [] step note (reply, mid, s, is, rest) = ap (fits step) (sym is) ∙ steps-fit q mid step reply s

@@ -1,5 +1,5 @@
 -- What the machine answers as a function is what it may answer, but for want of memory and a failing device.
-use Rattle.std.proofs.Common.{◌≡◌, List, [], ◌∷◌, refl, sym, ◌∙◌, ap, ◌⊎◌, arith}
+use Rattle.std.proofs.Common.{◌≡◌, List, [], ◌∷◌, refl, ◌∙◌, ap, ◌⊎◌, arith}
 use Rattle.std.specs.Prelude.{Option, Some, None}
 use Rattle.base.specs.declared.fault.Fault.{Fault}
 use Rattle.base.specs.declared.fault.Fault.TheVariants.{OutOfMemory, Device}
@@ -55,15 +55,9 @@ answers-answer q (End n) reply a = a
 answers-answer q CommitTick reply a = a
 answers-answer q Collect reply a = a
 
-reply-when : (q : State) (step : Step) (o : Option Fault) → refusal q step ≡ o → reply_on q step o ≡ reply_of q step
-reply-when q step o e = ap (reply_on q step) (sym e)
-
-state-when : (q : State) (step : Step) (o : Option Fault) → refusal q step ≡ o → state_on q step o ≡ state_of q step
-state-when q step o e = ap (state_on q step) (sym e)
-
 pub decided : (q : State) (step : Step) (reply : Reply) (q' : State) → Stepped q step reply q'
     → ((reply ≡ reply_of q step) × (q' ≡ state_of q step)) ⊎ (reply ≡ Refused OutOfMemory) ⊎ (reply ≡ Refused Device)
-decided q step reply q' b = grind (arith, reply-when, state-when, answers-answer)
+decided q step reply q' b = grind (arith, answers-answer)
 
 pub ends : (q : State) (steps : List Step) → final q (states q steps) ≡ end q steps
 ends q [] = refl

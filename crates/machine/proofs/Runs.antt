@@ -1,15 +1,13 @@
 -- Laws of steps and runs.
-use Rattle.std.proofs.Common.{◌≡◌, Bool, List, [], ◌∷◌, ◌++◌, refl, sym, subst, inl, inr, arith}
-use Rattle.std.specs.Prelude.{Option, if◌then◌else◌}
+use Rattle.std.proofs.Common.{◌≡◌, List, [], ◌∷◌, ◌++◌, refl, sym, subst, inl, inr, arith}
 use Rattle.std.proofs.lemmas.List.Elements.{Contains-append_left}
 use Rattle.base.specs.declared.fault.Fault.TheVariants.{OutOfMemory}
 use Rattle.base.specs.declared.step.Step.{Step}
-use Rattle.base.specs.declared.step.Stage.{Stage}
 use Rattle.base.specs.declared.step.Note.{Note}
 use Rattle.base.specs.declared.step.Reply.{Reply}
 use Rattle.base.specs.declared.step.Reply.TheVariants.{Refused}
 use Rattle.base.specs.Replies.{note_of}
-use Rattle.machine.specs.Machine.{State, Hand, Session, Stepped, Answers, Noted, Run, final, StandsAt, StandsWithin, StandsAlong, StandsClosing, covers_at, of_hand, present, closed, polled, ticked, ticked_on}
+use Rattle.machine.specs.Machine.{State, Stepped, Answers, Noted, Run, final, StandsAt, StandsWithin, StandsAlong, StandsClosing, covers_at, of_hand, present, closed}
 use Rattle.base.specs.Images.{Image}
 
 -- a reply that is no refusal
@@ -17,24 +15,12 @@ abbrev pub IsAnswer : Reply → Type 0
 IsAnswer (Refused fault) = ⊥
 IsAnswer _ = Unit {0}
 
-either_answer : (b : Bool) (x y : Reply) → IsAnswer x → IsAnswer y → IsAnswer (if b then x else y)
-either_answer a x y p q = grind (arith)
-
-polled_answer : (q : State) (o : Option Session) → IsAnswer (polled q o)
-polled_answer q a = grind (arith, either_answer)
-
-ticked_on_answer : (q : State) (hand : Hand) (o : Option Stage) → IsAnswer (ticked_on q hand o)
-ticked_on_answer q hand a = grind (arith)
-
-ticked_answer : (q : State) (o : Option Hand) → IsAnswer (ticked q o)
-ticked_answer q a = grind (arith, either_answer, ticked_on_answer)
-
 along : (reply other : Reply) → reply ≡ other → IsAnswer other → IsAnswer reply
 along reply other e p = subst (λ r. IsAnswer r) (sym e) p
 
 -- an answer is no refusal
 pub Answers-answer : (q : State) (step : Step) (reply : Reply) → Answers q step reply → IsAnswer reply
-Answers-answer q b reply a = grind (arith, along, either_answer, polled_answer, ticked_answer)
+Answers-answer q b reply a = grind (arith)
 
 -- want of memory changes nothing
 pub memory_unchanged : (q : State) (step : Step) (q' : State) → Stepped q step (Refused OutOfMemory) q' → q' ≡ q

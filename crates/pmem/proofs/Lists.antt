@@ -42,7 +42,7 @@ pub record HasStopped (ops : List Operation) (old new : Device) : Type 0 where
   pub orderly : IsOrderly new
 
 pub has_stopped : {ops : List Operation} {old new : Device} → StopsWithin ops old new → HasStopped ops old new
-has_stopped {ops} {old} (k, lt, run) = grind (arith, runs-in_two (take k ops) (failure ∷ []) run, along-last IsOrderly (take k ops ++ failure ∷ []) old run.orderly)
+has_stopped {ops} {old} (k, lt, run) = grind (arith, runs-in_two (take k ops) (failure ∷ []) run)
 
 -- either the first part stopped, or it ran and the second did
 pub stops-in_two : (xs ys : List Operation) {old new : Device} → StopsWithin (xs ++ ys) old new → StopsWithin xs old new ⊎ ((mid : Device) × Runs xs old mid × StopsWithin ys mid new)
@@ -377,9 +377,6 @@ module _ (actor first : ℕ) (value : ℕ → ℕ) (n line lines : ℕ) where
 -- ---- a word that is set
 
 module _ (actor word value : ℕ) where
-  pub set-persists : set_operations actor word value ≡ persist_operations actor word (λ k. value) 1 (word / 8) 1
-  set-persists = let same : word + 0 ≡ word = omega arith in let line : word / 8 + 0 ≡ word / 8 = omega arith in λ i. store_op (sym same i) value ∷ flush_op actor (sym line i) ∷ fence_op actor ∷ []
-
   pub set-only : (Q : ℕ → ℕ → Type 0) → Q word value → StoreOnly Q (set_operations actor word value)
   set-only Q this = All-cons (StoresOnly Q) (store_op word value) (flush_op actor (word / 8) ∷ fence_op actor ∷ []) this (All-cons (StoresOnly Q) (flush_op actor (word / 8)) (fence_op actor ∷ []) tt (fence_only Q actor))
 
@@ -387,4 +384,4 @@ module _ (actor word value : ℕ) where
   set-made run = makes-run (λ w x. Unit {0}) (set-only (λ w x. Unit {0}) tt) run
 
   pub set-settles : {old new : Device} → Runs (set_operations actor word value) old new → word < old.words → IsSettledAt new word value
-  set-settles {old} {new} run within = grind (arith, persist-settles, set-persists, nat_tests)
+  set-settles {old} {new} run within = grind (arith, nat_tests)

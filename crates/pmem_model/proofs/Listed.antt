@@ -1,6 +1,6 @@
 -- What an actor's list of lines has.
 use Rattle.std.proofs.Common.{◌≡◌, ◌≢◌, ◌⊎◌, ℕ, zero, suc, ◌+◌, ◌*◌, ◌/◌, ◌<◌, Bool, true, cond, ◌&&◌, ◌||◌, List, [], ◌∷◌, length, set, get_or, ◌==◌, refl, ◌∙◌, ap, arith}
-use Rattle.std.proofs.lemmas.Bool.{cases_eq, eq-eqb, true≢false, lt-leb, eqb-true, or_right, and_parts}
+use Rattle.std.proofs.lemmas.Bool.{eqb-true, and_parts}
 use Rattle.std.proofs.lemmas.List.{get_or-set_same, get_or-set_other}
 use Rattle.pmem.specs.Device.{Entry, persisted}
 use Rattle.pmem.proofs.Awaited.{persisted_twice}
@@ -10,10 +10,6 @@ use Rattle.pmem_model.specs.Listing.{line_at, is_listed, is_pending, IsListing}
 listed-same : (xs ys : List ℕ) (actor line n : ℕ) → ((k : ℕ) → k < n → line_at xs actor k ≡ line_at ys actor k) → is_listed xs actor line n ≡ is_listed ys actor line n
 listed-same xs ys actor line zero same = refl
 listed-same xs ys actor line (suc n) same = let rest = listed-same xs ys actor line n (λ k lt. same k (omega arith)) in (λ i. (line == same n (omega arith) i) || rest i)
-
-pub listed_at : (listed : List ℕ) (actor line place n : ℕ) → place < n → line_at listed actor place ≡ line → is_listed listed actor line n ≡ true
-listed_at listed actor line place zero lt is = absurd (omega arith)
-listed_at listed actor line place (suc n) lt is = grind (arith, cases_eq, eq-eqb, or_right, listed_at listed actor line place n)
 
 -- one place more was visited
 pub visited_more : (listed : List ℕ) (actor moment place : ℕ) (old mid new : ℕ → List Entry)
@@ -39,11 +35,11 @@ module _ (lines room : ℕ) (counts listed : List ℕ) (actor line : ℕ) (listi
   other_count other apart = get_or-set_other counts actor other (get_or counts actor 0 + 1) 0 apart
 
   pub pending-added : is_pending room (set counts actor (get_or counts actor 0 + 1)) (set listed (64 * get_or counts actor 0 + actor) line) actor line ≡ true
-  pending-added = grind (arith, or_right, listed_at, own_count, there)
+  pending-added = grind (arith, own_count, there)
 
   pub pending-others : (other at : ℕ) → other < 64 → is_pending room counts listed other at ≡ true
       → is_pending room (set counts actor (get_or counts actor 0 + 1)) (set listed (64 * get_or counts actor 0 + actor) line) other at ≡ true
-  pending-others other at lt is = grind (arith, cases_eq, or_right, listed-same, elsewhere, other_count, true≢false, lt-leb, own_count)
+  pending-others other at lt is = grind (arith, listed-same, elsewhere, other_count, own_count)
 
 -- in an empty list there is nothing
 abbrev pub all_zero : List ℕ → Bool

@@ -1,8 +1,7 @@
 -- What a log shows, over each kind of change.
 use Rattle.std.proofs.Common.{◌≡◌, ◌≢◌, inl, inr, ℕ, zero, suc, ◌+◌, ◌-◌, ◌/◌, ◌<◌, ◌≤◌, ◌^◌, Bool, true, false, cond, ◌||◌, List, [], ◌∷◌, length, get_or, is_some, ◌==◌, refl, sym, ◌∙◌, ap, subst, arith}
 use Rattle.std.specs.Int.{bit_at}
-use Rattle.std.proofs.lemmas.Bool.{cases_eq, cases_lt, eq-eqb, ne_eqb}
-use Rattle.std.proofs.lemmas.Nat.Bits.{bit_at-zero}
+use Rattle.std.proofs.lemmas.Bool.{cases_lt, ne_eqb}
 use Rattle.pmem.specs.Device.{Entry, fresh, marked, persisted, kept_from, newest, survivors_in}
 use Rattle.pmem_model.specs.declared.stored.Stored.{Stored}
 use Rattle.pmem_model.specs.Log.{store_at, IsTimely, IsSettled, IsOpen, Shows, nobody, also, NoneTakenIn}
@@ -39,21 +38,12 @@ persisted_kept : (actor moment : ℕ) (entry : Entry) (older : List Entry) → i
 persisted_kept actor moment entry older is =
     ap (λ (b : Bool). cond b (entry ∷ older) (cond (entry.flushed actor) (kept_from moment entry ∷ older) (entry ∷ persisted actor moment older))) is
 
-persisted_takes : (actor moment : ℕ) (entry : Entry) (older : List Entry) → is_some entry.kept ≡ false → entry.flushed actor ≡ true → persisted actor moment (entry ∷ older) ≡ kept_from moment entry ∷ older
-persisted_takes actor moment entry older not_yet is = grind (arith)
-
 persisted_passes : (actor moment : ℕ) (entry : Entry) (older : List Entry) → is_some entry.kept ≡ false → entry.flushed actor ≡ false → persisted actor moment (entry ∷ older) ≡ entry ∷ persisted actor moment older
 persisted_passes actor moment entry older not_yet is = grind (arith)
 
 settled_persisted : (clock value actor : ℕ) (history : List Entry) → IsSettled clock value history → IsSettled clock value (persisted actor clock history)
 settled_persisted clock value actor [] is = is
 settled_persisted clock value actor (entry ∷ older) is = subst (IsSettled clock value) (sym (persisted_kept actor clock entry older is.1)) is
-
--- a fence by an actor that flushed it
-open_taken : (clock value actor : ℕ) (flushed : ℕ → Bool) (rest : List Entry → Type 0) (history : List Entry) → actor < 64 → flushed actor ≡ true → IsOpen clock value flushed rest history
-    → IsSettled clock value (persisted actor clock history)
-open_taken clock value actor flushed rest [] lt by is = is
-open_taken clock value actor flushed rest (entry ∷ older) lt by is = grind (arith, persisted_takes)
 
 -- and by one that didn't
 open_passed : (clock value actor : ℕ) (flushed : ℕ → Bool) (rest rest' : List Entry → Type 0) (history : List Entry) → actor < 64 → flushed actor ≡ false
@@ -122,24 +112,21 @@ shows-past log from clock word m (suc n) value actors history after le none show
 -- of the word
 pub shows-own : (log : List Stored) (from clock word n value : ℕ) (history : List Entry) → from ≤ n → (store_at log n).word ≡ word → (store_at log n).flushed ≡ 0 → value < 2 ^ 64
     → Shows log from clock word n (store_at log n).replaced nobody history → Shows log from clock word (suc n) value nobody (fresh value clock ∷ history)
-shows-own log from clock word n value history in_span is unmarked fits shown = grind (arith, bit_at-zero)
+shows-own log from clock word n value history in_span is unmarked fits shown = grind (arith)
 
 -- of another word of the line
 pub shows-near : (log : List Stored) (from clock word n value : ℕ) (history : List Entry) → from ≤ n → (store_at log n).word ≢ word → (store_at log n).word / 8 ≡ word / 8 → (store_at log n).flushed ≡ 0
     → Shows log from clock word n value nobody history → Shows log from clock word (suc n) value nobody history
-shows-near log from clock word n value history in_span apart line unmarked shown = grind (arith, shows-like, bit_at-zero)
+shows-near log from clock word n value history in_span apart line unmarked shown = grind (arith)
 
 -- ---- a flush
-
-swap_or : (x b s : Bool) → (b || (x || s)) ≡ (x || (b || s))
-swap_or a b s = grind (arith)
 
 -- who is noted above is passed down
 pub shows-marked : (log : List Stored) (from clock word n value actor : ℕ) (actors actors' : ℕ → Bool) (history : List Entry)
     → ((other : ℕ) → other < 64 → actors' other ≡ ((other == actor) || actors other))
     → Shows log from clock word n value actors history → Shows log from clock word n value actors' (marked actor history)
 shows-marked log from clock word zero value actor actors actors' history same shown = settled_marked clock value actor history shown
-shows-marked log from clock word (suc n) value actor actors actors' history same shown = grind (arith, settled_marked, open_marked, shows-marked log from clock word n value actor (also (store_at log n).flushed actors) (also (store_at log n).flushed actors') history, shows-marked log from clock word n value actor actors actors' history same, swap_or)
+shows-marked log from clock word (suc n) value actor actors actors' history same shown = grind (arith, shows-marked log from clock word n value actor (also (store_at log n).flushed actors) (also (store_at log n).flushed actors') history, shows-marked log from clock word n value actor actors actors' history same)
 
 -- the line's last store has the mark
 pub shows-flushed : (log log' : List Stored) (from clock word n value actor : ℕ) (history : List Entry) → from ≤ n
@@ -172,19 +159,19 @@ shows-flushed log log' from clock word n value actor history in_span same words 
 pub shows-taken : (log : List Stored) (from clock word n value actor : ℕ) (actors : ℕ → Bool) (history : List Entry) → actor < 64 → actors actor ≡ true
     → Shows log from clock word n value actors history → IsSettled clock value (persisted actor clock history)
 shows-taken log from clock word zero value actor actors history small by shown = settled_persisted clock value actor history shown
-shows-taken log from clock word (suc n) value actor actors history small by shown = grind (arith, cases_lt, settled_persisted, cases_eq, open_taken, shows-taken log from clock word n value actor (also (store_at log n).flushed actors) history small, shows-taken log from clock word n value actor actors history small)
+shows-taken log from clock word (suc n) value actor actors history small by shown = grind (arith, shows-taken log from clock word n value actor (also (store_at log n).flushed actors) history small, shows-taken log from clock word n value actor actors history small)
 
 -- whose mark the store has
 shows-at : (log : List Stored) (from clock word n value actor : ℕ) (actors : ℕ → Bool) (history : List Entry) → actor < 64 → from ≤ n → (store_at log n).word / 8 ≡ word / 8 → bit_at (store_at log n).flushed actor ≡ 1
     → Shows log from clock word (suc n) value actors history → IsSettled clock value (persisted actor clock history)
-shows-at log from clock word n value actor actors history small in_span line mark shown = grind (arith, cases_eq, open_taken, shows-taken, eq-eqb)
+shows-at log from clock word n value actor actors history small in_span line mark shown = grind (arith, shows-taken)
 
 -- down to where what is older is settled
 shows-cut : (log : List Stored) (from cut clock word n value actor : ℕ) (actors : ℕ → Bool) (history : List Entry) → actor < 64 → from ≤ cut → actors actor ≡ false
     → ((v : ℕ) (seen : ℕ → Bool) (older : List Entry) → Shows log from clock word cut v seen older → IsSettled clock v (persisted actor clock older))
     → cut ≤ n → NoneTakenIn log actor (word / 8) cut n
     → Shows log from clock word n value actors history → Shows log cut clock word n value actors (persisted actor clock history)
-shows-cut log from cut clock word zero value actor actors history small after untold ends up none shown = grind (arith, settled-shows)
+shows-cut log from cut clock word zero value actor actors history small after untold ends up none shown = grind (arith)
 shows-cut log from cut clock word (suc n) value actor actors history small after untold ends up none shown = elim (cases_lt n cut) [
   | inl lt ↦
       let same : suc n ≡ cut = omega (arith, up, lt) in
@@ -204,7 +191,7 @@ shows-cut log from cut clock word (suc n) value actor actors history small after
 -- where nothing is taken
 pub shows-passed : (log : List Stored) (from clock word n value actor : ℕ) (history : List Entry) → actor < 64 → NoneTakenIn log actor (word / 8) from n
     → Shows log from clock word n value nobody history → Shows log from clock word n value nobody (persisted actor clock history)
-shows-passed log from clock word n value actor history small none shown = grind (arith, cases_lt, settled-shows, settled_persisted, shows-settled, shows-cut)
+shows-passed log from clock word n value actor history small none shown = grind (arith, shows-settled, shows-cut)
 
 -- and where this is the newest that is
 pub shows-persisted : (log : List Stored) (from clock word place n value actor : ℕ) (history : List Entry) → actor < 64 → from < place → place ≤ n
@@ -221,13 +208,9 @@ newest_settled : (clock value : ℕ) (history : List Entry) → IsSettled clock 
 newest_settled clock value [] is = absurd is
 newest_settled clock value (entry ∷ older) is = is.0
 
-newest_open : (clock value : ℕ) (flushed : ℕ → Bool) (rest : List Entry → Type 0) (history : List Entry) → IsOpen clock value flushed rest history → newest history ≡ value
-newest_open clock value flushed rest [] is = absurd is
-newest_open clock value flushed rest (entry ∷ older) is = is.0
-
 pub shows-newest : (log : List Stored) (from clock word n value : ℕ) (actors : ℕ → Bool) (history : List Entry) → Shows log from clock word n value actors history → newest history ≡ value
 shows-newest log from clock word zero value actors history shown = newest_settled clock value history shown
-shows-newest log from clock word (suc n) value actors history shown = grind (arith, newest_settled, newest_open, shows-newest log from clock word n value)
+shows-newest log from clock word (suc n) value actors history shown = grind (arith, shows-newest log from clock word n value)
 
 pub survivors_settled : (clock value : ℕ) (history : List Entry) → IsSettled clock value history → survivors_in history ≡ value ∷ []
 survivors_settled clock value [] is = absurd is
@@ -272,17 +255,17 @@ after_own log from clock word n value newer whole in_span is after =
 
 pub after_other : (log : List Stored) (from clock word n value newer : ℕ) (whole : List Entry) → from ≤ n → (store_at log n).word ≢ word → IsAfter log from clock word (suc n) value newer whole
     → IsAfter log from clock word n value newer whole
-after_other log from clock word n value newer whole in_span apart after = grind (arith, cases_eq)
+after_other log from clock word n value newer whole in_span apart after = grind (arith)
 
 pub after_all : (log : List Stored) (from clock word place value newer : ℕ) (whole : List Entry) → place ≤ from → IsAfter log from clock word place value newer whole → length (survivors_in whole) ≡ newer + 1
-after_all log from clock word place value newer whole le after = grind (arith, survivors_settled, shows-settled)
+after_all log from clock word place value newer whole le after = grind (arith)
 
 head_settled : (clock value : ℕ) (history : List Entry) → IsSettled clock value history → get_or (survivors_in history) 0 0 ≡ value
 head_settled clock value history is = ap (λ (l : List ℕ). get_or l 0 0) (survivors_settled clock value history is)
 
 head_shown : (log : List Stored) (from clock word n value : ℕ) (actors : ℕ → Bool) (history : List Entry) → Shows log from clock word n value actors history → get_or (survivors_in history) 0 0 ≡ value
 head_shown log from clock word zero value actors history shown = head_settled clock value history shown
-head_shown log from clock word (suc n) value actors history shown = grind (arith, head_settled, older_of, head_shown log from clock word n value)
+head_shown log from clock word (suc n) value actors history shown = grind (arith, head_shown log from clock word n value)
 
 pub after_value : (log : List Stored) (from clock word place value newer : ℕ) (whole : List Entry) → IsAfter log from clock word place value newer whole → get_or (survivors_in whole) newer 0 ≡ value
 after_value log from clock word place value newer whole after = grind (arith, head_shown)

@@ -114,13 +114,9 @@ blank-entry xs n h = grind (arith, blank-at) steps 800000
 
 -- ---- what the calls of a table do to it
 
-some-there : {X : Type 0} (o : Option X) → IsSome o → is_none o ≡ false
-some-there None some = absurd (cc some)
-some-there (Some x) some = refl
-
 -- a number whose place has a value is taken
 pub taken-at : {T : Type 0} (slab : Slab T) (places : List (Option ℕ)) (n : ℕ) → IsTable slab places → 2 ≤ n → is_none (slice_index_or places (n - 2) None) ≡ false → is_none (entry_at (listed slab places) n) ≡ false
-taken-at {T} slab places n table lo taken = grind (arith, entry_at-listed slab places n, nat_tests, some-there)
+taken-at {T} slab places n table lo taken = grind (arith, entry_at-listed slab places n)
 
 -- a value is put in under a free number
 pub inserted : {T : Type 0} (slab slab' : Slab T) (places : List (Option ℕ)) (n key : ℕ) (x : T) → IsTable slab places → 2 ≤ n → n < 64 → entry_at (listed slab places) n ≡ None → get slab key ≡ None → Updates slab slab' key (Some x)
@@ -177,7 +173,7 @@ put {T} slab places n key x table at =
 
 -- a number with a place has a value
 pub listed-taken : {T : Type 0} (slab : Slab T) (places : List (Option ℕ)) (first : ℕ) → IsTable slab places → AreTaken first places → (k : ℕ) → 2 ≤ k → k < first → is_none (entry_at (listed slab places) k) ≡ false
-listed-taken slab places first table taken k lo lt = grind (arith, entry_at-listed slab places k, some-there)
+listed-taken slab places first table taken k lo lt = grind (arith, entry_at-listed slab places k)
 
 -- and one with a value a place
 has-place : {T : Type 0} (slab : Slab T) (places : List (Option ℕ)) (k : ℕ) → is_none (entry_at (listed slab places) k) ≡ false → is_none (entry_at places k) ≡ false

@@ -2,7 +2,7 @@
 use Rattle.std.proofs.Common.{◌≡◌, ◌≢◌, ℕ, zero, suc, ◌+◌, ◌-◌, ◌<◌, ◌≤◌, Bool, true, false, cond, ◌&&◌, nat_eq, nat_le, nat_lt, List, [], ◌∷◌, ◌++◌, map, filter, length, set, get_or, Option, Some, None, refl, sym, ◌∙◌, ap, subst, arith}
 use Rattle.std.specs.List.{list_all, slice_get}
 use Rattle.std.specs.List.Sorted.{IsNonDecreasingBy, IsPartitionPoint}
-use Rattle.std.proofs.lemmas.Bool.{and_parts, and_from, ltb-true, lt-ltb, eq-eqb, ne_eqb}
+use Rattle.std.proofs.lemmas.Bool.{and_parts, and_from, ltb-true, eq-eqb, ne_eqb}
 use Rattle.std.proofs.lemmas.Bool.Decides.{nat_tests}
 use Rattle.std.proofs.lemmas.List.Sums.{position_or_len_is}
 use Rattle.std.proofs.lemmas.Option.{slice_get_within, get_or_from_slice_get}
@@ -17,11 +17,11 @@ are_later t ds = list_all (λ d. nat_lt t d.timestamp) ds
 
 later_than : (t u : ℕ) (ds : List DrawnCommit) → t ≤ u → are_later u ds ≡ true → are_later t ds ≡ true
 later_than t u [] le all = refl
-later_than t u (d ∷ ds) le all = grind (arith, and_parts, ltb-true, and_from, lt-ltb, later_than t u ds le)
+later_than t u (d ∷ ds) le all = grind (arith, later_than t u ds le)
 
 pub later : (d : DrawnCommit) (ds : List DrawnCommit) → are_in_order (d ∷ ds) ≡ true → are_later d.timestamp ds ≡ true
 later d [] o = refl
-later d (e ∷ ds) o = grind (arith, and_parts, ltb-true, and_from, later_than, later e ds)
+later d (e ∷ ds) o = grind (arith, later_than, later e ds)
 
 pub rest : (d : DrawnCommit) (ds : List DrawnCommit) → are_in_order (d ∷ ds) ≡ true → are_in_order ds ≡ true
 rest d ds o = rising-rest d.timestamp (map (λ d. d.timestamp) ds) o
@@ -45,7 +45,7 @@ order-pushed new (d ∷ ds) o below =
 
 pub order-filtered : (p : DrawnCommit → Bool) (ds : List DrawnCommit) → are_in_order ds ≡ true → are_in_order (filter p ds) ≡ true
 order-filtered p [] o = refl
-order-filtered p (d ∷ ds) o = grind (arith, order-filtered p ds (rest d ds o), rest, with_first, all-filter, later)
+order-filtered p (d ∷ ds) o = grind (arith, order-filtered p ds (rest d ds o), with_first, all-filter, later)
 
 same_timestamp : (t : ℕ) (d : DrawnCommit) → (with_stamp t d).timestamp ≡ d.timestamp
 same_timestamp t d = grind (arith) steps 800000
@@ -64,7 +64,7 @@ at_step t d ds = grind (arith) steps 800000
 
 none_later : (t : ℕ) (ds : List DrawnCommit) → are_later t ds ≡ true → drawn_at t ds ≡ None
 none_later t [] all = refl
-none_later t (d ∷ ds) all = grind (arith, and_parts, ltb-true, nat_tests, none_later t ds)
+none_later t (d ∷ ds) all = grind (arith, none_later t ds)
 
 pub found-at : (t : ℕ) (ds : List DrawnCommit) (d : DrawnCommit) → slice_get ds (place_of t ds) ≡ Some d → d.timestamp ≡ t → drawn_at t ds ≡ Some d
 found-at t [] d at is = absurd (cc at)
@@ -81,7 +81,7 @@ found-at t (e ∷ ds) d at is =
 
 pub not-found : (t : ℕ) (ds : List DrawnCommit) → are_in_order ds ≡ true → ((d : DrawnCommit) → slice_get ds (place_of t ds) ≡ Some d → nat_eq d.timestamp t ≡ false) → drawn_at t ds ≡ None
 not-found t [] o apart = refl
-not-found t (e ∷ ds) o apart = grind (arith, at_step, not-found t ds (rest e ds o), rest, nat_tests, none_later, later_than, later)
+not-found t (e ∷ ds) o apart = grind (arith, not-found t ds (rest e ds o), nat_tests, none_later, later_than, later)
 
 -- what lies there has another timestamp
 pub apart-there : (t : ℕ) (o : Option DrawnCommit) (e d : DrawnCommit) → o ≡ Some e → e.timestamp ≢ t → o ≡ Some d → nat_eq d.timestamp t ≡ false
@@ -94,11 +94,11 @@ unstamped t d is = ap (λ (b : Bool). cond (b && nat_lt d.stamped (length d.writ
 
 unstamped_later : (t : ℕ) (ds : List DrawnCommit) → are_later t ds ≡ true → map (with_stamp t) ds ≡ ds
 unstamped_later t [] all = refl
-unstamped_later t (d ∷ ds) all = grind (arith, and_parts, ltb-true, nat_tests, unstamped, unstamped_later t ds)
+unstamped_later t (d ∷ ds) all = grind (arith, unstamped_later t ds)
 
 pub stamped-at : (t : ℕ) (ds : List DrawnCommit) (d : DrawnCommit) → are_in_order ds ≡ true → place_of t ds < length ds → map (with_stamp t) ds ≡ set ds (place_of t ds) (with_stamp t (get_or ds (place_of t ds) d))
 stamped-at t [] d o lt = absurd (omega (arith, lt))
-stamped-at t (e ∷ ds) d o lt = grind (arith, at_step t e ds, stamped-at t ds d (rest e ds o), rest e ds o, nat_tests, unstamped_later, later_than, later e ds o, unstamped)
+stamped-at t (e ∷ ds) d o lt = grind (arith, at_step t e ds, stamped-at t ds d (rest e ds o), unstamped_later, later_than, later e ds o)
 
 pub stamped-nowhere : (t : ℕ) (ds : List DrawnCommit) → length ds ≤ place_of t ds → map (with_stamp t) ds ≡ ds
 stamped-nowhere t [] le = refl

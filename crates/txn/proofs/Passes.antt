@@ -1,7 +1,7 @@
 -- One pass over drawn commits in their order finds how far a record reaches.
 use Rattle.std.proofs.Common.{◌≡◌, ℕ, ◌+◌, ◌≤◌, Bool, true, false, cond, not, ◌&&◌, List, [], ◌∷◌, map, filter, fold, refl, ◌∙◌, ap, subst, arith}
 use Rattle.std.specs.Prelude.{nat_lt, nat_le, max}
-use Rattle.std.proofs.lemmas.Bool.{and_parts, le-ltb, lt-ltb, ltb-true}
+use Rattle.std.proofs.lemmas.Bool.{le-ltb, lt-ltb}
 use Rattle.base.specs.Choosing.{Drawn, is_stamped, may_be_covered, reach}
 use Rattle.txn.specs.declared.drawn.DrawnCommit.{DrawnCommit}
 use Rattle.txn.specs.DrawnCommits.{are_in_order, plain_drawn}
@@ -29,7 +29,7 @@ not-below t n d ds le = ap (λ (b : Bool). below t (n + cond (b && not (is_stamp
 
 none-below : (t n : ℕ) (ds : List DrawnCommit) → are_later t ds ≡ true → below t n ds ≡ n
 none-below t n [] all = refl
-none-below t n (d ∷ ds) all = grind (arith, and_parts, are_later, ltb-true, not-below, none-below t n ds)
+none-below t n (d ∷ ds) all = grind (arith, none-below t n ds)
 
 -- of all commits n that aren't stamped come before these
 abbrev IsLeft : List DrawnCommit → ℕ → List DrawnCommit → Type 0
@@ -38,7 +38,7 @@ IsLeft all n (d ∷ ds) = (t : ℕ) → d.timestamp ≤ t → below t 0 all ≡ 
 
 left-next : (all : List DrawnCommit) (n : ℕ) (d : DrawnCommit) (ds : List DrawnCommit) → are_in_order (d ∷ ds) ≡ true → IsLeft all n (d ∷ ds) → IsLeft all (n + cond (not (is_stamped (plain_drawn d))) 1 0) ds
 left-next all n d [] o left = tt
-left-next all n d (e ∷ es) o left = grind (arith, ltb-true, and_parts, lt-ltb)
+left-next all n d (e ∷ es) o left = grind (arith, lt-ltb)
 
 walk : (most : ℕ) (all : List DrawnCommit) (r n : ℕ) (ds : List DrawnCommit) → are_in_order ds ≡ true → IsLeft all n ds
     → fold max r (map (λ (d : Drawn). d.commit.timestamp) (filter (may_be_covered most (map plain_drawn all)) (map plain_drawn ds))) ≡ (fold (walk_on most) (record { reached = r; unstamped = n }) ds).reached

@@ -2,7 +2,6 @@
 use Rattle.std.proofs.Common.{◌≡◌, ◌⊎◌, inl, inr, ℕ, zero, suc, ◌+◌, ◌-◌, ◌*◌, ◌<◌, ◌≤◌, Bool, true, false, ◌&&◌, cond, replicate, refl, sym, ◌∙◌, ap, subst, arith, nat_eq, Option, None}
 use Rattle.std.specs.List.{list_all}
 use Rattle.std.proofs.lemmas.Bool.{cases_lt, eq-eqb, lt-ltb, le-ltb}
-use Rattle.std.proofs.Math.Nat.{suc-mul}
 use Rattle.base.specs.declared.step.Step.TheVariants.{Collect}
 use Rattle.base.specs.Layout.{Layout}
 use Rattle.base.specs.Lists.{replaced}
@@ -45,7 +44,7 @@ at-end q le = ap (λ (b : Bool). cond b (slot_visited q) (sweep_ended q)) (le-lt
 
 place-up : (n : ℕ) (q : State) → q.place + n ≤ q.layout.slots → (visits n q).place ≡ q.place + n
 place-up zero q le = omega arith
-place-up (suc n) q le = grind (arith, at-slot, place-up n (visited q), slots-visited)
+place-up (suc n) q le = grind (arith, place-up n (visited q))
 
 -- ---- versions that are read stay, and garbage goes
 
@@ -76,8 +75,8 @@ freed : (q : State) → is_garbage (slot_visited q) q.place ≡ false
 freed q = grind (arith, eq-eqb)
 
 clean-at : (n : ℕ) (q : State) (slot : ℕ) → q.place + n ≡ slot → slot < q.layout.slots → is_garbage (visits (suc n) q) slot ≡ false
-clean-at zero q slot is lt = grind (arith, at-slot, freed)
-clean-at (suc n) q slot is lt = grind (arith, at-slot, clean-at n (visited q) slot, slots-visited)
+clean-at zero q slot is lt = grind (arith, at-slot)
+clean-at (suc n) q slot is lt = grind (arith, clean-at n (visited q) slot)
 
 -- ---- the sweep
 
@@ -98,7 +97,7 @@ over-visited q le = subst IsOver (sym (at-end q le)) (record { swept = refl; pla
 
 over-at : (n : ℕ) (q : State) → q.place + n ≡ q.layout.slots → IsOver (visits (suc n) q)
 over-at zero q is = over-visited q (omega (arith, is))
-over-at (suc n) q is = grind (arith, at-slot, over-at n (visited q), slots-visited)
+over-at (suc n) q is = grind (arith, over-at n (visited q))
 
 -- ---- a round
 
@@ -186,7 +185,7 @@ settled-round q settled = settled-visits (q.layout.slots + 1) q settled ∙ (λ 
 
 round-repeats : (q : State) (rounds more : ℕ) → round_of q ≡ q → visits (rounds * (q.layout.slots + 1) + more) q ≡ visits more q
 round-repeats q zero more same = let e : zero * (q.layout.slots + 1) + more ≡ more = omega arith in ap (λ (k : ℕ). visits k q) e
-round-repeats q (suc rounds) more same = grind (arith, suc-mul, visits-split, round-repeats q rounds more same)
+round-repeats q (suc rounds) more same = grind (arith, visits-split, round-repeats q rounds more same)
 
 pub rounds-repeat : RoundsRepeat
 rounds-repeat = record { settle = λ q. settled-round (round_of q) (round-settles q); repeat = round-repeats }
@@ -211,7 +210,7 @@ states-follow (suc n) q works = ap (λ (p : State). end p (replicate n Collect))
 
 replies-follow : (n : ℕ) (q : State) → q.failed ≡ false → replies_to q (replicate n Collect) ≡ visits_answer n q
 replies-follow zero q works = refl
-replies-follow (suc n) q works = grind (arith, answers, leads, replies-follow n (visited q) (works-on q works), works-on)
+replies-follow (suc n) q works = grind (arith, replies-follow n (visited q) (works-on q works))
 
 pub visits-follow : VisitsFollow
 visits-follow = record { states = λ q n works. states-follow n q works; replies = λ q n works. replies-follow n q works }

@@ -47,7 +47,7 @@ IsRest q hand k rest =
 
 rest-of : (q : State) (hand : Hand) (done rest : List Stage) → q.failed ≡ false → stages (lines_of q hand.commits) ≡ done ++ rest → IsRest q hand (length done) rest
 rest-of q hand done [] works e = grind (arith, append-nil, slice_get_past, tick-reply, tick-state)
-rest-of q hand done (stage ∷ rest) works e = grind (arith, seam done stage rest, rest-of q hand (done ++ stage ∷ []) rest works (e ∙ sym (append_assoc done (stage ∷ []) rest)), length-append done (stage ∷ []), tick-state, tick-reply)
+rest-of q hand done (stage ∷ rest) works e = grind (arith, seam done stage rest, rest-of q hand (done ++ stage ∷ []) rest works (e ∙ sym (append_assoc done (stage ∷ []) rest)), length-append done (stage ∷ []))
 
 -- the first tick chooses
 first-reply : (q : State) → q.hand ≡ None → is_idle q ≡ false → refusal q CommitTick ≡ None → reply_of q CommitTick ≡ Ticked Chosen

@@ -1,12 +1,12 @@
 -- What a tick that covers a batch does.
-use Rattle.std.proofs.Common.{◌≡◌, Bool, ◌++◌, refl, sym, subst, cond, arith}
+use Rattle.std.proofs.Common.{◌≡◌, Bool, ◌++◌, sym, subst, cond, arith}
 use Rattle.std.specs.Prelude.{Option, Some, None}
 use Rattle.base.specs.declared.step.Step.TheVariants.{Commit as CommitTick}
 use Rattle.base.specs.declared.step.Stage.{Stage}
 use Rattle.base.specs.declared.step.Stage.TheVariants.{Chosen}
 use Rattle.base.specs.declared.step.Reply.TheVariants.{Idle, Ticked, Covered}
 use Rattle.base.specs.Batches.{Batch}
-use Rattle.machine.specs.Machine.{State, Hand, Stepped, refused, answered, memory_refused, device_failed, ticked, ticked_on, state_ticked, state_ticked_on, state_covered, next_stage, batch_of, is_idle}
+use Rattle.machine.specs.Machine.{State, Hand, Stepped, refused, answered, memory_refused, device_failed, ticked, ticked_on, state_ticked, state_ticked_on, next_stage, is_idle}
 
 record IsKept (q : State) (batch : Batch) (q' : State) : Type 0 where
   history : q'.history ≡ q.history ++ batch.commits
@@ -15,14 +15,8 @@ record IsKept (q : State) (batch : Batch) (q' : State) : Type 0 where
   persisted : batch.persisted ≡ q'.ruling.persisted
   longs : batch.longs ≡ q'.ruling.longs
 
-same_batch : (batch other : Batch) → Covered batch ≡ Covered other → batch ≡ other
-same_batch batch other e = cc
-
-kept-hand : (q : State) (hand : Hand) → IsKept q (batch_of q hand) (state_covered q hand)
-kept-hand q hand = record { history = refl; from = refl; stamp = refl; persisted = refl; longs = refl }
-
 kept-on : (q : State) (batch : Batch) (hand : Hand) (o : Option Stage) → Covered batch ≡ ticked_on q hand o → IsKept q batch (state_ticked_on q hand o)
-kept-on q batch hand a e = grind (arith, same_batch, kept-hand)
+kept-on q batch hand a e = grind (arith)
 
 not_idle : (batch : Batch) (b : Bool) → Covered batch ≡ cond b Idle (Ticked Chosen) → ⊥
 not_idle batch a e = grind (arith)

@@ -4,7 +4,7 @@ use Rattle.std.specs.Prelude.{Bool, true, false, Option, Some, None, Result, Ok,
 use Rattle.base.specs.declared.fault.Fault.{Fault}
 use Rattle.base.specs.declared.step.Reply.{Reply}
 use Rattle.machine.specs.Machine.{State, Cover}
-use Rattle.machine.specs.Lives.{World, IsWorld, Opening, Opens, Fails, Numbers, Asked, Report, StopsAt, StopsOpening, EndsAs, LifeAs, Lives, left_out}
+use Rattle.machine.specs.Lives.{World, IsWorld, Opening, Opens, Fails, Numbers, Asked, Report, StopsAt, EndsAs, LifeAs, Lives, left_out}
 
 -- what was lost stays lost
 abbrev LosesMore : World → World → Type 0
@@ -38,19 +38,12 @@ lives-lose before (a ∷ asked) (r ∷ reports) after (mid, life, lives) =
 lives-lose before [] (r ∷ reports) after none = absurd none
 lives-lose before (a ∷ asked) [] after none = absurd none
 
--- each stop leaves an image that stands for the history
-stop-stands : (q : State) (covers : List Cover) (lost : List ℕ) (after : World) → StopsAt q covers lost after → IsWorld after
-stop-stands q covers lost after s = grind arith
-
 end-stands : (q : State) (closes : Bool) (closed : Option (Result Numbers Fault)) (lost : List ℕ) (after : World) → EndsAs q closes closed lost after → IsWorld after
-end-stands q closes a lost after b = grind (arith, stop-stands)
-
-stopped-stands : (before after : World) → StopsOpening before after → IsWorld after
-stopped-stands before after s = grind arith
+end-stands q closes a lost after b = grind (arith)
 
 pub life-stands : (before : World) (asked : Asked) (opening : Opening) (replies : List Reply) (closed : Option (Result Numbers Fault)) (after : World)
     → IsWorld before → LifeAs before asked opening replies closed after → IsWorld after
-life-stands before asked a replies closed after w l = grind (arith, stopped-stands, end-stands)
+life-stands before asked a replies closed after w l = grind (arith, end-stands)
 
 pub lives-stand : (before : World) (asked : List Asked) (reports : List Report) (after : World) → IsWorld before → Lives before asked reports after → IsWorld after
 lives-stand before [] [] after w e = subst IsWorld (sym e) w

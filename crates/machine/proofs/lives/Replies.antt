@@ -2,7 +2,7 @@
 use Rattle.std.proofs.Common.{◌≡◌, ◌⊎◌, inl, inr, ℕ, Bool, true, false, cond, not, ◌||◌, nat_eq, List, [], ◌∷◌, ◌++◌, refl, sym, ◌∙◌, ap, subst, append-nil, append_assoc, map, arith}
 use Rattle.std.specs.Prelude.{Option, Some, None, All, Contains, IsTrue, Result, Ok, Err, filter, flat_map, if◌then◌else◌}
 use Rattle.std.specs.Option.{option_map_or}
-use Rattle.std.proofs.lemmas.Bool.{eqb-true, eq-eqb}
+use Rattle.std.proofs.lemmas.Bool.{eq-eqb}
 use Rattle.std.proofs.lemmas.List.{map-append}
 use Rattle.std.proofs.lemmas.List.Elements.{All-nil, All-cons, All-append, All-map, All-filter, All-weaker, All-contains, All-same, All-head, All-tail, Contains-append_left, Contains-push}
 use Rattle.base.specs.declared.fault.Fault.{Fault}
@@ -11,7 +11,7 @@ use Rattle.base.specs.declared.step.Step.TheVariants.{Begin, Get, Scan, Put, Del
 use Rattle.base.specs.declared.step.Stage.{Stage}
 use Rattle.base.specs.declared.step.Stage.TheVariants.{Chosen}
 use Rattle.base.specs.declared.step.Reply.{Reply}
-use Rattle.base.specs.declared.step.Reply.TheVariants.{Rows, Done, Drawn as DrewAs, More, Stamped, Waiting, Committed, Idle, Ticked, Covered, Visited, SweepEnd}
+use Rattle.base.specs.declared.step.Reply.TheVariants.{Rows, Done, Drawn as DrewAs, More, Stamped, Idle, Ticked, Covered, Visited, SweepEnd}
 use Rattle.base.specs.Commits.{Commit, Writes}
 use Rattle.base.specs.Stands.{has_timestamp}
 use Rattle.base.specs.Lists.{is_nil}
@@ -47,7 +47,7 @@ module _ (batch : List Commit) (x : Commit) (rest : List Commit) (t : ℕ) where
   part-later h a = grind (arith, has-cases, any-append, has-right)
 
   part-here : (b : Bool) → has_timestamp batch x.timestamp ≡ b → nat_eq x.timestamp t ≡ true → has_timestamp (batch ++ cond (not b) (x ∷ rest) rest) t ≡ true
-  part-here a in_batch is = grind (arith, any-append, eqb-true, has-right)
+  part-here a in_batch is = grind (arith, any-append, has-right)
 
   part : (xs : List Commit) → (has_timestamp xs t ≡ true → has_timestamp (batch ++ rest) t ≡ true) → (a : Bool) → nat_eq x.timestamp t ≡ a → a || has_timestamp xs t ≡ true
       → has_timestamp (batch ++ cond (not (has_timestamp batch x.timestamp)) (x ∷ rest) rest) t ≡ true
@@ -196,7 +196,7 @@ quiet-if : (b : Bool) (x y : Reply) → IsQuiet x → IsQuiet y → IsQuiet (if 
 quiet-if a x y p r = grind (arith)
 
 quiet-polled : (q : State) (o : Option Session) → IsQuiet (polled q o)
-quiet-polled q a = grind (arith, quiet-if)
+quiet-polled q a = grind (arith)
 
 -- a step with this reply, after which the commits are the same
 told-still : (before covered : List Commit) (ts : List ℕ) (q : State) (reply other : Reply) (q' : State) → Reported before covered ts q → reply ≡ other → IsQuiet other → SameCommits q q' → ReportedAfter before covered ts reply q'
@@ -259,11 +259,8 @@ told-opened start history same drawn hand = grind (arith, append-nil)
 abbrev BeginsAs : State → List Commit → Cover → Type 0
 BeginsAs q all cover = (first : List Commit) × (rest : List Commit) × (all ≡ first ++ rest) × (cover.commits ≡ q.history ++ first)
 
-begins-one : (q : State) (hand : Hand) (rest : List Commit) (cover : Cover) → cover.commits ≡ q.history ++ hand.commits → BeginsAs q (hand.commits ++ rest) cover
-begins-one q hand rest cover e = (hand.commits, rest, refl, e)
-
 begins-hand : (q : State) (rest : List Commit) (o : Option Hand) → All (BeginsAs q (option_map_or (λ (h : Hand). h.commits) o [] ++ rest)) (of_hand q o)
-begins-hand q rest a = grind (arith, begins-one)
+begins-hand q rest a = grind (arith)
 
 -- the cover holds the history and a beginning of what is uncovered
 abbrev Begins : State → Cover → Type 0
@@ -315,22 +312,12 @@ uncovered-has covered q t h =
 
 -- ---- what replies acknowledge
 
-ack-if : (history : List Commit) (b : Bool) (x y : Reply) → All (λ t. has_timestamp history t ≡ true) (acknowledged_by x) → All (λ t. has_timestamp history t ≡ true) (acknowledged_by y)
-    → All (λ t. has_timestamp history t ≡ true) (acknowledged_by (if b then x else y))
-ack-if history a x y p r = grind (arith)
-
 -- what the reply acknowledges is in the history
 abbrev Acknowledges : Reply → State → Type 0
 Acknowledges reply q = All (λ t. has_timestamp q.history t ≡ true) (acknowledged_by reply)
 
 ack-none : (q : State) → All (λ t. has_timestamp q.history t ≡ true) []
 ack-none q = All-nil (λ t. has_timestamp q.history t ≡ true)
-
-ack-drew : (q : State) (u : ℕ) (b : Bool) → has_timestamp q.history u ≡ b → Acknowledges (if b then Committed u else Waiting) q
-ack-drew q u a is = grind (arith, ack-none)
-
-ack-polled : (q : State) (o : Option Session) → Acknowledges (polled q o) q
-ack-polled q a = grind (arith, ack-none, ack-drew)
 
 has-each : (before commits : List Commit) → All (λ t. has_timestamp (before ++ commits) t ≡ true) (map (λ (c : Commit). c.timestamp) commits)
 has-each before [] = All-nil (λ t. has_timestamp (before ++ []) t ≡ true)
@@ -345,20 +332,14 @@ ack-on : (q : State) (hand : Hand) (o : Option Stage) → Acknowledges (ticked_o
 ack-on q hand None = has-each q.history hand.commits
 ack-on q hand (Some stage) = ack-none q
 
-ack-idle : (q : State) (b : Bool) → Acknowledges (cond b Idle (Ticked Chosen)) (cond b q (record q { hand = Some (taken_in_hand q) }))
-ack-idle q a = grind (arith, ack-none)
-
 ack-ticked : (q : State) (o : Option Hand) → Acknowledges (ticked q o) (state_ticked q o)
-ack-ticked q a = grind (arith, ack-idle, ack-on)
-
-ack-along : (reply other : Reply) (q : State) → reply ≡ other → Acknowledges other q → Acknowledges reply q
-ack-along reply other q e a = subst (λ (r : Reply). Acknowledges r q) (sym e) a
+ack-ticked q a = grind (arith, ack-on)
 
 ack-next : (q : State) (step : Step) (reply : Reply) → Answers q step reply → Acknowledges reply (next_state q step)
-ack-next q b reply a = grind (arith, ack-along, ack-none, ack-if, ack-polled, ack-ticked)
+ack-next q b reply a = grind (arith, ack-ticked)
 
 ack-stepped : (q : State) (step : Step) (reply : Reply) (q' : State) → Stepped q step reply q' → Acknowledges reply q'
-ack-stepped q step reply q' b = grind (arith, ack-along, ack-none, ack-next)
+ack-stepped q step reply q' b = grind (arith, ack-next)
 
 -- a timestamp stays in a history that grows
 stay-all : (history : List Commit) (more : List Commit) (ts : List ℕ) → All (λ t. has_timestamp history t ≡ true) ts → All (λ t. has_timestamp (history ++ more) t ≡ true) ts

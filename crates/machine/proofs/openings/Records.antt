@@ -1,7 +1,7 @@
 -- What the record that an opening writes commits, with and without a sweep.
 use Rattle.std.proofs.Common.{◌≡◌, ℕ, ◌+◌, ◌-◌, ◌^◌, ◌<◌, ◌≤◌, Bool, true, false, cond, not, ◌&&◌, ◌||◌, List, [], ◌∷◌, length, refl, arith, nat_eq, nat_lt, nat_le}
 use Rattle.std.specs.List.{list_any, list_all}
-use Rattle.std.proofs.lemmas.Bool.{and_parts, and_from, or_cases, or_left, or_right, leb-true, ltb-true, ltb-false, le-leb, eqb-true, false≢true}
+use Rattle.std.proofs.lemmas.Bool.{and_parts, or_cases, ltb-true, ltb-false, le-leb, false≢true}
 use Rattle.std.proofs.lemmas.Bool.Decides.{nat_tests}
 use Rattle.base.specs.declared.gap.Gap.{Gap}
 use Rattle.base.specs.Layout.{Layout}
@@ -36,16 +36,16 @@ IsUpTo bound t = (1 ≤ t) × (t ≤ bound)
 
 in-up_to : (bound t : ℕ) (gaps : List Gap) → are_up_to bound gaps ≡ true → is_in gaps t ≡ true → IsUpTo bound t
 in-up_to bound t [] all there = absurd (false≢true there)
-in-up_to bound t (gap ∷ gaps) all there = grind (arith, and_parts, are_up_to, or_cases, in-up_to bound t gaps, leb-true)
+in-up_to bound t (gap ∷ gaps) all there = grind (arith, in-up_to bound t gaps)
 
 long-up_to : (bound t : ℕ) (gaps : List Gap) (longs : List ℕ) → list_all (λ t. nat_le 1 t && nat_le t bound && not (is_in gaps t)) longs ≡ true
     → list_any (nat_eq t) longs ≡ true → IsUpTo bound t
 long-up_to bound t gaps [] all there = absurd (false≢true there)
-long-up_to bound t gaps (long ∷ longs) all there = grind (arith, and_parts, or_cases, eqb-true, leb-true, long-up_to bound t gaps longs)
+long-up_to bound t gaps (long ∷ longs) all there = grind (arith, long-up_to bound t gaps longs)
 
 up_to-in : (bound : ℕ) (gaps : List Gap) → list_all (λ gap. nat_le gap.first gap.last) gaps ≡ true → ((t : ℕ) → is_in gaps t ≡ true → IsUpTo bound t) → are_up_to bound gaps ≡ true
 up_to-in bound [] ordered each = refl
-up_to-in bound (gap ∷ gaps) ordered each = grind (arith, and_parts, leb-true, or_left, and_from, le-leb, are_up_to, up_to-in bound gaps, or_right)
+up_to-in bound (gap ∷ gaps) ordered each = grind (arith, le-leb, up_to-in bound gaps)
 
 -- the gaps lie below the old dirty timestamp
 gaps-below : (version : ℕ) (r : Record) (gaps : List Gap) → WellFormed version r → IsOpenedGaps r gaps → are_up_to (r.dirty - 1) gaps ≡ true
@@ -53,7 +53,7 @@ gaps-below version r gaps formed opened = grind (arith, up_to-in, or_cases, in-u
 
 pub formed-over : (version : ℕ) (a : Layout) (r : Record) (gaps : List Gap) → is_well_formed version r ≡ true → IsOpenedGaps r gaps → length gaps ≤ 8 → 0 < a.window → r.dirty + a.window < 2 ^ 62
     → is_well_formed version (opening_record a r gaps) ≡ true
-formed-over version a r gaps well opened few some room = grind (arith, well_formed-parts version r well, well_formed-from, gaps-below version r gaps (well_formed-parts version r well), nat_tests)
+formed-over version a r gaps well opened few some room = grind (arith, gaps-below version r gaps (well_formed-parts version r well), nat_tests)
 
 -- with the gaps kept or swept, the record is well formed
 pub formed-kept : (version : ℕ) (a : Layout) (r : Record) (gaps : List Gap) → is_well_formed version r ≡ true → IsOpenedGaps r gaps → 0 < a.window → r.dirty + a.window < 2 ^ 62

@@ -92,7 +92,7 @@ module _ (first : ℕ) (words : List ℕ) where
   row-same slot = λ i. take (len-same slot i) (bytes-same slot i)
 
   misfit-same : (slot : ℕ) → is_misfit new slot ≡ is_misfit old slot
-  misfit-same slot = grind (arith, len-same, slot-same, bytes-same)
+  misfit-same slot = grind (arith, slot-same, bytes-same)
 
   second-same : (r : Record) (slot : ℕ) → is_second r new slot ≡ is_second r old slot
   second-same r slot = λ i. is_some (first_below slot (λ lower. shown-same r lower i && key_eq (key-same lower i) (key-same slot i)))

@@ -25,11 +25,11 @@ module _ {X : Type 0} where
   -- so a key up to it isn't there
   absent : (key : Key) (pairs : List (Key × X)) → above key pairs ≡ true → lookup_key pairs key ≡ None
   absent key [] all = refl
-  absent key (pair ∷ pairs) all = grind (arith, and_parts, absent key pairs, nat_tests)
+  absent key (pair ∷ pairs) all = grind (arith, absent key pairs)
 
   above-lower : (low key : Key) (pairs : List (Key × X)) → key_lt low key ≡ true → above key pairs ≡ true → above low pairs ≡ true
   above-lower low key [] less all = refl
-  above-lower low key (pair ∷ pairs) less all = grind (arith, and_parts, and_from, key_lt-trans, above-lower low key pairs less)
+  above-lower low key (pair ∷ pairs) less all = grind (arith, key_lt-trans, above-lower low key pairs less)
 
   abbrev rising : List (Key × X) → Bool
   rising pairs = is_rising (keys pairs)
@@ -40,7 +40,7 @@ module _ {X : Type 0} where
 
   rising-above : (pair : Key × X) (pairs : List (Key × X)) → rising (pair ∷ pairs) ≡ true → above pair.0 pairs ≡ true
   rising-above pair [] r = refl
-  rising-above pair (next ∷ pairs) r = grind (arith, and_parts, and_from, above-lower, rising-above next pairs)
+  rising-above pair (next ∷ pairs) r = grind (arith, above-lower, rising-above next pairs)
 
   rising-with : (pair : Key × X) (pairs : List (Key × X)) → above pair.0 pairs ≡ true → rising pairs ≡ true → rising (pair ∷ pairs) ≡ true
   rising-with pair [] all r = refl
@@ -89,7 +89,7 @@ module _ {X : Type 0} where
 
   filter-above : (test : Key → Bool) (low : Key) (pairs : List (Key × X)) → above low pairs ≡ true → above low (filter (λ pair. test pair.0) pairs) ≡ true
   filter-above test low [] all = refl
-  filter-above test low (pair ∷ pairs) all = grind (arith, and_parts, filter-above test low pairs, and_from)
+  filter-above test low (pair ∷ pairs) all = grind (arith, filter-above test low pairs)
 
   filter-rising : (test : Key → Bool) (pairs : List (Key × X)) → rising pairs ≡ true → rising (filter (λ pair. test pair.0) pairs) ≡ true
   filter-rising test [] r = r
@@ -107,11 +107,11 @@ with-lookup key value (write ∷ writes) other = grind (arith, with-lookup key v
 
 with-above : (low key : Key) (value : Option (List ℕ)) (writes : Writes) → key_lt low key ≡ true → above low writes ≡ true → above low (with_write key value writes) ≡ true
 with-above low key value [] less all = and_from _ _ less refl
-with-above low key value (write ∷ writes) less all = grind (arith, and_parts, with-above low key value writes less, and_from)
+with-above low key value (write ∷ writes) less all = grind (arith, with-above low key value writes less)
 
 with-rising : (key : Key) (value : Option (List ℕ)) (writes : Writes) → rising writes ≡ true → rising (with_write key value writes) ≡ true
 with-rising key value [] r = grind (arith, rising-with)
-with-rising key value (write ∷ writes) r = grind (arith, rising-above, rising-rest, with-rising key value writes (rising-rest write writes r), and_from, above-lower, rising-with, key_eq-true, with-above, key_lt-swap, nat_tests)
+with-rising key value (write ∷ writes) r = grind (arith, rising-above, with-rising key value writes (rising-rest write writes r), rising-with, with-above, nat_tests)
 
 merged-rising : (writes under : Writes) → rising under ≡ true → rising (merged writes under) ≡ true
 merged-rising [] under r = r
@@ -137,11 +137,11 @@ written-tables under (commit ∷ commits) key = grind (arith, merged-tables, wri
 
 rows-lookup : (writes : Writes) (key : Key) → rising writes ≡ true → lookup_key (rows_among writes) key ≡ tables_in writes key
 rows-lookup [] key r = refl
-rows-lookup (write ∷ writes) key r = grind (arith, rows-lookup writes key (rising-rest write writes r), rising-rest write writes r, key_eq-true, absent write.0 writes (rising-above write writes r), rising-above write writes r)
+rows-lookup (write ∷ writes) key r = grind (arith, rows-lookup writes key (rising-rest write writes r), absent write.0 writes (rising-above write writes r))
 
 rows-above : (low : Key) (writes : Writes) → above low writes ≡ true → above low (rows_among writes) ≡ true
 rows-above low [] all = refl
-rows-above low (write ∷ writes) all = grind (arith, and_parts, rows-above low writes, and_from)
+rows-above low (write ∷ writes) all = grind (arith, rows-above low writes)
 
 rows-rising : (writes : Writes) → rising writes ≡ true → rising (rows_among writes) ≡ true
 rows-rising [] r = grind arith

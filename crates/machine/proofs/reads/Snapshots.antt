@@ -40,14 +40,8 @@ data Does (q q' : State) : Type 0 where
   nothing : Same q q' → Does q q'
   one : (n : ℕ) (session : Option Session) → Within (length q.history) session → But n session q q' → Does q q'
 
-does-on : (q : State) (hand : Hand) (o : Option Stage) → Does q (state_ticked_on q hand o)
-does-on q hand a = grind (arith)
-
-does-idle : (q : State) (b : Bool) → Does q (cond b q (record q { hand = Some (taken_in_hand q) }))
-does-idle q a = grind (arith)
-
 does-ticked : (q : State) (o : Option Hand) → Does q (state_ticked q o)
-does-ticked q a = grind (arith, does-idle, does-on, nat_tests)
+does-ticked q a = grind (arith, nat_tests)
 
 does-drawn : (q : State) (n : ℕ) (writes : Writes) → Does q (state_drawn q n writes)
 does-drawn q n [] = one n (Some WroteNothing) (omega arith) (λ m. refl)

@@ -7,4 +7,4 @@ counted-commit t d = grind arith
 
 pub counted-commits : (t : ℕ) (ds : List Drawn) → map (λ (d : Drawn). d.commit) (map (counted t) ds) ≡ map (λ (d : Drawn). d.commit) ds
 counted-commits t [] = refl
-counted-commits t (d ∷ ds) = grind (arith, counted-commit, counted-commits t ds)
+counted-commits t (d ∷ ds) = grind (arith, counted-commits t ds)
