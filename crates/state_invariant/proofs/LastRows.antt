@@ -2,7 +2,6 @@
 use Rattle.std.proofs.Common.{◌≡◌, ℕ, zero, suc, ◌≤◌, Bool, true, false, cond, List, [], ◌∷◌, length, take, refl, sym, ◌∙◌, ap, arith, Option, Some, None, slice_get}
 use Rattle.std.specs.Prelude.{is_some, fold, unwrap_or}
 use Rattle.std.specs.List.{list_all}
-use Rattle.std.proofs.lemmas.Bool.{and_parts}
 use Rattle.std.proofs.lemmas.List.Sums.{fold-append}
 use Rattle.base.specs.declared.key.Key.{Key}
 use Rattle.base.specs.Keys.{lookup_key}
@@ -28,7 +27,7 @@ none-row key last (y ∷ ys) each =
 pub row-all : (p : ℕ → Bool) (key : Key) (s : Option ℕ) (cs : List Commit) → list_all (λ c. p c.timestamp) cs ≡ true → ((t : ℕ) → s ≡ Some t → p t ≡ true)
     → (t : ℕ) → fold (λ (last : Option ℕ) (commit : Commit). cond (is_some (row_in commit.writes key)) (Some commit.timestamp) last) s cs ≡ Some t → p t ≡ true
 row-all p key s [] all here t e = here t e
-row-all p key s (c ∷ cs) all here t e = grind (arith, and_parts, row-all p key (cond (is_some (row_in c.writes key)) (Some c.timestamp) s) cs)
+row-all p key s (c ∷ cs) all here t e = grind (arith, row-all p key (cond (is_some (row_in c.writes key)) (Some c.timestamp) s) cs)
 
 -- ---- one commit more
 

@@ -1,8 +1,8 @@
 -- Which versions are garbage: those that a commit replaced which each snapshot in use sees.
-use Rattle.std.proofs.Common.{◌≡◌, ◌≢◌, ◌⊎◌, inl, inr, ℕ, zero, suc, ◌+◌, ◌<◌, ◌≤◌, Bool, true, false, cond, not, List, [], ◌∷◌, length, take, drop, refl, sym, ◌∙◌, ap, subst, arith, Option, Some, None, slice_get, true≢false}
+use Rattle.std.proofs.Common.{◌≡◌, ◌≢◌, ◌⊎◌, inl, inr, ℕ, zero, suc, ◌+◌, ◌<◌, ◌≤◌, Bool, true, false, cond, List, [], ◌∷◌, length, take, drop, refl, sym, ◌∙◌, ap, subst, arith, Option, Some, None, slice_get, true≢false}
 use Rattle.std.specs.Prelude.{nat_eq, nat_le, unwrap_or}
 use Rattle.std.specs.List.{list_all, range_with_len}
-use Rattle.std.proofs.lemmas.Bool.{cases_eq, eq-eqb, ne_eqb, and_parts, and_from, or_left, or_right, or_cases, leb-true, leb-false, false≢true}
+use Rattle.std.proofs.lemmas.Bool.{cases_eq, eq-eqb, ne_eqb, and_parts, and_from, or_left, or_right, leb-true, leb-false, false≢true}
 use Rattle.std.proofs.lemmas.List.{take_all}
 use Rattle.base.specs.declared.key.Key.{Key}
 use Rattle.base.specs.Commits.{Commit, after, last_writer}
@@ -22,7 +22,7 @@ use Rattle.state_invariant.proofs.Places.{all-placed, front-fact}
 
 pub range-all : (p : ℕ → Bool) (from many k : ℕ) → list_all p (range_with_len from many) ≡ true → from ≤ k → k < from + many → p k ≡ true
 range-all p from zero k all low high = absurd (omega (arith, low, high))
-range-all p from (suc many) k all low high = grind (arith, and_parts, cases_eq, range-all p (from + 1) many k)
+range-all p from (suc many) k all low high = grind (arith, range-all p (from + 1) many k)
 
 pub all-each : {X : Type 0} (p : X → Bool) (xs : List X) → ((x : X) → p x ≡ true) → list_all p xs ≡ true
 all-each p [] each = refl
@@ -32,7 +32,7 @@ has-more : (cs : List Commit) (m n t : ℕ) → m ≤ n → has_timestamp (take 
 has-more cs zero n t le has = grind (arith, false≢true)
 has-more [] (suc m) n t le has = absurd (false≢true has)
 has-more (c ∷ cs) (suc m) zero t le has = absurd (omega (arith, le))
-has-more (c ∷ cs) (suc m) (suc n) t le has = grind (arith, or_cases, or_left, or_right, has-more cs m n t)
+has-more (c ∷ cs) (suc m) (suc n) t le has = grind (arith, has-more cs m n t)
 
 -- where a row is there, the last commit on its key is among the commits
 has-last : (cs : List Commit) (key : Key) (row : List ℕ) → after cs key ≡ Some row → has_timestamp cs (last_writer cs key) ≡ true
@@ -49,10 +49,7 @@ pub record IsGarbage (q : State) (slot : ℕ) : Type 0 where
   pub later : (n : ℕ) → IsInUse q n → last_writer (take n q.history) key ≢ timestamp
 
 replaced-parts : (cs : List Commit) (key : Key) (t : ℕ) → replace cs (Some (version_by key (ByCommit t))) ≡ true → (has_timestamp cs t ≡ true) × (last_writer cs key ≢ t)
-replaced-parts cs key t is = grind (arith, and_parts, false≢true, eq-eqb)
-
-replaced-from : (cs : List Commit) (key : Key) (t : ℕ) → has_timestamp cs t ≡ true → last_writer cs key ≢ t → replace cs (Some (version_by key (ByCommit t))) ≡ true
-replaced-from cs key t among later = and_from (has_timestamp cs t) (not (nat_eq (last_writer cs key) t)) among (ap not (ne_eqb (last_writer cs key) t later))
+replaced-parts cs key t is = grind (arith)
 
 whole : (q : State) → take (length q.history) q.history ≡ q.history
 whole q = take_all (length q.history) q.history (omega arith)
@@ -84,7 +81,7 @@ garbage-is o q slot kept is =
     by (Some v) held first each = by_writer v v.writer refl held first each
 
 pub is-garbage : (q : State) (slot : ℕ) → IsGarbage q slot → is_garbage q slot ≡ true
-is-garbage q slot g = grind (arith, and_from, whole q, all-each, replaced-from)
+is-garbage q slot g = grind (arith, whole q, all-each)
 
 -- ---- what a garbage version is to the state
 

@@ -57,7 +57,7 @@ module _ (o : Origin) (q : State) (kept : Keeps o q) (held : ℕ → Option Vers
   same-commit slot g key t at = grind (arith, same-version)
 
   of-session : (slot n : ℕ) (key : Key) → IsGarbage q slot → q.held slot ≡ Some (version_by key (BySession n)) → ⊥
-  of-session slot n key g at = grind (arith, same-version)
+  of-session slot n key g at = grind (arith)
 
   of-drawn : (slot t : ℕ) (key : Key) (d : Drawn) → drawn_at q t ≡ Some d → IsGarbage q slot → q.held slot ≡ Some (version_by key (ByCommit t)) → ⊥
   of-drawn slot t key d found g at =

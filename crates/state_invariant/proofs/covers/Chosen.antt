@@ -3,7 +3,7 @@ use Rattle.std.proofs.Common.{◌||◌, ◌≡◌, ◌≢◌, ◌⊎◌, inl, in
 use Rattle.std.specs.Prelude.{nat_eq, nat_lt, nat_le, max}
 use Rattle.std.specs.List.{list_any, list_all}
 use Rattle.std.specs.Option.{option_map}
-use Rattle.std.proofs.lemmas.Bool.{cases_eq, cases_lt, eq-eqb, eqb-true, ne_eqb, and_parts, and_from, ltb-true, lt-ltb, leb-true, le-leb, or_cases, or_left, or_right, false_from_ne_true, not-true}
+use Rattle.std.proofs.lemmas.Bool.{cases_eq, cases_lt, eq-eqb, eqb-true, and_parts, and_from, ltb-true, lt-ltb, leb-true, le-leb, or_cases, or_left, or_right, false_from_ne_true, not-true}
 use Rattle.std.proofs.lemmas.Bool.Decides.{nat_tests}
 use Rattle.base.specs.Commits.{Commit}
 use Rattle.base.specs.Layout.{most_longs}
@@ -15,7 +15,7 @@ use Rattle.state_invariant.specs.Kept.{Origin, KeepsHand, Keeps, commit_at, comm
 use Rattle.state_invariant.proofs.Lookups.{find-all}
 use Rattle.state_invariant.proofs.Lists.{all-map, find-map, rising-above, rising-filter}
 use Rattle.state_invariant.proofs.Commits.{commit_at-has, commit_at-some, commit_at-append, commit_at-drawn, drawn_at-timestamp, all-by_timestamp, timestamp-all}
-use Rattle.base.proofs.WellFormed.{well_formed-parts, well_formed-from}
+use Rattle.base.proofs.WellFormed.{well_formed-parts}
 use Rattle.base.proofs.Lists.{all-drop, any-map, find-passes, rising-rest}
 use Rattle.base.proofs.Layouts.{has_window}
 use Rattle.state_invariant.proofs.Records.{well_formed-further, well_formed-dropped}
@@ -29,7 +29,7 @@ max-least p (t ∷ ts) = omega (arith, max-least (max p t) ts)
 
 pub max-has : (p t : ℕ) (ts : List ℕ) → list_any (nat_le t) ts ≡ true → t ≤ fold max p ts
 max-has p t [] any = absurd (cc any)
-max-has p t (u ∷ ts) any = grind (arith, or_cases, leb-true, max-least, max-has (max p u) t ts)
+max-has p t (u ∷ ts) any = grind (arith, max-least, max-has (max p u) t ts)
 
 -- ---- rising lists of drawn commits
 
@@ -48,7 +48,7 @@ above-each x ds u d rising found =
 
 -- what is found among the rest is found in the whole
 pub found-later : (x : Drawn) (ds : List Drawn) (u : ℕ) (d : Drawn) → are_rising (map time_of (x ∷ ds)) ≡ true → find (λ (d : Drawn). nat_eq d.commit.timestamp u) ds ≡ Some d → find (λ (d : Drawn). nat_eq d.commit.timestamp u) (x ∷ ds) ≡ Some d
-found-later x ds u d rising found = grind (arith, above-each, rising, ne_eqb)
+found-later x ds u d rising found = grind (arith, above-each)
 
 -- some that passes is found by its timestamp
 pub any-by_timestamp : (r : Drawn → Bool) (ds : List Drawn) → are_rising (map time_of ds) ≡ true → list_any r ds ≡ true → (d : Drawn) × (find (λ (e : Drawn). nat_eq e.commit.timestamp (time_of d)) ds ≡ Some d) × (r d ≡ true)
@@ -76,7 +76,7 @@ found-unfiltered f (x ∷ ds) u d rising found = grind (arith, found-unfiltered 
 -- a filter keeps what passes it
 kept-by_filter : (f : Drawn → Bool) (ds : List Drawn) (u : ℕ) (d : Drawn) → find (λ (e : Drawn). nat_eq e.commit.timestamp u) ds ≡ Some d → f d ≡ true → list_any (λ e. nat_eq e.commit.timestamp u) (filter f ds) ≡ true
 kept-by_filter f [] u d found passes = absurd (cc found)
-kept-by_filter f (x ∷ ds) u d found passes = grind (arith, kept-by_filter f ds u d, or_left, or_right)
+kept-by_filter f (x ∷ ds) u d found passes = grind (arith, kept-by_filter f ds u d)
 
 filter-none : {X : Type 0} (p : X → Bool) (xs : List X) → list_all (λ x. not (p x)) xs ≡ true → filter p xs ≡ []
 filter-none p [] all = refl
@@ -163,7 +163,7 @@ length-filtered p n (d ∷ ds) = grind (arith, length-filtered p (n + cond (p d)
 -- where what passes one passes the other, it has no more
 pub fewer-filtered : (p r : Drawn → Bool) (ds : List Drawn) → list_all (λ d. not (p d) || r d) ds ≡ true → length (filter p ds) ≤ length (filter r ds)
 fewer-filtered p r [] all = omega arith
-fewer-filtered p r (d ∷ ds) all = grind (arith, and_parts, fewer-filtered p r ds)
+fewer-filtered p r (d ∷ ds) all = grind (arith, fewer-filtered p r ds)
 
 -- the greatest is the first number or stands in the list
 pub max-is : (p : ℕ) (ts : List ℕ) → (fold max p ts ≡ p) ⊎ (list_any (nat_eq (fold max p ts)) ts ≡ true)
@@ -338,7 +338,7 @@ module _ (o : Origin) (q : State) (kept : Keeps o q) where
   with-longs : (version gate persisted dirty : ℕ) (gaps : List Gap) (longs : List ℕ) → is_well_formed version (record { gate = gate; persisted = persisted; dirty = dirty; gaps = gaps; longs = [] }) ≡ true
       → length longs ≤ most_longs version → list_all (λ t. nat_le 1 t && nat_le t persisted && not (is_in gaps t)) longs ≡ true → are_rising longs ≡ true
       → is_well_formed version (record { gate = gate; persisted = persisted; dirty = dirty; gaps = gaps; longs = longs }) ≡ true
-  with-longs version gate persisted dirty gaps longs formed few each up = grind (arith, well_formed-parts, well_formed-from, apart, rising, nat_tests)
+  with-longs version gate persisted dirty gaps longs formed few each up = grind (arith, well_formed-parts, nat_tests)
 
   formed-target : is_well_formed q.layout.version (target_of q) ≡ true
   formed-target = with-longs q.layout.version (q.ruling.gate + 1) (reach q) (q.next + q.layout.window) (standing_gaps q) (passed_over q) (by q.swept) passed-few (each passed-each) passed-rising

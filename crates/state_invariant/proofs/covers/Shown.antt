@@ -235,7 +235,7 @@ module _ (o : Origin) (q : State) (hand : Hand) (value : ℕ → ℕ) (up : q.fa
 
   shows-undrawn : drawn_at q t ≡ None → has_timestamp hand.commits t ≡ false → (b : Bool) → nat_eq (last_writer q.history v.key) t ≡ b → ShowsAs o q value slot (cond b (Newest t v.key row) (Replaced t v.key row))
       → (c : Bool) → list_any (writes_key v.key) hand.commits ≡ c → ShowsAs o after_it value slot (cond (nat_eq (last_writer after_it.history v.key) t) (Newest t v.key row) (Replaced t v.key row))
-  shows-undrawn undrawn out true newest shows false none = grind (arith, last-covered, writer-none, eqb-true, eq-eqb, newest-stays)
+  shows-undrawn undrawn out true newest shows false none = grind (arith, last-covered, writer-none, newest-stays)
   shows-undrawn undrawn out true newest shows true some =
       let c = any-place (writes_key v.key) hand.commits some in
       let d = one-of_batch o q hand value up kept k c.0 c.1 c.2 in

@@ -3,7 +3,7 @@ use Rattle.std.proofs.Common.{◌≡◌, ◌≢◌, ◌⊎◌, inl, inr, ℕ, �
 use Rattle.std.specs.Prelude.{nat_eq, nat_lt, nat_le}
 use Rattle.std.specs.List.{list_any}
 use Rattle.std.specs.Option.{option_or, option_map}
-use Rattle.std.proofs.lemmas.Bool.{cases_eq, eq-eqb, eqb-true, eqb-false, ne_eqb, and_parts, and_from, lt-ltb, ltb-true, leb-false, le-leb, not_from_false, or_left}
+use Rattle.std.proofs.lemmas.Bool.{cases_eq, eq-eqb, eqb-false, ne_eqb, and_parts, and_from, lt-ltb, ltb-true, leb-false, le-leb, not_from_false, or_left}
 use Rattle.std.proofs.lemmas.List.{map-append}
 use Rattle.std.proofs.lemmas.List.Folds.{find-append, list_all-map, list_any-append}
 use Rattle.base.specs.declared.key.Key.{Key}
@@ -44,12 +44,12 @@ found-old q writes t apart = grind (arith, find-append, ne_eqb, option_or-none)
 
 turned : (n t : ℕ) (k : Key) (x : Writer) (w : Version) → Some (version_by k (cond (is_by n x) (ByCommit t) x)) ≡ Some w
     → ((Some (version_by k x) ≡ Some (version_by w.key (BySession n))) × (w.writer ≡ ByCommit t)) ⊎ ((Some (version_by k x) ≡ Some w) × (is_by n w.writer ≡ false))
-turned n t k a w e = grind (arith, eqb-true)
+turned n t k a w e = grind (arith)
 
 -- what holds a slot after it was its session's, or held it before
 pub held-drawn : (n t : ℕ) (o : Option Version) (w : Version) → by_commit n t o ≡ Some w
     → ((o ≡ Some (version_by w.key (BySession n))) × (w.writer ≡ ByCommit t)) ⊎ ((o ≡ Some w) × (is_by n w.writer ≡ false))
-held-drawn n t a w e = grind (arith, turned)
+held-drawn n t a w e = grind (arith)
 
 pub held-stays : (n t : ℕ) (o : Option Version) (w : Version) → o ≡ Some w → is_by n w.writer ≡ false → by_commit n t o ≡ Some w
 held-stays n t o w e other = ap (by_commit n t) e ∙ ap (λ (b : Bool). Some (version_by w.key (cond b (ByCommit t) w.writer))) other

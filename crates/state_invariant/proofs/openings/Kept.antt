@@ -3,7 +3,7 @@ use Rattle.std.proofs.Common.{◌≡◌, ◌⊎◌, inl, inr, ℕ, ◌+◌, ◌-
 use Rattle.std.specs.Prelude.{slice_index, Option, Some, None, unwrap_or, fold, nat_le, nat_lt}
 use Rattle.std.specs.List.{list_all}
 use Rattle.std.proofs.lemmas.List.{take_all, drop_all}
-use Rattle.std.proofs.lemmas.Bool.{and_parts, and_from, and_right, and_cases, or_parts, or_left, cases_order, leb-false, le-leb, lt-ltb, eq-eqb, not-true, not-false, cond-true, cond-false, false≢true, true≢false}
+use Rattle.std.proofs.lemmas.Bool.{and_parts, and_from, and_right, and_cases, or_parts, or_left, cases_order, leb-false, lt-ltb, eq-eqb, not-true, not-false, cond-true, cond-false, false≢true}
 use Rattle.std.proofs.lemmas.Option.{slice_get_within, none-some, cond_some}
 use Rattle.std.proofs.lemmas.Bool.Decides.{nat_tests}
 use Rattle.base.specs.declared.key.Key.{Key}
@@ -39,7 +39,7 @@ record IsGood (r : Record) (image : Image) (slot : ℕ) : Type 0 where
   first : is_shown r image slot ≡ true → is_second r image slot ≡ false
 
 live-parts : (live misfit second : Bool) → (live && (misfit || second)) ≡ false → live ≡ true → (misfit ≡ false) × (second ≡ false)
-live-parts a misfit second e is = grind (arith, or_parts, false≢true)
+live-parts a misfit second e is = grind (arith)
 
 good-slot : (r : Record) (image : Image) (slot : ℕ) → is_bad_slot r image slot ≡ false → IsGood r image slot
 good-slot r image slot e = grind (arith, or_parts, leb-false, live-parts)
@@ -85,7 +85,7 @@ passes-from : (test : ℕ → Bool) (key : Key) (row : List ℕ) (tables : Table
     → ((row : List ℕ) → tables key ≡ Some row → test t ≡ true) → list_all (λ commit. test commit.timestamp) history ≡ true
     → laid tables history key ≡ Some row → test (fold (λ t commit. cond (writes_key key commit) commit.timestamp t) t history) ≡ true
 passes-from test key row tables t [] first all e = first row e
-passes-from test key row tables t (commit ∷ history) first all e = grind (arith, and_parts, passes-from test key row (overlaid commit.writes tables) (cond (writes_key key commit) commit.timestamp t) history)
+passes-from test key row tables t (commit ∷ history) first all e = grind (arith, passes-from test key row (overlaid commit.writes tables) (cond (writes_key key commit) commit.timestamp t) history)
 
 pub passes-last_writer : (test : ℕ → Bool) (key : Key) (row : List ℕ) (history : List Commit) → list_all (λ commit. test commit.timestamp) history ≡ true → after history key ≡ Some row → test (last_writer history key) ≡ true
 passes-last_writer test key row history all e = passes-from test key row no_rows 0 history (λ row e. absurd (none-some row e)) all e
@@ -95,7 +95,7 @@ narrower dirty window limit h = omega (arith, h)
 
 -- what the opened record doesn't commit, though it lies below the old dirty timestamp, is 0 or in a gap
 never-parts : (t persisted : ℕ) (i : Bool) → t ≤ persisted → (nat_le 1 t && nat_le t persisted && not i && not false) ≡ false → (t ≡ 0) ⊎ (i ≡ true)
-never-parts t persisted a h e = grind (arith, le-leb, true≢false, false≢true, leb-false)
+never-parts t persisted a h e = grind (arith)
 
 never-over : (a : Layout) (r : Record) (gaps : List Gap) (t : ℕ) → IsOpenedGaps r gaps → t < r.dirty → is_committed r t ≡ false → (t ≡ 0) ⊎ (is_in gaps t ≡ true)
 never-over a r gaps t opened h e = never-parts t (r.dirty - 1) (is_in gaps t) (omega (arith, h)) (same-committed a r gaps t opened h ∙ e)
@@ -103,7 +103,7 @@ never-over a r gaps t opened h e = never-parts t (r.dirty - 1) (is_in gaps t) (o
 covered-over : (a : Layout) (r : Record) (gaps : List Gap) (history : List Commit) → IsOpenedGaps r gaps → r.persisted < r.dirty
     → list_all (λ commit. is_committed r commit.timestamp) history ≡ true → list_all (λ commit. is_committed (opening_record a r gaps) commit.timestamp) history ≡ true
 covered-over a r gaps [] opened less all = refl
-covered-over a r gaps (commit ∷ history) opened less all = grind (arith, and_parts, committed-bounds, and_from, same-committed, less, covered-over a r gaps history opened less, nat_tests)
+covered-over a r gaps (commit ∷ history) opened less all = grind (arith, covered-over a r gaps history opened less, nat_tests)
 
 -- ---- the opened state
 

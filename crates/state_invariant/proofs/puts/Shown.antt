@@ -88,7 +88,7 @@ module _ (o : Origin) (q : State) (n : ℕ) (key : Key) (row : List ℕ) (kept :
 
   -- what the slot was that the put takes: free, or the session's own
   class-before : (x : Option Version) → q.held slot ≡ x → (class_of_version o q x ≡ Free) ⊎ ((k : Key) × (r : List ℕ) × (class_of_version o q x ≡ Waiting k r))
-  class-before a at = grind (arith, cases_eq, free_slot-some, replaced-other)
+  class-before a at = grind (arith, free_slot-some)
 
   -- where the device stops it, the slot's begin is 0 already, or its words are as they were
   shows-stopped_put : (value new : ℕ → ℕ) → StopsPut q.layout value new slot → SlotsShow o q value → SlotsShow o (record q { failed = true }) new

@@ -8,7 +8,7 @@ use Rattle.base.specs.Commits.{Writes, with_write}
 use Rattle.base.specs.Stands.{has_timestamp}
 use Rattle.base.specs.Lists.{replaced}
 use Rattle.machine.specs.Machine.{State, Session, Active, Drew, Drawn, Version, Writer, BySession, ByCommit, drawn_at, writes_of, with_session}
-use Rattle.base.proofs.Keys.{key_eq-true, key_lt-swap}
+use Rattle.base.proofs.Keys.{key_lt-swap}
 use Rattle.state_invariant.specs.Kept.{Origin, IsSessionNumber, KeepsNumbers, DrawsInOrder, Owns, Keeps, IsInUse, wanted, row_in, version_by}
 use Rattle.state_invariant.proofs.Lookups.{replaced-same, replaced-other}
 
@@ -114,8 +114,8 @@ keys_of writes = map (λ write. write.0) writes
 
 sorted-above : (a key : Key) (value : Option (List ℕ)) (writes : Writes) → key_lt a key ≡ true → is_rising (a ∷ keys_of writes) ≡ true → is_rising (a ∷ keys_of (with_write key value writes)) ≡ true
 sorted-above a key value [] less rising = and_from (key_lt a key) true less refl
-sorted-above a key value (write ∷ writes) less rising = grind (arith, and_parts, sorted-above write.0 key value writes, key_eq-true, and_from, key_lt-swap, nat_tests)
+sorted-above a key value (write ∷ writes) less rising = grind (arith, and_parts, sorted-above write.0 key value writes, and_from, key_lt-swap, nat_tests)
 
 pub sorted-with_write : (key : Key) (value : Option (List ℕ)) (writes : Writes) → is_rising (map (λ write. write.0) writes) ≡ true → is_rising (map (λ write. write.0) (with_write key value writes)) ≡ true
 sorted-with_write key value [] rising = refl
-sorted-with_write key value (write ∷ writes) rising = grind (arith, key_eq-true, and_from, sorted-above, key_lt-swap, nat_tests)
+sorted-with_write key value (write ∷ writes) rising = grind (arith, sorted-above, nat_tests)

@@ -28,10 +28,10 @@ apart-writers {k} {l} {t} {n} e = grind (arith)
 -- ---- slots that a session holds
 
 pub own-at : (n : ℕ) (key : Key) (o : Option Version) → is_own_at n key o ≡ true → o ≡ Some (version_by key (BySession n))
-own-at n key a own = grind (arith, and_parts, eqb-true, key_eq-true)
+own-at n key a own = grind (arith)
 
 pub own_slot-some : (q : State) (n : ℕ) (key : Key) (slot : ℕ) → own_slot q n key ≡ Some slot → (slot < q.layout.slots) × (q.held slot ≡ Some (version_by key (BySession n)))
-own_slot-some q n key slot found = grind (arith, first_below-some, own-at)
+own_slot-some q n key slot found = grind (arith, first_below-some)
 
 pub own_slot-none : (q : State) (n : ℕ) (key : Key) → own_slot q n key ≡ None → (slot : ℕ) → slot < q.layout.slots → q.held slot ≡ Some (version_by key (BySession n)) → ⊥
 own_slot-none q n key none slot lt own =

@@ -3,7 +3,7 @@ use Rattle.std.proofs.Common.{◌||◌, ◌≡◌, ◌≢◌, ◌⊎◌, inl, in
 use Rattle.std.specs.Prelude.{nat_eq, nat_lt, nat_le}
 use Rattle.std.specs.List.{list_any, list_all}
 use Rattle.std.specs.Option.{option_map}
-use Rattle.std.proofs.lemmas.Bool.{eq-eqb, ne_eqb, eqb-false, and_parts, and_from, leb-true, le-leb, or_parts}
+use Rattle.std.proofs.lemmas.Bool.{eq-eqb, ne_eqb}
 use Rattle.base.specs.declared.step.Step.TheVariants.{Stamp}
 use Rattle.base.specs.Keys.{lookup_key, is_rising}
 use Rattle.base.specs.Commits.{Commit, writes_key}
@@ -50,7 +50,7 @@ all-counted t p (d ∷ ds) = λ i. p (counted-commit t d i) && all-counted t p d
 within-counted : (t : ℕ) (ds : List Drawn) → list_all (λ d. nat_le d.stamped (length d.commit.writes)) ds ≡ true → list_any (λ d. nat_eq d.commit.timestamp t && is_stamped d) ds ≡ false
     → list_all (λ d. nat_le d.stamped (length d.commit.writes)) (map (counted t) ds) ≡ true
 within-counted t [] all none = refl
-within-counted t (d ∷ ds) all none = grind (arith, and_parts, or_parts, and_from, within-counted t ds, le-leb, leb-true, eqb-false)
+within-counted t (d ∷ ds) all none = grind (arith, within-counted t ds)
 
 -- ---- what is kept
 
@@ -68,7 +68,7 @@ module _ (o : Origin) (q : State) (t : ℕ) (unfinished : list_any (λ d. nat_eq
   -- the commit isn't stamped as a whole
   not-stamped : (ds : List Drawn) (u : ℕ) (d : Drawn) → list_any (λ d. nat_eq d.commit.timestamp t && is_stamped d) ds ≡ false → find (λ (d : Drawn). nat_eq d.commit.timestamp u) ds ≡ Some d → is_stamped d ≡ true → d.commit.timestamp ≢ t
   not-stamped [] u d none found stamped is = cc found
-  not-stamped (x ∷ ds) u d none found stamped is = grind (arith, not-stamped ds u d, and_from, eq-eqb)
+  not-stamped (x ∷ ds) u d none found stamped is = grind (arith, not-stamped ds u d, eq-eqb)
 
   life-stamped : drawn_of then ≡ drawn_of q
   life-stamped = commits-counted t q.drawn

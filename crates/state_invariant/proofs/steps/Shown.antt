@@ -128,10 +128,10 @@ shows-ticked o q value (Some hand) up kept is shows = grind (arith, shows-hand, 
 -- the snapshots in use after one session changes are some of those before
 pub fewer : (q : State) (n : ℕ) (s : Option Session) (held : ℕ → Option Version) → ((begun : ℕ) (writes : Writes) → s ≡ Some (Active begun writes) → IsInUse q begun)
     → (m : ℕ) → IsInUse (with_all q (replaced n s q.sessions) held q.failed q.hand) m → IsInUse q m
-fewer q n s held used m a = grind (arith, cases_eq, replaced-same, active, replaced-other)
+fewer q n s held used m a = grind (arith)
 
 shows-next : (o : Origin) (q : State) (step : Step) (value : ℕ → ℕ) → Keeps o q → refusal q step ≡ None → stores step ≡ false → SlotsShow o q value → SlotsShow o (next_state q step) value
-shows-next o q Begin value kept none quiet shows = grind (arith, shows-session, free-session, allowed)
+shows-next o q Begin value kept none quiet shows = grind (arith, shows-session, free-session)
 shows-next o q (Get n key) value kept none quiet shows = shows
 shows-next o q (Scan n table lo hi) value kept none quiet shows = shows
 shows-next o q (Put n key row) value kept none quiet shows = absurd (true≢false quiet)
