@@ -4,7 +4,7 @@ use Rattle.std.specs.Prelude.{nat_eq, nat_lt, Contains}
 use Rattle.std.specs.List.{list_any, list_all}
 use Rattle.std.specs.Option.{option_map, option_or}
 use Rattle.std.specs.Cmp.{both_ways}
-use Rattle.std.proofs.lemmas.Bool.{cases_eq, cases_lt, eq-eqb, eqb-true, ne_eqb, and_parts, and_from, ltb-true, false_from_ne_true, or_right, false≢true, lt-ltb}
+use Rattle.std.proofs.lemmas.Bool.{cases_eq, cases_lt, eq-eqb, eqb-true, ne_eqb, and_parts, ltb-true, false_from_ne_true, or_right, false≢true}
 use Rattle.base.specs.declared.key.Key.{Key}
 use Rattle.base.specs.Commits.{Commit, writes_key, last_writer}
 use Rattle.base.specs.Records.{is_committed, are_rising}
@@ -47,11 +47,11 @@ times cs = map (λ (c : Commit). c.timestamp) cs
 -- nothing is found below what all are above
 none-below : (t : ℕ) (cs : List Commit) → list_all (nat_lt t) (times cs) ≡ true → commit_at cs t ≡ None
 none-below t [] above = refl
-none-below t (c ∷ cs) above = grind (arith, and_parts, ltb-true, ne_eqb, none-below t cs)
+none-below t (c ∷ cs) above = grind (arith, none-below t cs)
 
 lower : (t u : ℕ) (ts : List ℕ) → t < u → list_all (nat_lt u) ts ≡ true → list_all (nat_lt t) ts ≡ true
 lower t u [] less all = refl
-lower t u (x ∷ ts) less all = grind (arith, and_parts, ltb-true, and_from, lt-ltb, lower t u ts less)
+lower t u (x ∷ ts) less all = grind (arith, lower t u ts less)
 
 -- two rising lists in which the same is found are the same
 same-rising : (xs ys : List Commit) → are_rising (times xs) ≡ true → are_rising (times ys) ≡ true → ((t : ℕ) → commit_at xs t ≡ commit_at ys t) → xs ≡ ys
@@ -152,7 +152,7 @@ last-split key p (d ∷ ds) rising apart =
 
 all-above : (t : ℕ) (ds : List Drawn) → list_all (nat_lt t) (map (λ (d : Drawn). d.commit.timestamp) ds) ≡ true → list_all (λ (d : Drawn). nat_lt t d.commit.timestamp) ds ≡ true
 all-above t [] all = refl
-all-above t (d ∷ ds) all = grind (arith, and_parts, all-above t ds)
+all-above t (d ∷ ds) all = grind (arith, all-above t ds)
 
 all-member : {X : Type 0} (p : X → Bool) (xs : List X) (x : X) → list_all p xs ≡ true → Contains xs x → p x ≡ true
 all-member p [] x all (k, lt, is) = absurd (omega (arith, lt))

@@ -3,7 +3,7 @@ use Rattle.std.proofs.Common.{◌≡◌, inl, inr, ℕ, zero, suc, ◌<◌, ◌�
 use Rattle.std.specs.Prelude.{nat_eq, nat_lt, if◌then◌else◌}
 use Rattle.std.specs.List.{list_any, list_all}
 use Rattle.std.specs.Option.{option_or}
-use Rattle.std.proofs.lemmas.Bool.{and_parts, or_cases, or_right, ltb-true, eq-eqb, eqb-true, false_from_ne_true, false≢true, not-true}
+use Rattle.std.proofs.lemmas.Bool.{and_parts, or_cases, or_right, ltb-true, eqb-true, false_from_ne_true, false≢true, not-true}
 use Rattle.std.proofs.lemmas.List.{take_all}
 use Rattle.std.proofs.lemmas.List.Folds.{list_any-append}
 use Rattle.base.specs.declared.key.Key.{Key}
@@ -41,7 +41,7 @@ last_on-any key (c ∷ cs) = grind (arith, last_on-any key cs)
 -- and it has the timestamp
 pub last_on-has : (key : Key) (cs : List Commit) (t : ℕ) → last_on key cs ≡ Some t → has_timestamp cs t ≡ true
 last_on-has key [] t is = absurd (cc is)
-last_on-has key (c ∷ cs) t is = grind (arith, last_on-has key cs, or_right, eq-eqb)
+last_on-has key (c ∷ cs) t is = grind (arith, last_on-has key cs)
 
 -- ---- what the snapshot sees, and what it doesn't
 
@@ -132,7 +132,7 @@ module _ (o : Origin) (q : State) (snapshot : Seen) (begun : ℕ) (kept : Keeps 
       ])
 
   unseen-uncovered : (t : ℕ) → has_timestamp unseen t ≡ true → covers snapshot t ≡ false
-  unseen-uncovered t has = grind (arith, or_cases, list_any-append, rest-uncovered, drawn-uncovered)
+  unseen-uncovered t has = grind (arith, list_any-append, rest-uncovered, drawn-uncovered)
 
   pub conflict : (key : Key) → is_unseen snapshot (last_on key (commits_of_life o q)) ≡ list_any (writes_key key) unseen
   conflict key = ap (λ cs. is_unseen snapshot (last_on key cs)) whole ∙ ap (is_unseen snapshot) (last_on-append key seen unseen) ∙ by (last_on key unseen) refl ∙ last_on-any key unseen

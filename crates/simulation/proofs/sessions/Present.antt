@@ -3,7 +3,7 @@ use Rattle.std.proofs.Common.{◌≡◌, inl, inr, ℕ, ◌<◌, ◌≤◌, Bool
 use Rattle.std.specs.Prelude.{nat_eq, nat_lt, nat_le}
 use Rattle.std.specs.List.{list_all}
 use Rattle.std.specs.Cmp.{both_ways}
-use Rattle.std.proofs.lemmas.Bool.{and_parts, and_from, or_left, or_right, or_cases, leb-true, leb-false, le-leb, eqb-true, false≢true}
+use Rattle.std.proofs.lemmas.Bool.{and_parts, or_left, or_right, or_cases, leb-true, leb-false, le-leb, eqb-true, false≢true}
 use Rattle.std.proofs.lemmas.List.{take_all}
 use Rattle.std.proofs.lemmas.List.Folds.{list_any-append}
 use Rattle.base.specs.Commits.{Commit}
@@ -27,7 +27,7 @@ module _ (o : Origin) (q : State) (kept : Keeps o q) where
 
   -- what the ruling record commits of what the opening's persisted, that committed too
   committed-before : (t : ℕ) → IsOutOfSwept o q t → t ≤ o.ruling.persisted → is_committed q.ruling t ≡ true → is_committed o.ruling t ≡ true
-  committed-before t out low is = grind (arith, and_parts, and_from, le-leb, no-gap)
+  committed-before t out low is = grind (arith, le-leb, no-gap)
 
   -- a drawn commit isn't committed
   drawn-uncommitted : (t : ℕ) → has_timestamp (drawn_of q) t ≡ true → is_committed q.ruling t ≡ true → ⊥

@@ -10,7 +10,7 @@ use Rattle.base.specs.Images.{Image, IsRuledBy, layout_of, begin_of, end_of, is_
 use Rattle.machine.specs.Machine.{State}
 use Rattle.pmem.specs.Device.{Device, IsOrderly}
 use Rattle.pmem.specs.Words.{image_of, Survives, EachSurvivor}
-use Rattle.log_area.proofs.Heads.{image_size, image_word, laid_size}
+use Rattle.log_area.proofs.Heads.{image_word, laid_size}
 use Rattle.log_area.proofs.AtRest.{laid}
 use Rattle.state_invariant.specs.Kept.{Origin, IsInUse}
 use Rattle.state_invariant.specs.Shown.{word_of, counts_at, ReadsAs, SlotsShow}
@@ -19,7 +19,6 @@ use Rattle.state_invariant.proofs.Commits.{committed-bounds, uncommitted-gap}
 use Rattle.state_invariant.proofs.Records.{above-gaps}
 use Rattle.state_invariant.proofs.reads.SweptGaps.{live-agrees}
 use Rattle.device_invariant.specs.Upholds.{Upholds}
-use Rattle.device_invariant.proofs.Words.{word-within}
 use Rattle.device_invariant.proofs.reads.Images.{devices-read, ruled-image, shows-image, links-image}
 use Rattle.snapshot.specs.Snapshots.{Seen, covers}
 use Rattle.simulation.specs.sessions.Sees.{Sees, IsBegin, SeesBegins, ReadsBy}
@@ -40,7 +39,7 @@ module _ (o : Origin) (q : State) (device : Device) (snapshot : Seen) (begun : �
 
   -- a word of a slot has a value that may survive
   survives : (slot w : ℕ) → slot < q.layout.slots → w < slot_words q.layout.version → Survives device (word_of q.layout slot w) (slice_index image (word_of q.layout slot w))
-  survives slot w lt low = grind (arith, word-within, size, image_size, image_word)
+  survives slot w lt low = grind (arith, image_word)
 
   some-words : 2 ≤ slot_words q.layout.version
   some-words = grind (arith)

@@ -1,11 +1,8 @@
 -- How many operations puts and stamps make.
 use Rattle.std.proofs.Common.{◌≡◌, ℕ, zero, suc, ◌+◌, ◌≤◌, true, List, [], ◌∷◌, ◌++◌, map, length, refl, arith, Option}
 use Rattle.std.specs.List.{range_with_len}
-use Rattle.std.proofs.lemmas.List.{length-append}
-use Rattle.std.proofs.lemmas.List.FromFn.{length-map-range_with_len}
 use Rattle.base.specs.Layout.{slot_words}
 use Rattle.machine.specs.Machine.{State}
-use Rattle.base.proofs.Layouts.{line-words}
 use Rattle.pmem.specs.Device.{Device}
 use Rattle.pmem.specs.Trace.{Operation, store_op, flush_op, fence_op, failure, Runs, StopsWithin}
 use Rattle.version_slot.specs.declared.words.Version.{Version as Content}
@@ -35,10 +32,10 @@ takes-stopped ops most old new succeed few stop = grind (arith, stops-count ops 
 
 module _ (q : State) (n actor slot : ℕ) (v : Content) where
   put-succeeds : all_succeed (put_operations q n actor slot v) ≡ true
-  put-succeeds = grind (arith, succeed-append, succeed-stores)
+  put-succeeds = grind (arith)
 
   put-few : length (put_operations q n actor slot v) ≤ slot_words q.layout.version + 2
-  put-few = grind (arith, length-append, length-map-range_with_len, line-words)
+  put-few = grind (arith)
 
 pub puts-count : PutsCount
 puts-count = record {

@@ -82,7 +82,7 @@ operates-none : (q : State) (step : Step) → is_quiet step ≡ true → operate
 operates-none q a quiet is = grind (arith)
 
 quiet-upholds : (o : Origin) (q : State) (step : Step) (reply : Reply) (q' : State) (device : Device) → is_quiet step ≡ true → Stepped q step reply q' → Upholds o q device → Keeps o q' → SlotsShow o q' (value_of device) → Links o q' (value_of device) → Upholds o q' device
-quiet-upholds o q step reply q' device quiet a u keeps shows links = grind (arith, next-leads, operates-none)
+quiet-upholds o q step reply q' device quiet a u keeps shows links = grind (arith, next-leads)
 
 pub quiet-steps-lead : QuietStepsLead
 quiet-steps-lead o q step reply q' device orderly quiet stepped u = record {

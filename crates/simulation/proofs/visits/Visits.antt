@@ -13,7 +13,7 @@ use Rattle.pmem.specs.Device.{Device, IsOrderly, IsReadyIn, stored, flushed, fen
 use Rattle.pmem.specs.Words.{Survives, value_of, IsReady}
 use Rattle.pmem.specs.Trace.{Operation, store_op, flush_op, fence_op, failure, after, Along, Runs, StopsWithin}
 use Rattle.pmem.proofs.Words.{ready-marked}
-use Rattle.pmem.proofs.OperationEffects.{only-settled, value-flushed, value-fenced, value-stored_same, value-stored_other, history-stored_same, history-stored_other, history-flushed_same, settled-ready}
+use Rattle.pmem.proofs.OperationEffects.{only-settled, value-flushed, value-fenced, history-stored_same, history-stored_other, history-flushed_same, settled-ready}
 use Rattle.pmem.proofs.Traces.{along-append, along-last, along-first, after-append}
 use Rattle.state_invariant.specs.Kept.{Origin}
 use Rattle.state_invariant.specs.Shown.{word_of, IsNever}
@@ -21,7 +21,7 @@ use Rattle.state_invariant.proofs.collector.Kept.{keeps-visited, visit-frees, st
 use Rattle.device_invariant.specs.Sweeps.{IsOutOfGaps, IsSlotOutOfGaps}
 use Rattle.device_invariant.specs.Log.{HoldsHand}
 use Rattle.device_invariant.specs.Upholds.{Upholds}
-use Rattle.device_invariant.proofs.Words.{within-slot, word-within, words-apart_within}
+use Rattle.device_invariant.proofs.Words.{within-slot, word-within}
 use Rattle.device_invariant.proofs.puts.Slots.{zero-facts}
 use Rattle.device_invariant.proofs.collector.Zeroing.{zeroing-keeps}
 use Rattle.device_invariant.proofs.Laws.{flushes-keep, fences-keep, failing-keeps}
@@ -148,10 +148,10 @@ module _ (o : Origin) (q : State) (up : q.failed ≡ false) (unswept : q.swept �
 
   -- the word then lies in no gap, and the other one has its value
   zeroes-out : (w : ℕ) (device : Device) → is_in q.ruling.gaps 0 ≡ false → value_of device (word_of q.layout slot w) ≡ value (word_of q.layout slot w) → is_in q.ruling.gaps (value_of (after (zeroes w) device) (word_of q.layout slot w)) ≡ false
-  zeroes-out w device none same = grind (arith, zeroes-by, value-stored_same)
+  zeroes-out w device none same = grind (arith)
 
   zeroes-other : (w v : ℕ) (device : Device) → v ≢ w → value_of (after (zeroes w) device) (word_of q.layout slot v) ≡ value_of device (word_of q.layout slot v)
-  zeroes-other w v device apart = grind (arith, zeroes-by, value-stored_other, words-apart_within)
+  zeroes-other w v device apart = grind (arith)
 
   module _ (old : Device) (start : IsZeroing o q slot old) (same : (w : ℕ) → w < 2 → value_of old (word_of q.layout slot w) ≡ value (word_of q.layout slot w)) where
     abbrev one : Device

@@ -2,7 +2,7 @@
 use Rattle.std.proofs.Common.{◌≡◌, ◌≢◌, ◌⊎◌, inl, inr, ℕ, zero, suc, ◌+◌, ◌/◌, ◌<◌, ◌≤◌, Bool, true, false, cond, ◌&&◌, ◌||◌, List, [], ◌∷◌, ◌++◌, map, refl, sym, ◌∙◌, ap, subst, arith, true≢false}
 use Rattle.std.specs.Prelude.{Option, Some, None, nat_eq, nat_lt, nat_le}
 use Rattle.std.specs.List.{list_any, list_all, range_with_len, flat_map}
-use Rattle.std.proofs.lemmas.Bool.{and_parts, and_from, eq-eqb, leb-true, ltb-true, le-leb, lt-ltb, ne_eqb, or_cases, or_from, or_left, cases_eq, cases_lt}
+use Rattle.std.proofs.lemmas.Bool.{and_from, eq-eqb, leb-true, ltb-true, le-leb, lt-ltb, ne_eqb, or_cases, or_left, cases_eq}
 use Rattle.std.proofs.lemmas.List.Folds.{list_all-append, list_any-append}
 use Rattle.std.proofs.Math.Bool.{or-false}
 use Rattle.std.proofs.lemmas.Bool.Decides.{nat_tests}
@@ -20,11 +20,11 @@ use Rattle.simulation.specs.cycles.Laws.{LinesRise}
 
 all-above : (x m : ℕ) (ys : List ℕ) → x < m → list_all (nat_le m) ys ≡ true → list_all (nat_lt x) ys ≡ true
 all-above x m [] less all = refl
-all-above x m (y ∷ ys) less all = grind (arith, and_parts, and_from, lt-ltb, leb-true, all-above x m ys less)
+all-above x m (y ∷ ys) less all = grind (arith, all-above x m ys less)
 
 rising-append : (m : ℕ) (xs ys : List ℕ) → are_rising xs ≡ true → are_rising ys ≡ true → list_all (λ x. nat_lt x m) xs ≡ true → list_all (nat_le m) ys ≡ true → are_rising (xs ++ ys) ≡ true
 rising-append m [] ys rising_x rising_y below above = rising_y
-rising-append m (x ∷ xs) ys rising_x rising_y below above = grind (arith, and_parts, rising-with, list_all-append, and_from, rising-above, all-above, ltb-true, rising-append m xs ys (rising-rest x xs rising_x) rising_y, rising-rest)
+rising-append m (x ∷ xs) ys rising_x rising_y below above = grind (arith, rising-append m xs ys (rising-rest x xs rising_x) rising_y)
 
 -- the numbers rise from the first bound on, and end below the second
 record IsBetween (low high : ℕ) (xs : List ℕ) : Type 0 where
@@ -111,10 +111,10 @@ module _ (q : State) (line : ℕ) where
 
   -- either all its lines are touched, or the first alone
   by-kind : (slot : ℕ) (own ended : Bool) → among (cond own (all_of slot) (cond ended (first_of slot) [])) ≡ ((own && among (all_of slot)) || (ended && among (first_of slot)))
-  by-kind slot a b = grind (arith, first-among)
+  by-kind slot a b = grind (arith)
 
   own-any : (commits : List Commit) (v : Option Version) → is_own commits v ≡ list_any (λ c. is_own (c ∷ []) v) commits
-  own-any commits a = grind (arith, any-never commits, any-same, or-false)
+  own-any commits a = grind (arith, any-never commits)
 
   and-swap : (a b : Bool) → (a && b) ≡ (b && a)
   and-swap a b = grind (arith)
@@ -152,10 +152,10 @@ module _ (q : State) (line : ℕ) where
 
 none-below : (x : ℕ) (ys : List ℕ) → list_all (nat_lt x) ys ≡ true → is_line_of x ys ≡ false
 none-below x [] all = refl
-none-below x (y ∷ ys) all = grind (arith, and_parts, ltb-true, or_from, ne_eqb, none-below x ys)
+none-below x (y ∷ ys) all = grind (arith, none-below x ys)
 
 least : (x y : ℕ) (xs ys : List ℕ) → are_rising (y ∷ ys) ≡ true → is_line_of x (y ∷ ys) ≡ true → y ≤ x
-least x y xs ys rising is = grind (arith, cases_lt, none-below, and_from, lt-ltb, all-above, all-weaken, le-leb, ltb-true, rising-above, nat_tests)
+least x y xs ys rising is = grind (arith, none-below, rising-above, nat_tests)
 
 first-in : (x : ℕ) (xs : List ℕ) → is_line_of x (x ∷ xs) ≡ true
 first-in x xs = or_left (nat_eq x x) (is_line_of x xs) (eq-eqb x x refl)

@@ -2,7 +2,7 @@
 use Rattle.std.proofs.Common.{◌≡◌, ◌≢◌, ◌⊎◌, inl, inr, ℕ, suc, zero, ◌+◌, ◌-◌, ◌<◌, Bool, true, false, cond, ◌&&◌, List, [], ◌∷◌, ◌++◌, take, refl, sym, ◌∙◌, ap, subst, arith}
 use Rattle.std.specs.Prelude.{Option, Some, None, IsTrue}
 use Rattle.std.specs.List.{list_any, flat_map, range_with_len}
-use Rattle.std.proofs.lemmas.Bool.{cases_eq, ne_eqb, or_left}
+use Rattle.std.proofs.lemmas.Bool.{cases_eq, ne_eqb}
 use Rattle.std.proofs.lemmas.List.Folds.{list_any-append}
 use Rattle.base.specs.declared.key.Key.{Key}
 use Rattle.base.specs.Commits.{Writes, last_writer, writes_key}
@@ -27,7 +27,7 @@ module _ (o : Origin) (q : State) (n : ℕ) (write : Key × Option (List ℕ)) (
   then = state_drawn q n (write ∷ rest)
 
   drawn-still : (key : Key) (x : ℕ) → is_drawn_on q key x ≡ true → is_drawn_on then key x ≡ true
-  drawn-still key x drawn = grind (arith, list_any-append, drawn_now, or_left)
+  drawn-still key x drawn = grind (arith, list_any-append)
 
   -- the last covered commit on a key was drawn before
   last-before : (key : Key) → last_writer q.history key < q.next

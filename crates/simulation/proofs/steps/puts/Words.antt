@@ -1,7 +1,7 @@
 -- The words of a version are stored behind a begin that is 0, in the slot of a put.
 use Rattle.std.proofs.Common.{◌≡◌, ◌≢◌, ℕ, zero, suc, ◌+◌, ◌-◌, ◌/◌, ◌<◌, ◌≤◌, Bool, false, cond, List, map, length, get_or, refl, sym, ◌∙◌, ap, subst, arith}
 use Rattle.std.specs.List.{range_with_len}
-use Rattle.std.proofs.lemmas.Bool.{cases_eq, eq-eqb, ne_eqb}
+use Rattle.std.proofs.lemmas.Bool.{eq-eqb, ne_eqb}
 use Rattle.base.specs.Layout.{Layout, slot_start, slot_words, total_words}
 use Rattle.base.specs.Images.{Image, layout_of, slot_word}
 use Rattle.machine.specs.Machine.{State}
@@ -9,7 +9,7 @@ use Rattle.base.specs.Records.{is_in}
 use Rattle.pmem.specs.Device.{Device, stored, flushed}
 use Rattle.pmem.specs.Words.{value_of, IsReady, IsSettledAt}
 use Rattle.pmem.specs.Trace.{Operation, store_op, after, Along}
-use Rattle.pmem.proofs.OperationEffects.{history-stored_same, history-flushed_same, value-stored_same, value-stored_other}
+use Rattle.pmem.proofs.OperationEffects.{value-stored_other}
 use Rattle.version_slot.specs.declared.words.Version.{Version as Content}
 use Rattle.version_slot.specs.Words.{Fits, IsVersion, filled_word, version_word, link_number}
 use Rattle.version_slot.specs.Operations.{fill_operations}
@@ -23,7 +23,7 @@ use Rattle.device_invariant.proofs.puts.Slots.{IsUndrawn, holds-filled}
 -- ---- a word that was stored and flushed
 
 pub ready-stored : (word value actor : ℕ) (device : Device) → IsReady (flushed actor (word / 8) (stored word value device)) actor word
-ready-stored word value actor device = grind (arith, history-flushed_same, history-stored_same, eq-eqb)
+ready-stored word value actor device = grind (arith)
 
 -- ---- values
 
@@ -38,7 +38,7 @@ value-other first value from (suc n) device word apart =
 
 value-this : (first : ℕ) (value : ℕ → ℕ) (from n : ℕ) (device : Device) (k : ℕ) → from ≤ k → k < from + n → value_of (after (stores_from first value from n) device) (first + k) ≡ value k
 value-this first value from zero device k le lt = absurd (omega (arith, le, lt))
-value-this first value from (suc n) device k le lt = grind (arith, cases_eq, value-this first value (from + 1) n (stored (first + from) (value from) device) k, value-other, value-stored_same)
+value-this first value from (suc n) device k le lt = grind (arith, value-this first value (from + 1) n (stored (first + from) (value from) device) k, value-other)
 
 -- ---- while the slot is filled
 

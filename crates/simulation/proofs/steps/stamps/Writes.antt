@@ -2,12 +2,12 @@
 use Rattle.std.proofs.Common.{◌≡◌, ◌≢◌, ◌⊎◌, inl, inr, ℕ, zero, suc, ◌<◌, true, false, ◌||◌, List, [], ◌∷◌, map, take, refl, sym, ◌∙◌, ap, arith, add-one}
 use Rattle.std.specs.Prelude.{Option, Some, nat_eq, slice_get}
 use Rattle.std.specs.List.{list_any}
-use Rattle.std.proofs.lemmas.Bool.{and_parts, or_cases, eqb-true, ltb-true, cases_eq, or_parts}
+use Rattle.std.proofs.lemmas.Bool.{and_parts, cases_eq, or_parts}
 use Rattle.base.specs.declared.key.Key.{Key}
 use Rattle.base.specs.Keys.{key_eq, key_lt, is_rising}
 use Rattle.base.specs.Commits.{Writes}
 use Rattle.machine.specs.Machine.{State, Drawn, drawn_at, timestamp_of, counted, stamped_write}
-use Rattle.base.proofs.Keys.{key_eq-true, keys-rest}
+use Rattle.base.proofs.Keys.{keys-rest}
 use Rattle.state_invariant.specs.Kept.{Origin, Keeps}
 use Rattle.state_invariant.specs.Shown.{is_key_stamped}
 use Rattle.state_invariant.proofs.Lookups.{find-all}
@@ -21,7 +21,7 @@ abbrev pub Less : Key → Key → Type 0
 Less a b = (a.table < b.table) ⊎ ((a.table ≡ b.table) × (a.key < b.key))
 
 less-of : (a b : Key) → key_lt a b ≡ true → Less a b
-less-of a b is = grind (arith, or_cases, ltb-true, and_parts, eqb-true)
+less-of a b is = grind (arith)
 
 less-trans : (a b c : Key) → Less a b → Less b c → Less a c
 less-trans a b c d e = grind (arith)
@@ -34,14 +34,14 @@ keys_of writes = map (λ write. write.0) writes
 
 pub less-later : (a : Key) (writes : Writes) (i : ℕ) (key : Key) (row : Option (List ℕ)) → is_rising (a ∷ keys_of writes) ≡ true → slice_get writes i ≡ Some (key, row) → Less a key
 less-later a [] i key row rising at = absurd (cc at)
-less-later a (write ∷ writes) zero key row rising at = grind (arith, less-of, and_parts)
-less-later a (write ∷ writes) (suc i) key row rising at = grind (arith, and_parts, less-trans, less-of, less-later write.0 writes i key row)
+less-later a (write ∷ writes) zero key row rising at = grind (arith)
+less-later a (write ∷ writes) (suc i) key row rising at = grind (arith, and_parts, less-later write.0 writes i key row)
 
 -- the key of a write isn't one of those before it
 pub none-before : (writes : Writes) (i : ℕ) (key : Key) (row : Option (List ℕ)) → is_rising (keys_of writes) ≡ true → slice_get writes i ≡ Some (key, row) → list_any (λ write. key_eq write.0 key) (take i writes) ≡ false
 none-before [] i key row rising at = absurd (cc at)
 none-before (write ∷ writes) zero key row rising at = refl
-none-before (write ∷ writes) (suc i) key row rising at = grind (arith, none-before writes i key row, keys-rest, less-apart, less-later, key_eq-true)
+none-before (write ∷ writes) (suc i) key row rising at = grind (arith, none-before writes i key row, keys-rest, less-later)
 
 -- ---- the write
 
