@@ -1,25 +1,13 @@
 -- How many operations puts and stamps make.
-use Rattle.std.proofs.Common.{◌≡◌, ℕ, zero, suc, ◌+◌, ◌≤◌, true, List, [], ◌∷◌, ◌++◌, map, length, refl, arith, Option}
-use Rattle.std.specs.List.{range_with_len}
+use Rattle.std.proofs.Common.{◌≡◌, ℕ, ◌+◌, ◌≤◌, true, List, length, arith, Option}
 use Rattle.base.specs.Layout.{slot_words}
 use Rattle.machine.specs.Machine.{State}
 use Rattle.pmem.specs.Device.{Device}
-use Rattle.pmem.specs.Trace.{Operation, store_op, flush_op, fence_op, failure, Runs, StopsWithin}
+use Rattle.pmem.specs.Trace.{Operation, Runs, StopsWithin}
 use Rattle.version_slot.specs.declared.words.Version.{Version as Content}
 use Rattle.simulation.specs.steps.Moves.{Takes, all_succeed, put_operations, stamp_operations}
 use Rattle.simulation.specs.steps.Laws.{PutsCount, StampsCount}
 use Rattle.simulation.proofs.steps.Runs.{runs-count, stops-count}
-
-succeed-append : (xs ys : List Operation) → all_succeed xs ≡ true → all_succeed ys ≡ true → all_succeed (xs ++ ys) ≡ true
-succeed-append [] ys first then = then
-succeed-append (store_op word value ∷ xs) ys first then = succeed-append xs ys first then
-succeed-append (flush_op actor line ∷ xs) ys first then = succeed-append xs ys first then
-succeed-append (fence_op actor ∷ xs) ys first then = succeed-append xs ys first then
-succeed-append (failure ∷ xs) ys first then = absurd (cc first)
-
-succeed-stores : (first : ℕ) (value : ℕ → ℕ) (from n : ℕ) → all_succeed (map (λ k. store_op (first + k) (value k)) (range_with_len from n)) ≡ true
-succeed-stores first value from zero = refl
-succeed-stores first value from (suc n) = succeed-stores first value (from + 1) n
 
 -- runs of so few operations that all succeed
 pub takes-run : (ops : List Operation) (most : ℕ) (old new : Device) → all_succeed ops ≡ true → length ops ≤ most → Runs ops old new → Takes most 0 old new

@@ -7,7 +7,7 @@ use Rattle.base.specs.declared.step.Step.TheVariants.{Begin, Get, Scan, Put, Del
 use Rattle.base.specs.declared.step.Reply.{Reply}
 use Rattle.base.specs.Commits.{Writes, with_write}
 use Rattle.base.specs.Lists.{replaced}
-use Rattle.machine.specs.Machine.{State, Session, Active, WroteNothing, Stepped, free_session, writes_of, begun_of, is_own_at, is_held_by, held_after_delete, held_after_abort, state_drawn, next_state, operates}
+use Rattle.machine.specs.Machine.{State, Session, Active, WroteNothing, Stepped, free_session, writes_of, begun_of, is_own_at, is_held_by, held_after_delete, held_after_abort, state_drawn, next_state}
 use Rattle.pmem.specs.Device.{Device}
 use Rattle.pmem.specs.Words.{value_of}
 use Rattle.pmem.proofs.Images.{leaves_refl}
@@ -77,9 +77,6 @@ stores-none a quiet = grind (arith)
 
 fills-none : (step : Step) → is_quiet step ≡ true → fills step ≡ false
 fills-none a quiet = grind (arith)
-
-operates-none : (q : State) (step : Step) → is_quiet step ≡ true → operates q step ≡ true → ⊥
-operates-none q a quiet is = grind (arith)
 
 quiet-upholds : (o : Origin) (q : State) (step : Step) (reply : Reply) (q' : State) (device : Device) → is_quiet step ≡ true → Stepped q step reply q' → Upholds o q device → Keeps o q' → SlotsShow o q' (value_of device) → Links o q' (value_of device) → Upholds o q' device
 quiet-upholds o q step reply q' device quiet a u keeps shows links = grind (arith, next-leads)

@@ -2,7 +2,7 @@
 use Rattle.std.proofs.Common.{◌≡◌, ◌≢◌, ◌⊎◌, inl, inr, ℕ, zero, suc, ◌+◌, ◌/◌, ◌<◌, ◌≤◌, Bool, true, false, cond, ◌&&◌, ◌||◌, List, [], ◌∷◌, ◌++◌, map, refl, sym, ◌∙◌, ap, subst, arith, true≢false}
 use Rattle.std.specs.Prelude.{Option, Some, None, nat_eq, nat_lt, nat_le}
 use Rattle.std.specs.List.{list_any, list_all, range_with_len, flat_map}
-use Rattle.std.proofs.lemmas.Bool.{and_from, eq-eqb, leb-true, ltb-true, le-leb, lt-ltb, ne_eqb, or_cases, or_left, cases_eq}
+use Rattle.std.proofs.lemmas.Bool.{and_from, eq-eqb, leb-true, ltb-true, le-leb, lt-ltb, ne_eqb, or_left, cases_eq}
 use Rattle.std.proofs.lemmas.List.Folds.{list_all-append, list_any-append}
 use Rattle.std.proofs.Math.Bool.{or-false}
 use Rattle.std.proofs.lemmas.Bool.Decides.{nat_tests}
@@ -104,10 +104,6 @@ module _ (q : State) (line : ℕ) where
 
   abbrev first_of : ℕ → List Line
   first_of slot = line_at slot 0 ∷ []
-
-  -- the first line is one of all
-  first-among : (slot : ℕ) → among (first_of slot) ≡ true → among (all_of slot) ≡ true
-  first-among slot is = grind (arith, or_cases, or_left)
 
   -- either all its lines are touched, or the first alone
   by-kind : (slot : ℕ) (own ended : Bool) → among (cond own (all_of slot) (cond ended (first_of slot) [])) ≡ ((own && among (all_of slot)) || (ended && among (first_of slot)))

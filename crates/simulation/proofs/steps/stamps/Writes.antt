@@ -4,7 +4,7 @@ use Rattle.std.specs.Prelude.{Option, Some, nat_eq, slice_get}
 use Rattle.std.specs.List.{list_any}
 use Rattle.std.proofs.lemmas.Bool.{and_parts, cases_eq, or_parts}
 use Rattle.base.specs.declared.key.Key.{Key}
-use Rattle.base.specs.Keys.{key_eq, key_lt, is_rising}
+use Rattle.base.specs.Keys.{key_eq, is_rising}
 use Rattle.base.specs.Commits.{Writes}
 use Rattle.machine.specs.Machine.{State, Drawn, drawn_at, timestamp_of, counted, stamped_write}
 use Rattle.base.proofs.Keys.{keys-rest}
@@ -19,12 +19,6 @@ use Rattle.state_invariant.proofs.stamps.Kept.{counted-this, counted-other}
 
 abbrev pub Less : Key → Key → Type 0
 Less a b = (a.table < b.table) ⊎ ((a.table ≡ b.table) × (a.key < b.key))
-
-less-of : (a b : Key) → key_lt a b ≡ true → Less a b
-less-of a b is = grind (arith)
-
-less-trans : (a b c : Key) → Less a b → Less b c → Less a c
-less-trans a b c d e = grind (arith)
 
 pub less-apart : (a b : Key) → Less a b → a ≡ b → ⊥
 less-apart a b d same = grind (arith)
