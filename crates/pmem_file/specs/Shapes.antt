@@ -1,5 +1,5 @@
 -- What the words of a file hold that is opened as a device.
-use Rattle.std.specs.Prelude.{◌≡◌, ◌⊎◌, ℕ, ◌+◌, ◌-◌, ◌<◌, ◌≤◌, ◌^◌, List, ◌++◌, length, replicate, slice_index}
+use Rattle.std.specs.Prelude.{◌≡◌, ◌⊎◌, ℕ, ◌+◌, ◌-◌, ◌*◌, ◌/◌, ◌<◌, ◌≤◌, ◌^◌, List, ◌++◌, length, replicate, slice_index}
 use Rattle.base.specs.Layout.{Layout, slot_start, total_words}
 use Rattle.journal.specs.Files.{Opens}
 use Rattle.log_area.specs.Rulings.{IsLaidOut}
@@ -37,8 +37,9 @@ pub record HasShape (asked : Layout) (words : List ℕ) (shape : Shape) : Type 0
   pub opens : Opens shape.words shape.room (padded shape words) image
   pub has_places : HasItsPlaces asked image shape.places
 
--- a shape that is made for an image of the layout
+-- a shape that is made for an image of the layout: its journal has room for an entry of all lines
 pub record IsMadeFor (a : Layout) (shape : Shape) : Type 0 where
   pub words_are : shape.words ≡ total_words a
   pub places_are : shape.places ≡ a.places
+  pub entry : 1 + 9 * (shape.words / 8) ≤ shape.room
   pub fits : whole shape < 2 ^ 58

@@ -1,5 +1,5 @@
-ghost use Rattle.std.specs.Prelude.{◌≡◌, ◌<◌, true};
-ghost use Rattle.pmem_file.specs.declared.part.Part.TheVariants.{All as AllWords};
+ghost use Rattle.std.specs.Prelude.{◌≡◌, ◌<◌, ◌↔◌, ℕ, IsBitSet, IsTrue, true};
+ghost use Rattle.pmem_file.specs.declared.part.Part.TheVariants.{All as AllWords, Words};
 
 /// Which words of each eight are written.
 #[derive(Clone, Copy, Debug)]
@@ -13,7 +13,8 @@ impl Part {
     /// Whether the word at this place of the eight is written.
     pub(crate) fn has(&self, place: usize) -> bool
         requires { place < 8 }
-        ensures { self.now ≡ AllWords → result ≡ true }
+        ensures all { self.now ≡ AllWords → result ≡ true }
+        ensures words { (set : ℕ) → self.now ≡ Words set → IsTrue result ↔ IsBitSet set place }
     {
         match *self {
             Part::All => true,

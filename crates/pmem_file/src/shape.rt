@@ -1,4 +1,4 @@
-ghost use Rattle.std.specs.Prelude.{◌≡◌, ◌+◌, ◌<◌, ◌≤◌, ◌^◌, ℕ, length, slice_index, IfOk, IfSome, IsTrue};
+ghost use Rattle.std.specs.Prelude.{◌≡◌, ◌+◌, ◌*◌, ◌/◌, ◌<◌, ◌≤◌, ◌^◌, ℕ, length, slice_index, IfOk, IfSome, IsTrue};
 ghost use Rattle.journal.specs.Files.{IsFile};
 ghost use Rattle.log_area.specs.Rulings.{IsLaidOut};
 ghost use Rattle.pmem_file.specs.Shapes.{HasShape, IsBlank, IsImageOf, whole};
@@ -73,15 +73,18 @@ impl Shape {
 // of entries, if an ample one has as much; and at least for one.
 fn room_behind(words: usize) -> usize
     requires { words < 2 ^ 32 }
-    ensures { result < 2 ^ 40 }
+    ensures entry { 1 + 9 * (words / 8) ≤ result }
+    ensures few { result < 2 ^ 40 }
 {
     let least = least_room(words);
     let several = least.saturating_mul(3).min(AMPLE_ROOM);
     least.max(several).max(LEAST_ROOM)
 }
 
+// For an entry of all lines: a word that begins it, and of each line its number and its words.
 fn least_room(words: usize) -> usize
-    ensures { words < 2 ^ 32 → result < 2 ^ 40 }
+    ensures entry { words < 2 ^ 32 → 1 + 9 * (words / 8) ≤ result }
+    ensures few { words < 2 ^ 32 → result < 2 ^ 40 }
 {
     let lines = words / 8;
     lines.saturating_mul(9).saturating_add(23) / 8 * 8
