@@ -1,7 +1,8 @@
 //! What the life before drew and did not cover may have left versions on the device. Its timestamps become gaps, which commit
 //! nothing, so those versions count for nobody without being looked for.
 
-ghost use Rattle.std.specs.Prelude.{◌≡◌, ◌+◌, ◌-◌, ◌<◌, ◌&&◌, nat_lt, length, IfOk, OnOk, OnErr};
+ghost use Rattle.std.specs.Prelude.{◌≡◌, ◌+◌, ◌-◌, ◌<◌, ◌&&◌, nat_lt, length, IfErr, IfOk, OnOk, OnErr};
+ghost use Rattle.base.specs.declared.fault.Fault.TheVariants.{GapsFull};
 ghost use Rattle.base.specs.Records.{opened_gaps, is_in};
 ghost use Rattle.recovery.specs.Gaps.{few_gaps, HasLongsBetween, HasUpTo, MayRule};
 
@@ -28,6 +29,7 @@ fn join_gaps(ruling: Record) -> Result<GapList, Fault>
     requires { MayRule ruling }
     ensures ok { IfOk result (λ gaps. gaps ≡ opened_gaps ruling) }
     ensures err { OnErr result (8 < length (opened_gaps ruling)) }
+    ensures fault { IfErr result (λ fault. fault ≡ GapsFull) }
 {
     let mut gaps = GapList::none();
     let mut last = 0;
@@ -50,6 +52,7 @@ fn add_longs(gaps: &mut GapList, ruling: Record, above: Ts, below: Ts) -> Result
     requires between { HasLongsBetween ruling above below }
     ensures ok { OnOk result (HasUpTo ruling (below - 1) gaps.new) }
     ensures err { OnErr result (8 < length (opened_gaps ruling)) }
+    ensures fault { IfErr result (λ fault. fault ≡ GapsFull) }
 {
     let mut last = above;
     let longs = ruling.longs();
@@ -68,6 +71,7 @@ fn add_skipped(gaps: &mut GapList, ruling: Record) -> Result<(), Fault>
     requires before { HasUpTo ruling ruling.persisted gaps.old }
     ensures ok { OnOk result (gaps.new ≡ opened_gaps ruling) }
     ensures err { OnErr result (8 < length (opened_gaps ruling)) }
+    ensures fault { IfErr result (λ fault. fault ≡ GapsFull) }
 {
     let first = ruling.persisted() + 1;
     let last = ruling.dirty() - 1;

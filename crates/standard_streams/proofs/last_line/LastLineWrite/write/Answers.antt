@@ -1,5 +1,4 @@
-use Rattle.std.proofs.Common.{◌≡◌, ◌⊎◌, ap, ◌∙◌, ◌++◌, [], sym, refl, arith, true, false, inl, inr}
-use Rattle.std.specs.Prelude.{is_ok}
+use Rattle.std.proofs.Common.{◌≡◌, ap, ◌∙◌, ◌++◌, [], sym, refl, arith, true, false}
 use Rattle.std.proofs.lemmas.Bool.{false≢true}
 use Rattle.std.proofs.lemmas.Grind.{common_steps}
 use Rattle.std.proofs.lemmas.Result.{IfOk-weaker}
@@ -22,15 +21,7 @@ returns-clause-bytes g c =
     held-appends _ _ _ _ _ kept (c.in_ok-extend_from_slice.ensures.items ∙ ap (λ line. c.if-is_ended.self.held.items ++ line) c.first_line-line.ensures.front)
 
 pub invariant_of-self-2 : goal.invariant_of-self-2
-invariant_of-self-2 g c =
-    let begun : (c.if-is_ended.self.held.items ≡ []) ⊎ (is_ended c.if-is_ended.self.held.items ≡ false) = elim c.if-is_ended.branch [
-      | then-is_ended+in_ok-pass_on w ↦ inl (rw w.self-is w.in_ok-pass_on.ensures.all)
-      | else-is_ended w ↦ inr (rw w.self-is (ap is_ended (sym c.as_slice.ensures.value) ∙ (sym c.is_ended.ensures ∙ w.if-is_ended.false)))
-    ] in
-    record {
-      one_line = one-line-grown c.if-is_ended.self.held.items c.first_line-line.result.now c.extend_from_slice.new.self.items (is_ok c.extend_from_slice.result) c.extend_from_slice.ensures.items
-          c.if-is_ended.self.one_line c.first_line-line.ensures.one_line begun;
-    }
+invariant_of-self-2 g c = grind (arith, one-line-grown, c.if-is_ended.branch, c.as_slice.ensures.value, c.first_line-line.ensures.one_line)
 
 pub returns-then-not-ends_work-clause-line : goal.returns-then-not-ends_work-clause-line
 returns-then-not-ends_work-clause-line g c =
