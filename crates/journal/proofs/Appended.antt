@@ -62,22 +62,7 @@ behind_at words room position at file begun behind is lt = grind (arith, get_or-
 
 pub split : (words room position : ℕ) (file found begun behind : List ℕ) → IsBehind words room position file begun behind → length found ≡ words + room + 8
     → ((word : ℕ) → words ≤ word → word < words + position → get_or found word 0 ≡ get_or file word 0) → journal_in words room found ≡ begun ++ rest_of words room position found
-split words room position file found begun behind is size same =
-    sym (take-append-drop position (journal_in words room found)) ∙ ap (λ (l : List ℕ). l ++ rest_of words room position found) taken
-  where
-    count : length (take position (journal_in words room found)) ≡ position
-    count = omega (arith, length-take position (journal_in words room found), journal_size words room found size, is.all_size)
-
-    taken : take position (journal_in words room found) ≡ begun
-    taken = ext_get_or 0 (take position (journal_in words room found)) begun (count ∙ sym is.begun_size) (λ at lt.
-        let below : at < position = omega (arith, lt, count) in
-        let inside : at < room = omega (arith, below, is.all_size) in
-        get_or-take position (journal_in words room found) at 0 below
-        ∙ journal_word words room found at inside
-        ∙ same (words + at) (omega arith) (omega (arith, below))
-        ∙ sym (journal_word words room file at inside)
-        ∙ ap (λ (l : List ℕ). get_or l at 0) is.written
-        ∙ get_or_append_left begun behind 0 at (omega (arith, below, is.begun_size)))
+split words room position file found begun behind is size same = grind (arith, take-append-drop position (journal_in words room found), length-take position (journal_in words room found), journal_size words room found size, ext_get_or 0 (take position (journal_in words room found)) begun, get_or-take position (journal_in words room found), journal_word words room found, journal_word words room file, get_or_append_left begun behind 0)
 
 mixture : (old new : ℕ → ℕ → Type 0) (words room position : ℕ) (file found begun behind news : List ℕ) → IsBehind words room position file begun behind → HoldsOnly old (words + room + 8) file
     → Puts old new (words + position) news → IsFound new (words + room + 8) found → position + length news ≤ room → IsMixture behind news (rest_of words room position found)

@@ -1,7 +1,6 @@
 -- Lines that put what differs.
 use Rattle.std.proofs.Common.{◌≡◌, ◌⊎◌, inl, inr, ℕ, ◌+◌, ◌*◌, ◌/◌, ◌%◌, ◌<◌, ◌≤◌, ◌^◌, Bool, true, false, List, [], ◌∷◌, ◌++◌, length, get_or, refl, sym, ◌∙◌, ap, arith}
 use Rattle.std.specs.Prelude.{All}
-use Rattle.std.proofs.lemmas.Bool.{false≢true}
 use Rattle.std.proofs.lemmas.List.{length-map, ext_get_or}
 use Rattle.std.proofs.lemmas.List.Elements.{All-append, All-cons}
 use Rattle.journal.specs.declared.line.Line.{Line}
@@ -21,21 +20,7 @@ over_puts (line ∷ lines) word v = grind (arith, over_puts lines word (get_or l
 
 -- so the lines of the numbers in which words differ make them of the durable ones
 pub found-changed : (lines : List Line) (durable words numbers : List ℕ) → AreFound lines durable words numbers → DiffersIn numbers words durable → AreChanged lines durable words
-found-changed lines durable words numbers found differs = record {
-  makes = λ word lt. elim (over_puts lines word (get_or durable word 0)) [
-    | inl put ↦ found.puts word (put_over lines word (get_or durable word 0)) put
-    | inr none ↦ none.1 ∙ stood word lt none.0 (is_listed numbers (word / 8)) refl
-  ];
-  lines_are = found.lines_are;
-  within = found.within;
-}
-  where
-    stood : (word : ℕ) → word < length words → is_put_at lines (word / 8) ≡ false → (b : Bool) → is_listed numbers (word / 8) ≡ b → get_or durable word 0 ≡ get_or words word 0
-    stood word lt none false is = differs.others word lt is
-    stood word lt none true is = elim (found.has word lt is) [
-      | inl at ↦ absurd (false≢true (sym none ∙ at))
-      | inr same ↦ same
-    ]
+found-changed lines durable words numbers found differs = grind (arith, over_puts lines)
 
 -- ---- one number more
 

@@ -169,13 +169,7 @@ pub off-opens : (old new : ℕ → ℕ → Type 0) (words room : ℕ) (pass : Bo
 off-opens old new words room pass durable here puts = found_opens new words room durable (λ found is. by_test found is (cases_eq (get_or found (words + room) 0) magic))
   where
     by_test : (found : List ℕ) → IsFound new (words + room + 8) found → (get_or found (words + room) 0 ≡ magic) ⊎ (get_or found (words + room) 0 ≢ magic) → Opens words room found durable
-    by_test found is (inr off) = opens-off words room found durable here.known.opens.size place (lines-off words room found off)
-      where
-        place : (word : ℕ) → word < words → get_or found word 0 ≡ get_or durable word 0
-        place word lt = elim (found_beside old new (words + room + 8) (words + room) (tail_of 0 words room pass) here.known.file found here.known.holds puts is word (omega (arith, lt))) [
-          | inl same ↦ same ∙ here.place word lt
-          | inr put ↦ absurd (omega (arith, put.0, lt))
-        ]
+    by_test found is (inr off) = grind (arith, lines-off)
     by_test found is (inl on) =
         let file : List ℕ = here.known.file in
         let beside = found_beside old new (words + room + 8) (words + room) (tail_of 0 words room pass) file found here.known.holds puts is in

@@ -1,6 +1,6 @@
 -- Lines as payloads, and back.
 use Rattle.std.proofs.Common.{◌≡◌, ℕ, suc, ◌+◌, ◌*◌, ◌/◌, ◌%◌, ◌<◌, ◌≤◌, ◌^◌, List, [], ◌∷◌, ◌++◌, length, map, take, drop, set, get_or, refl, sym, ◌∙◌, ap, arith}
-use Rattle.std.proofs.lemmas.List.{length-map, take_at, drop_at, take_more_set, get_or_at}
+use Rattle.std.proofs.lemmas.List.{length-map, take_at, drop_at, take_more_set}
 use Rattle.journal.specs.declared.line.Line.{Line}
 use Rattle.journal.specs.LinePayloads.{low, packed, line_payloads, joined, number_in, line_of, payloads_of_lines, lines_of, IsLine, LinesReturn}
 
@@ -26,19 +26,7 @@ one_back : (line : Line) (others : List ℕ) → IsLine line → line_of (line_p
 one_back line others is =
     let lows : List ℕ = map low line.words in
     let rest : ℕ = packed line.number line.words in
-    let size : length lows ≡ 8 = length-map line.words low ∙ is.size in
-    let fits : (at : ℕ) → at < length line.words → get_or line.words at 0 < 2 ^ 64 = λ at lt. is.fits at (omega (arith, lt, is.size)) in
-    let all : line_payloads line ++ others ≡ lows ++ (rest ∷ others) = assoc lows (rest ∷ []) others in
-    let taken : take 8 (line_payloads line ++ others) ≡ lows = ap (λ (l : List ℕ). take 8 l) all ∙ take_at lows (rest ∷ others) 8 size in
-    let last : get_or (line_payloads line ++ others) 8 0 ≡ rest = ap (λ (l : List ℕ). get_or l 8 0) all ∙ get_or_at lows rest others 0 8 size in
-    (λ i. record {
-      number = ((λ j. number_in (taken j) (last j)) ∙ number_is line.number line.words fits) i;
-      words = ((λ j. joined (taken j) (last j)) ∙ join_is line.number line.words fits) i;
-    })
-  where
-    assoc : (a b c : List ℕ) → (a ++ b) ++ c ≡ a ++ (b ++ c)
-    assoc [] b c = refl
-    assoc (x ∷ a) b c = λ i. x ∷ assoc a b c i
+    grind (arith, length-map, take_at lows (rest ∷ others) 8, join_is)
 
 behind : (line : Line) (others : List ℕ) → IsLine line → drop 9 (line_payloads line ++ others) ≡ others
 behind line others is = drop_at (line_payloads line) others 9 (size_of line.words is.size)

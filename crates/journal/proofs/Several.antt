@@ -76,10 +76,7 @@ append-is_whole pass entries old payloads words none mixed = elim (torn-is_none 
 
     last : (left : ℕ) → 1 ≤ left → words ≡ over (entry pass payloads) old → read_most pass left words ≡ payloads ∷ []
     last zero some is = absurd (omega (arith, some))
-    last (suc left) some is =
-        ap (read_most pass (suc left)) (is ∙ over_is old (entry pass payloads) words mixed)
-        ∙ one_more pass left payloads (drop (length (entry pass payloads)) old)
-        ∙ ap (λ (es : List (List ℕ)). payloads ∷ es) (none_more pass left (drop (length (entry pass payloads)) old) (none_left pass (length (entry pass payloads)) old none))
+    last (suc left) some is = grind (arith, over_is, one_more, none_more, none_left)
 
 pub none-is_nothing : NoneIsNothing
 none-is_nothing pass entries old none =

@@ -1,10 +1,9 @@
 -- The last row that commits wrote at a key.
-use Rattle.std.proofs.Common.{◌≡◌, ℕ, zero, suc, ◌≤◌, Bool, true, false, cond, List, [], ◌∷◌, length, take, refl, sym, ◌∙◌, ap, arith, Option, Some, None, slice_get}
-use Rattle.std.specs.Prelude.{is_some, fold, unwrap_or}
+use Rattle.std.proofs.Common.{◌≡◌, ℕ, zero, suc, ◌≤◌, Bool, true, false, cond, List, [], ◌∷◌, length, take, refl, ◌∙◌, ap, arith, Option, Some, None, slice_get}
+use Rattle.std.specs.Prelude.{is_some, fold}
 use Rattle.std.specs.List.{list_all}
 use Rattle.std.proofs.lemmas.List.Sums.{fold-append}
 use Rattle.base.specs.declared.key.Key.{Key}
-use Rattle.base.specs.Keys.{lookup_key}
 use Rattle.base.specs.Commits.{Commit, after, writes_key, last_writer}
 use Rattle.state_invariant.specs.Kept.{row_in}
 use Rattle.state_invariant.specs.Links.{last_row}
@@ -40,15 +39,4 @@ row-there cs zero key row within there = absurd (cc there)
 row-there cs (suc n) key row within there = on (λ was. row-there cs n key row (omega (arith, within)) was) (place-within cs n (omega (arith, within)))
   where
     on : (after (take n cs) key ≡ Some row → last_row (take n cs) key ≡ Some (last_writer (take n cs) key)) → (c : Commit) × (slice_get cs n ≡ Some c) → last_row (take (suc n) cs) key ≡ Some (last_writer (take (suc n) cs) key)
-    on before (c, at) = by (lookup_key c.writes key) refl
-      where
-        by : (x : Option (Option (List ℕ))) → lookup_key c.writes key ≡ x → last_row (take (suc n) cs) key ≡ Some (last_writer (take (suc n) cs) key)
-        by None wrote =
-            let was : after (take n cs) key ≡ Some row = sym (after-place cs n c key at ∙ ap (λ (x : Option (Option (List ℕ))). unwrap_or x (after (take n cs) key)) wrote) ∙ there in
-            row-place cs n c key at ∙ ap (λ (x : Option (Option (List ℕ))). cond (is_some (unwrap_or x None)) (Some c.timestamp) (last_row (take n cs) key)) wrote
-            ∙ before was
-            ∙ ap (λ (t : ℕ). Some t) (sym (writer-place cs n c key at ∙ ap (λ (x : Option (Option (List ℕ))). cond (is_some x) c.timestamp (last_writer (take n cs) key)) wrote))
-        by (Some value) wrote =
-            let is : value ≡ Some row = sym (after-place cs n c key at ∙ ap (λ (x : Option (Option (List ℕ))). unwrap_or x (after (take n cs) key)) wrote) ∙ there in
-            row-place cs n c key at ∙ ap (λ (x : Option (Option (List ℕ))). cond (is_some (unwrap_or x None)) (Some c.timestamp) (last_row (take n cs) key)) (wrote ∙ ap (λ (v : Option (List ℕ)). Some v) is)
-            ∙ ap (λ (t : ℕ). Some t) (sym (writer-place cs n c key at ∙ ap (λ (x : Option (Option (List ℕ))). cond (is_some x) c.timestamp (last_writer (take n cs) key)) wrote))
+    on before (c, at) = grind (arith, after-place cs n c key at, row-place cs n c key at, writer-place cs n c key at)

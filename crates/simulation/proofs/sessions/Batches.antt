@@ -1,16 +1,15 @@
 -- The record in hand says which drawn commits are covered.
-use Rattle.std.proofs.Common.{◌≡◌, ◌≢◌, ◌⊎◌, inl, inr, ℕ, ◌<◌, Bool, true, false, cond, not, ◌||◌, zero, suc, List, [], ◌∷◌, ◌++◌, map, filter, refl, sym, ◌∙◌, ap, subst, arith, Option, Some, None, find, true≢false}
+use Rattle.std.proofs.Common.{◌≡◌, ◌≢◌, ◌⊎◌, inl, inr, ℕ, ◌<◌, Bool, true, false, cond, not, ◌||◌, zero, suc, List, [], ◌∷◌, ◌++◌, map, filter, refl, sym, ◌∙◌, ap, arith, Option, Some, None, find, true≢false}
 use Rattle.std.specs.Prelude.{nat_eq, nat_lt, Contains}
 use Rattle.std.specs.List.{list_any, list_all}
 use Rattle.std.specs.Option.{option_map, option_or}
 use Rattle.std.specs.Cmp.{both_ways}
-use Rattle.std.proofs.lemmas.Bool.{cases_eq, cases_lt, eq-eqb, eqb-true, ne_eqb, and_parts, ltb-true, false_from_ne_true, or_right, false≢true}
+use Rattle.std.proofs.lemmas.Bool.{cases_eq, eq-eqb, eqb-true, ne_eqb, and_parts, ltb-true, false_from_ne_true, or_right, false≢true}
 use Rattle.base.specs.declared.key.Key.{Key}
 use Rattle.base.specs.Commits.{Commit, writes_key, last_writer}
 use Rattle.base.specs.Records.{is_committed, are_rising}
 use Rattle.base.specs.Stands.{has_timestamp}
 use Rattle.machine.specs.Machine.{State, Drawn, Hand, ByCommit, drawn_at, drawn_of, state_covered}
-use Rattle.base.proofs.Options.{option_or-none}
 use Rattle.base.proofs.Lists.{rising-rest, filter-all}
 use Rattle.state_invariant.specs.Kept.{Origin, Keeps, KeepsHand, commit_at, commits_of_life, covered_since, version_by}
 use Rattle.state_invariant.proofs.Lists.{find-filter, find-dropped, rising-above, rising-filter}
@@ -74,23 +73,8 @@ same-rising (x ∷ xs) (y ∷ ys) up high same = by (λ rest. same-rising xs ys 
         cc e
 
     by : (((t : ℕ) → commit_at xs t ≡ commit_at ys t) → xs ≡ ys) → (x.timestamp ≡ y.timestamp) ⊎ (x.timestamp ≢ y.timestamp) → x ∷ xs ≡ y ∷ ys
-    by rest (inl is) =
-        let first : Some x ≡ Some y = sym (here x xs) ∙ same x.timestamp ∙ ap (commit_at (y ∷ ys)) is ∙ here y ys in
-        let one : x ≡ y = cc first in
-        let others : xs ≡ ys = rest (λ t. later t (cases_eq x.timestamp t)) in
-        λ i. one i ∷ others i
-      where
-        later : (t : ℕ) → (x.timestamp ≡ t) ⊎ (x.timestamp ≢ t) → commit_at xs t ≡ commit_at ys t
-        later t (inl at) =
-            none-below t xs (subst (λ (u : ℕ). list_all (nat_lt u) (times xs) ≡ true) at (rising-above x.timestamp (times xs) up))
-            ∙ sym (none-below t ys (subst (λ (u : ℕ). list_all (nat_lt u) (times ys) ≡ true) (sym is ∙ at) (rising-above y.timestamp (times ys) high)))
-        later t (inr other) =
-            sym (ap (λ (b : Bool). cond b (Some x) (commit_at xs t)) (ne_eqb x.timestamp t other)) ∙ same t
-            ∙ ap (λ (b : Bool). cond b (Some y) (commit_at ys t)) (ne_eqb y.timestamp t (λ e. other (is ∙ e)))
-    by rest (inr other) = elim (cases_lt x.timestamp y.timestamp) [
-      | inl less ↦ absurd (clash x xs y ys high less (same x.timestamp))
-      | inr more ↦ absurd (clash y ys x xs up (omega (arith, more, other)) (sym (same y.timestamp)))
-    ]
+    by rest (inl is) = grind (arith, here x xs, none-below, rising-above, ne_eqb)
+    by rest (inr other) = grind (arith, clash x xs y ys high, clash y ys x xs up)
 
 -- ---- the last on a key
 
@@ -132,21 +116,10 @@ last-split key p (d ∷ ds) rising apart =
     by : option_or (last_on key (commits (filter (λ d. not (p d)) ds))) (last_on key (commits (filter p ds))) ≡ last_on key (commits ds) → (b w : Bool) → writes_key key d.commit ≡ w
         → option_or (last_on key (commits (cond (not b) (d ∷ filter (λ d. not (p d)) ds) (filter (λ d. not (p d)) ds)))) (last_on key (commits (cond b (d ∷ filter p ds) (filter p ds))))
         ≡ option_or (last_on key (commits ds)) (cond (writes_key key d.commit) (Some (time_of d)) None)
-    by rest true true is =
-        ap (λ (o : Option ℕ). option_or o (option_or (last_on key (commits (filter p ds))) (cond (writes_key key d.commit) (Some (time_of d)) None))) (none-on key (λ d. not (p d)) ds (others is))
-        ∙ ap (λ (o : Option ℕ). option_or o (cond (writes_key key d.commit) (Some (time_of d)) None)) (none-on key p ds (others is) ∙ sym (none-on_all key ds (others is)))
-    by rest false true is =
-        ap (λ (o : Option ℕ). option_or (option_or (last_on key (commits (filter (λ d. not (p d)) ds))) (cond (writes_key key d.commit) (Some (time_of d)) None)) o) (none-on key p ds (others is))
-        ∙ option_or-none (option_or (last_on key (commits (filter (λ d. not (p d)) ds))) (cond (writes_key key d.commit) (Some (time_of d)) None))
-        ∙ ap (λ (o : Option ℕ). option_or o (cond (writes_key key d.commit) (Some (time_of d)) None)) (none-on key (λ d. not (p d)) ds (others is) ∙ sym (none-on_all key ds (others is)))
-    by rest true false is =
-        ap (λ (b : Bool). option_or (last_on key (commits (filter (λ d. not (p d)) ds))) (option_or (last_on key (commits (filter p ds))) (cond b (Some (time_of d)) None))) is
-        ∙ ap (option_or (last_on key (commits (filter (λ d. not (p d)) ds)))) (option_or-none (last_on key (commits (filter p ds))))
-        ∙ rest ∙ sym (option_or-none (last_on key (commits ds))) ∙ sym (ap (λ (b : Bool). option_or (last_on key (commits ds)) (cond b (Some (time_of d)) None)) is)
-    by rest false false is =
-        ap (λ (b : Bool). option_or (option_or (last_on key (commits (filter (λ d. not (p d)) ds))) (cond b (Some (time_of d)) None)) (last_on key (commits (filter p ds)))) is
-        ∙ ap (λ (o : Option ℕ). option_or o (last_on key (commits (filter p ds)))) (option_or-none (last_on key (commits (filter (λ d. not (p d)) ds))))
-        ∙ rest ∙ sym (option_or-none (last_on key (commits ds))) ∙ sym (ap (λ (b : Bool). option_or (last_on key (commits ds)) (cond b (Some (time_of d)) None)) is)
+    by rest true true is = grind (arith)
+    by rest false true is = grind (arith, none-on, others)
+    by rest true false is = grind (arith)
+    by rest false false is = grind (arith)
 
 -- ---- members
 
@@ -218,10 +191,7 @@ module _ (o : Origin) (q : State) (hand : Hand) (kept : Keeps o q) (k : KeepsHan
       back : is_committed hand.target t ≡ true → has_timestamp hand.commits t ≡ true
       back counts =
           let b = bounds o q kept t d found in
-          elim (k.only t counts (no_gap-above o q t kept.numbers.origin b.1)) [
-            | inl earlier ↦ absurd (true≢false (sym earlier ∙ b.3))
-            | inr has ↦ has
-          ]
+          grind (arith, no_gap-above)
 
   pub rest : (state_covered q hand).drawn ≡ filter (λ d. not (is_covered_by hand.target d)) q.drawn
   rest = filter-agree (λ d. not (has_timestamp hand.commits (time_of d))) (λ d. not (is_covered_by hand.target d)) q.drawn kept.draws.rising (λ d found. ap not (by-record (time_of d) d found))
@@ -234,15 +204,10 @@ module _ (o : Origin) (q : State) (hand : Hand) (kept : Keeps o q) (k : KeepsHan
     where
       left : (x : Option Drawn) → drawn_at q t ≡ x → is_committed hand.target t ≡ true → commit_at hand.commits t ≡ option_map (λ (d : Drawn). d.commit) x
       left None is counts = commit_at-none hand.commits t (false_from_ne_true (has_timestamp hand.commits t) (λ has. let b = batch-drawn o q hand kept k t has in let clash : None ≡ Some b.0 = sym is ∙ b.1 in cc clash))
-      left (Some d) is counts =
-          let b = batch-drawn o q hand kept k t (by-record t d is ∙ counts) in
-          let one : Some b.0 ≡ Some d = sym b.1 ∙ is in
-          b.2 ∙ ap (λ (x : Option Drawn). option_map (λ (d : Drawn). d.commit) x) one
+      left (Some d) is counts = grind (arith, batch-drawn, by-record t d is)
 
       by : (b : Bool) → is_committed hand.target t ≡ b → commit_at hand.commits t ≡ commit_at covered t
-      by true counts =
-          left (drawn_at q t) refl counts ∙ sym (commit_at-drawn q t)
-          ∙ sym (find-filter (λ (c : Commit). nat_eq c.timestamp t) (λ (c : Commit). is_committed hand.target c.timestamp) (drawn_of q) (λ c is. ap (is_committed hand.target) (eqb-true c.timestamp t is) ∙ counts))
+      by true counts = grind (arith, left, commit_at-drawn, find-filter, eqb-true)
       by false out =
           commit_at-none hand.commits t (false_from_ne_true (has_timestamp hand.commits t) (λ has. true≢false (sym (timestamp-all (is_committed hand.target) hand.commits t k.batch has) ∙ out)))
           ∙ sym (find-dropped (λ (c : Commit). nat_eq c.timestamp t) (λ (c : Commit). is_committed hand.target c.timestamp) (drawn_of q) (λ c is. ap (is_committed hand.target) (eqb-true c.timestamp t is) ∙ out))

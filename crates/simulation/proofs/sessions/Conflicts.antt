@@ -116,9 +116,7 @@ module _ (o : Origin) (q : State) (snapshot : Seen) (begun : ℕ) (kept : Keeps 
           let one = and_parts (not (is_committed q.ruling d.commit.timestamp)) (nat_lt d.commit.timestamp q.next) both.0 in
           let lows = and_parts (nat_lt o.ruling.persisted d.commit.timestamp) (list_all (λ d. nat_lt o.ruling.persisted d.commit.timestamp) ds) low in
           elim (or_cases (nat_eq d.commit.timestamp t) (has_timestamp (map (λ (d : Drawn). d.commit) ds) t) has) [
-            | inl here ↦
-                let is : d.commit.timestamp ≡ t = eqb-true d.commit.timestamp t here in
-                (ap (is_committed q.ruling) (sym is) ∙ not-true (is_committed q.ruling d.commit.timestamp) one.0, omega (arith, is, ltb-true d.commit.timestamp q.next one.1), omega (arith, is, ltb-true o.ruling.persisted d.commit.timestamp lows.0))
+            | inl here ↦ grind (arith, eqb-true, not-true, ltb-true)
             | inr later ↦ by ds both.1 lows.1 later
           ]
 

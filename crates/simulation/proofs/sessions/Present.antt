@@ -67,8 +67,5 @@ module _ (o : Origin) (q : State) (kept : Keeps o q) where
   present-sees = record {
     covered = λ t before out. both_ways (is_committed q.ruling t) (counts_at o q (length q.history) t) (counts-now t before out) (counted-now t);
     early = kept.numbers.persisted;
-    gaps = λ t inside. elim origin.gaps [
-      | inl same ↦ ap (λ gs. is_in gs t) (sym same) ∙ inside
-      | inr swept ↦ absurd (false≢true (ap (λ gs. is_in gs t) (sym swept.1) ∙ inside))
-    ];
+    gaps = λ t inside. grind (arith);
   }

@@ -1,11 +1,10 @@
 -- What a snapshot in use covers in the words of the slots.
-use Rattle.std.proofs.Common.{◌≡◌, inl, inr, true≢false, ℕ, ◌+◌, ◌<◌, ◌≤◌, false, not, ◌&&◌, length, take, sym, ◌∙◌, ap, subst, arith}
+use Rattle.std.proofs.Common.{◌≡◌, ℕ, ◌+◌, ◌<◌, ◌≤◌, not, ◌&&◌, length, take, sym, ◌∙◌, ap, subst, arith}
 use Rattle.std.specs.Prelude.{slice_index, List}
 use Rattle.base.specs.declared.key.Key.{Key}
 use Rattle.base.specs.Commits.{after}
 use Rattle.base.specs.Layout.{slot_words, slot_start, total_words}
-use Rattle.std.proofs.lemmas.Bool.{false_from_ne_true}
-use Rattle.base.specs.Records.{Record, is_in}
+use Rattle.base.specs.Records.{Record}
 use Rattle.base.specs.Images.{Image, IsRuledBy, layout_of, begin_of, end_of, is_live, Shown}
 use Rattle.machine.specs.Machine.{State}
 use Rattle.pmem.specs.Device.{Device, IsOrderly}
@@ -21,7 +20,7 @@ use Rattle.state_invariant.proofs.reads.SweptGaps.{live-agrees}
 use Rattle.device_invariant.specs.Upholds.{Upholds}
 use Rattle.device_invariant.proofs.reads.Images.{devices-read, ruled-image, shows-image, links-image}
 use Rattle.snapshot.specs.Snapshots.{Seen, covers}
-use Rattle.simulation.specs.sessions.Sees.{Sees, IsBegin, SeesBegins, ReadsBy}
+use Rattle.simulation.specs.sessions.Sees.{Sees, SeesBegins, ReadsBy}
 use Rattle.simulation.specs.sessions.Laws.{Reads}
 
 module _ (o : Origin) (q : State) (device : Device) (snapshot : Seen) (begun : ℕ) (orderly : IsOrderly device) (u : Upholds o q device) (in_use : IsInUse q begun) (sees : Sees o q snapshot begun) where
@@ -68,22 +67,7 @@ module _ (o : Origin) (q : State) (device : Device) (snapshot : Seen) (begun : �
 
   -- which begins it covers
   pub begins-seen : SeesBegins o q snapshot begun image
-  begins-seen = record {
-    covered = λ t begin. sees.covered t (before t begin) (λ swept. out t begin);
-    gaps = sees.gaps;
-    live = live-same;
-  }
-    where
-      next-above : o.ruling.persisted < q.next
-      next-above = omega (arith, u.keeps.numbers.origin.further, u.keeps.numbers.persisted)
-
-      before : (t : ℕ) → IsBegin o q t → t < q.next
-      before t (inl committed) = omega (arith, (committed-bounds o.ruling t committed).1, next-above)
-      before t (inr drawn) = drawn.1
-
-      out : (t : ℕ) → IsBegin o q t → is_in o.ruling.gaps t ≡ false
-      out t (inl committed) = false_from_ne_true (is_in o.ruling.gaps t) (λ inside. true≢false (sym committed ∙ uncommitted-gap o.ruling t inside))
-      out t (inr drawn) = above-gaps q.layout.version o.ruling t u.keeps.numbers.origin.formed drawn.0
+  begins-seen = grind (arith, live-same, committed-bounds, uncommitted-gap, above-gaps)
 
   in-layout : (slot : ℕ) → slot < (layout_of image).slots → slot < q.layout.slots
   in-layout slot lt = subst (λ a. slot < a.slots) ruled.1.laid_out lt

@@ -1,11 +1,11 @@
 -- What a version's end shows.
-use Rattle.std.proofs.Common.{◌≡◌, inl, inr, ℕ, ◌<◌, Bool, true, false, cond, length, refl, sym, ◌∙◌, ap, arith, Option, Some, None}
+use Rattle.std.proofs.Common.{◌≡◌, inl, inr, ℕ, ◌<◌, true, false, length, refl, sym, ◌∙◌, ap, arith, Option, Some, None}
 use Rattle.std.specs.List.{list_all}
 use Rattle.std.specs.Cmp.{both_ways}
 use Rattle.std.proofs.lemmas.Bool.{and_parts, and_from}
 use Rattle.base.specs.Commits.{Writes}
 use Rattle.machine.specs.Machine.{State, Session, Active, Drew, WroteNothing, Version, session_numbers, most_sessions}
-use Rattle.machine.specs.Collecting.{is_garbage, is_at_slot, slot_visited, sweep_ended}
+use Rattle.machine.specs.Collecting.{is_garbage, slot_visited, sweep_ended}
 use Rattle.pmem.specs.Device.{Device, IsOrderly}
 use Rattle.pmem.specs.Words.{value_of}
 use Rattle.snapshot.specs.Snapshots.{Seen, covers, seen_by}
@@ -76,8 +76,4 @@ pub ends-show-garbage : EndsShowGarbage
 ends-show-garbage o q device snapshots slot v up orderly u sees lt held = tells o q device snapshots slot v up orderly u sees lt held
 
 pub visits-keep-sight : VisitsKeepSight
-visits-keep-sight o q snapshot begun kept within sees = by (is_at_slot q)
-  where
-    by : (b : Bool) → Sees o (cond b (slot_visited q) (sweep_ended q)) snapshot begun
-    by true = still o q snapshot begun within kept sees (slot_visited q) refl refl (λ s. s)
-    by false = still o q snapshot begun within kept sees (sweep_ended q) refl refl (λ s. refl)
+visits-keep-sight o q snapshot begun kept within sees = grind (arith, still o q snapshot begun within kept sees (slot_visited q) refl refl, still o q snapshot begun within kept sees (sweep_ended q) refl refl)

@@ -71,11 +71,7 @@ module _ (o : Origin) (q : State) (device : Device) (u : Upholds o q device) whe
         never : {t : ℕ} → (q.swept ≡ true) ⊎ (q.ruling.gaps ≡ []) → IsNever o q t → IsNever o (sweep_ended q) t
         never either (inl none) = inl none
         never (inl swept) (inr (unswept, inside)) = absurd (true≢false (sym swept ∙ unswept))
-        never {t} (inr none) (inr (unswept, inside)) = absurd (true≢false (sym inside ∙ out u.keeps.numbers.origin.gaps))
-          where
-            out : (q.ruling.gaps ≡ o.ruling.gaps) ⊎ ((q.swept ≡ true) × (q.ruling.gaps ≡ [])) → is_in o.ruling.gaps t ≡ false
-            out (inl same) = ap (λ (gaps : List Gap). is_in gaps t) (sym same ∙ none)
-            out (inr over) = absurd (true≢false (sym over.0 ∙ unswept))
+        never {t} (inr none) (inr (unswept, inside)) = grind (arith)
 
   -- where the slot is swept
   swept-slot : q.swept ≡ false → IsSlotOutOfGaps q (fenced collector device) q.place → Upholds o (slot_visited q) device
@@ -265,11 +261,7 @@ module _ (o : Origin) (q : State) (old : Device) (up : q.failed ≡ false) (u : 
   ends : (new : Device) → Runs ops old new → Upholds o (visited q) new
   ends new run =
       let b = is_sweeping q in
-      let c = is_at_slot q in
-      let made : new ≡ after (ops_by b c) old = run.made ∙ ap (λ (xs : List Operation). after xs old) (ops-are b c refl refl) in
-      let orderly = along-first IsOrderly ops old run.orderly in
-      let orderly' : IsOrderly (after (ops_by b c) old) = subst (λ (xs : List Operation). IsOrderly (after xs old)) (ops-are b c refl refl) (along-last IsOrderly ops old run.orderly) in
-      subst (Upholds o (visited q)) (sym made) (subst (λ (p : State). Upholds o p (after (ops_by b c) old)) (sym (visited-is c refl)) (ends-by b c refl refl orderly orderly'))
+      grind (arith, along-first IsOrderly, along-last IsOrderly, ends-by b)
 
   down-along : IsOrderly old → Along (Upholds o (record q { failed = true })) ops old
   down-along orderly = along-map (Upholds o q) (Upholds o (record q { failed = true })) ops old (λ d v. failing-keeps o q d v) (along orderly)

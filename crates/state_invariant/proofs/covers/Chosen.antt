@@ -145,9 +145,7 @@ rising-among (x ∷ xs) (y ∷ ys) up high all = by (λ zs rises among. rising-a
         ]
 
     by : ((zs : List ℕ) → are_rising zs ≡ true → list_all (λ z. list_any (nat_eq z) ys) zs ≡ true → length zs ≤ length ys) → (b : Bool) → nat_eq x y ≡ b → length (x ∷ xs) ≤ length (y ∷ ys)
-    by rest true is =
-        let same : x ≡ y = eqb-true x y is in
-        omega (arith, rest xs (rising-rest x xs up) (later xs (higher y xs (omega (arith, same)) (rising-above x xs up)) parts.1))
+    by rest true is = grind (arith, eqb-true, rising-rest, later, rising-above)
     by rest false is =
         let there : list_any (nat_eq x) ys ≡ true = sym (ap (λ (b : Bool). b || list_any (nat_eq x) ys) is) ∙ parts.0 in
         let less : y < x = member-above ys (rising-above y ys high) there in
@@ -218,11 +216,7 @@ module _ (o : Origin) (q : State) (kept : Keeps o q) where
   passed-found : (t : ℕ) → list_any (nat_eq t) (passed_over q) ≡ true → (d : Drawn) × (drawn_at q t ≡ Some d) × (is_stamped d ≡ false) × (t ≤ reach q)
   passed-found t any =
       let some = any-unfiltered (is_passed q) (λ d. nat_eq t (time_of d)) q.drawn (sym (any-map (nat_eq t) time_of (filter (is_passed q) q.drawn)) ∙ any) in
-      let found = any-by_timestamp (λ d. is_passed q d && nat_eq t (time_of d)) q.drawn rising some in
-      let both = and_parts (is_passed q found.0) (nat_eq t (time_of found.0)) found.2 in
-      let parts = and_parts (not (is_stamped found.0)) (nat_le (time_of found.0) (reach q)) both.0 in
-      let same : t ≡ time_of found.0 = eqb-true t (time_of found.0) both.1 in
-      (found.0, ap (drawn_at q) same ∙ found.1, not-true (is_stamped found.0) parts.0, omega (arith, same, leb-true (time_of found.0) (reach q) parts.1))
+      grind (arith, any-by_timestamp, rising, and_parts, eqb-true)
 
   -- what is drawn and reached is chosen where it is stamped, and else passed over
   pub reached-chosen : (t : ℕ) (d : Drawn) → drawn_at q t ≡ Some d → t ≤ reach q → is_stamped d ≡ true → has_timestamp (chosen q) t ≡ true

@@ -62,13 +62,7 @@ module _ (o : Origin) (q : State) (hand : Hand) (value : ℕ → ℕ) (up : q.fa
   batch-one key t d found writes = all-placed (λ c. not (writes_key key c) || nat_eq c.timestamp t) hand.commits each
     where
       each : (i : ℕ) (c : Commit) → slice_get hand.commits i ≡ Some c → (not (writes_key key c) || nat_eq c.timestamp t) ≡ true
-      each i c at = by (writes_key key c) refl
-        where
-          by : (b : Bool) → writes_key key c ≡ b → (not b || nat_eq c.timestamp t) ≡ true
-          by false out = refl
-          by true also =
-              let e = one-of_batch i c at in
-              eq-eqb c.timestamp t (kept.draws.apart c.timestamp t e.0 d key e.1 found (ap (writes_key key) e.2 ∙ also) writes)
+      each i c at = grind (arith, one-of_batch i c at, eq-eqb)
 
   last-covered : (key : Key) → last_writer covered.history key ≡ writer_from key (last_writer q.history key) hand.commits
   last-covered key = writer-append key 0 q.history hand.commits
@@ -109,11 +103,7 @@ module _ (o : Origin) (q : State) (hand : Hand) (value : ℕ → ℕ) (up : q.fa
       by d.0 at both.1 (has_timestamp hand.commits e) refl
     where
       by : (d : Drawn) → drawn_at q e ≡ Some d → writes_key key d.commit ≡ true → (b : Bool) → has_timestamp hand.commits e ≡ b → is_drawn_on covered key e ≡ true
-      by d at writes true has =
-          let x = batch-drawn o q hand kept k e has in
-          let one : Some x.0 ≡ Some d = sym x.1 ∙ at in
-          let same : x.0 ≡ d = cc one in
-          absurd (true≢false (sym (found-any (writes_key key) hand.commits e x.0.commit x.2 (ap (λ (y : Drawn). writes_key key y.commit) same ∙ writes)) ∙ none))
+      by d at writes true has = grind (arith, batch-drawn, found-any (writes_key key))
       by d at writes false out = find-any (λ (d : Drawn). nat_eq d.commit.timestamp e) (λ (d : Drawn). writes_key key d.commit) covered.drawn d (found-left o q hand kept k e out ∙ at) writes
 
   -- the commit that drew t is found among those of the life
@@ -153,9 +143,7 @@ module _ (o : Origin) (q : State) (hand : Hand) (value : ℕ → ℕ) (up : q.fa
   }
     where
       ended : (u : ℕ) (e : Drawn) → is_key_stamped e v.key ≡ true → (has_timestamp hand.commits u ≡ false) × (drawn_at q u ≡ Some e) → value (word_of q.layout slot 1) ≡ u
-      ended u e stamped was =
-          let same : t ≡ u = kept.draws.apart t u d e v.key found was.1 (drawn-writes d found) (stamped-among v.key e.stamped e.commit.writes stamped) in
-          absurd (true≢false (sym in_batch ∙ ap (has_timestamp hand.commits) same ∙ was.0))
+      ended u e stamped was = grind (arith, drawn-writes d found, stamped-among)
 
   last-batch : (d : Drawn) → drawn_at q t ≡ Some d → commit_at hand.commits t ≡ Some d.commit → last_writer after_it.history v.key ≡ t
   last-batch d found at =

@@ -188,12 +188,8 @@ module _ (o : Origin) (q : State) (n : ℕ) (write : Key × Option (List ℕ)) (
     where
       apart : (t u : ℕ) (d e : Drawn) (key : Key) → (t ≡ q.next) ⊎ (t ≢ q.next) → (u ≡ q.next) ⊎ (u ≢ q.next) → drawn_at then t ≡ Some d → drawn_at then u ≡ Some e → writes_key key d.commit ≡ true → writes_key key e.commit ≡ true → t ≡ u
       apart t u d e key (inl a) (inl b) found_d found_e writes_d writes_e = a ∙ sym b
-      apart t u d e key (inl a) (inr b) found_d found_e writes_d writes_e =
-          let same : newest ≡ d = is-new d (ap (drawn_at then) (sym a) ∙ found_d) in
-          absurd (true≢false (sym writes_e ∙ unlike-drawn q n key u e alone (writes-new key (ap (λ (x : Drawn). writes_key key x.commit) same ∙ writes_d)) (sym (found-old q (write ∷ rest) u b) ∙ found_e)))
-      apart t u d e key (inr a) (inl b) found_d found_e writes_d writes_e =
-          let same : newest ≡ e = is-new e (ap (drawn_at then) (sym b) ∙ found_e) in
-          absurd (true≢false (sym writes_d ∙ unlike-drawn q n key t d alone (writes-new key (ap (λ (x : Drawn). writes_key key x.commit) same ∙ writes_e)) (sym (found-old q (write ∷ rest) t a) ∙ found_d)))
+      apart t u d e key (inl a) (inr b) found_d found_e writes_d writes_e = grind (arith, is-new, unlike-drawn, found-old)
+      apart t u d e key (inr a) (inl b) found_d found_e writes_d writes_e = grind (arith, is-new, unlike-drawn, found-old)
       apart t u d e key (inr a) (inr b) found_d found_e writes_d writes_e = kept.draws.apart t u d e key (sym (found-old q (write ∷ rest) t a) ∙ found_d) (sym (found-old q (write ∷ rest) u b) ∙ found_e) writes_d writes_e
 
       rises : (t : ℕ) (d : Drawn) (key : Key) → drawn_at then t ≡ Some d → writes_key key d.commit ≡ true → (t ≡ q.next) ⊎ (t ≢ q.next) → last_writer q.history key < t
@@ -310,6 +306,4 @@ keeps-draw o q n kept none = by (writes_of (q.sessions n)) refl
 
     by : (ws : Writes) → writes_of (q.sessions n) ≡ ws → Keeps o (next_state q (Draw n))
     by [] is = subst (λ (ws : Writes). Keeps o (state_drawn q n ws)) (sym is) (nothing is)
-    by (write ∷ rest) is =
-        let f = draw-facts o q n write rest kept none is in
-        subst (λ (ws : Writes). Keeps o (state_drawn q n ws)) (sym is) (keeps-drawn o q n write rest is f.0 f.1 f.2 kept)
+    by (write ∷ rest) is = grind (arith, draw-facts o q n write rest kept none is, keeps-drawn o q n write rest is)

@@ -3,7 +3,7 @@ use Rattle.std.proofs.Common.{◌≡◌, ◌⊎◌, inl, inr, ℕ, ◌+◌, ◌-
 use Rattle.std.specs.Prelude.{slice_index, Option, Some, None, unwrap_or, fold, nat_le, nat_lt}
 use Rattle.std.specs.List.{list_all}
 use Rattle.std.proofs.lemmas.List.{take_all, drop_all}
-use Rattle.std.proofs.lemmas.Bool.{and_parts, and_from, and_right, and_cases, or_parts, or_left, cases_order, leb-false, lt-ltb, eq-eqb, not-true, not-false, cond-true, cond-false, false≢true}
+use Rattle.std.proofs.lemmas.Bool.{and_parts, and_from, and_right, and_cases, or_parts, or_left, cases_order, leb-false, lt-ltb, eq-eqb, not-true, not-false, cond-true, cond-false}
 use Rattle.std.proofs.lemmas.Option.{slice_get_within, none-some, cond_some}
 use Rattle.std.proofs.lemmas.Bool.Decides.{nat_tests}
 use Rattle.base.specs.declared.key.Key.{Key}
@@ -13,7 +13,6 @@ use Rattle.base.specs.Commits.{Commit, Tables, overlaid, laid, no_rows, writes_k
 use Rattle.base.specs.Layout.{Layout}
 use Rattle.base.specs.Records.{Record, is_in, is_committed, opened_gaps}
 use Rattle.base.specs.Images.{Image, layout_of, key_of, row_of, begin_of, end_of, is_shown, is_misfit, is_second, ruling, is_bad_slot, opening_fault}
-use Rattle.base.specs.Search.{first_below}
 use Rattle.base.specs.Stands.{Stands}
 use Rattle.machine.specs.Openings.{IsOpenedGaps, IsUpToDate, OpensAs, opening_record, opened_under, held_under, gaps_kept, opened_slots}
 use Rattle.machine.specs.Machine.{State, Version, ByCommit}
@@ -21,7 +20,6 @@ use Rattle.base.proofs.WellFormed.{well_formed-parts}
 use Rattle.machine.proofs.openings.Records.{same-committed, formed-over}
 use Rattle.machine.proofs.openings.States.{IsOpening, ruled_before, opening-of, same_opened}
 use Rattle.base.proofs.Keys.{key_eq-same}
-use Rattle.base.proofs.Options.{is_some-none}
 use Rattle.base.proofs.Search.{first_below-none}
 use Rattle.base.proofs.Layouts.{has_window}
 use Rattle.state_invariant.specs.Kept.{Origin, origin_of, Keeps, HasSlot, IsInUse, wanted, version_by, last_of, are_distinct}
@@ -48,10 +46,7 @@ good-slot r image slot e = grind (arith, or_parts, leb-false, live-parts)
 one-lower : (r : Record) (image : Image) (lower slot : ℕ) → lower < slot → IsGood r image slot → is_shown r image lower ≡ true → is_shown r image slot ≡ true → key_of image lower ≡ key_of image slot → ⊥
 one-lower r image lower slot less good live_lower live same =
     let test : ℕ → Bool = λ l. is_shown r image l && key_eq (key_of image l) (key_of image slot) in
-    let none : first_below slot test ≡ None = is_some-none (first_below slot test) (good.first live) in
-    let keys : key_eq (key_of image lower) (key_of image slot) ≡ true = subst (λ (k : Key). key_eq (key_of image lower) k ≡ true) same (key_eq-same (key_of image lower)) in
-    let both : test lower ≡ true = and_from (is_shown r image lower) (key_eq (key_of image lower) (key_of image slot)) live_lower keys in
-    false≢true (sym (first_below-none slot test none lower less) ∙ both)
+    grind (arith, key_eq-same (key_of image lower), first_below-none slot test)
 
 one-live : (r : Record) (image : Image) (a b : ℕ) → IsGood r image a → IsGood r image b → is_shown r image a ≡ true → is_shown r image b ≡ true → key_of image a ≡ key_of image b → a ≡ b
 one-live r image a b good_a good_b live_a live_b same = grind (arith, cases_order, one-lower)
@@ -182,10 +177,7 @@ module _ (a : Layout) (r : Record) (image : Image) (history : List Commit) (lost
       };
     };
     owns = record {
-      once = λ x y version hx hy ex ey.
-          let held_x = held-as a r image history x version ex in
-          let held_y = held-as a r image history y version ey in
-          one-live r image x y (good x hx) (good y hy) held_x.live held_y.live (ap (λ (v : Version). v.key) held_x.is ∙ sym (ap (λ (v : Version). v.key) held_y.is));
+      once = λ x y version hx hy ex ey. grind (arith, held-as a r image history x version ex, held-as a r image history y version ey, one-live r image x y (good x hx) (good y hy));
       has = λ slot v h e.
           let held = held-as a r image history slot v e in
           (row_of image slot, subst (λ (w : Version). wanted begins start w ≡ Some (row_of image slot)) held.is (wanted-opened (key_of image slot) (row_of image slot) (live-row slot h held.live)));

@@ -65,10 +65,7 @@ module _ (o : Origin) (q q' : State) (value new : ℕ → ℕ) (slot n : ℕ) (k
       by s v lt held place t earlier after last low there =
           let was = commit-was earlier t v.key there in
           elim (cases_eq s slot) [
-            | inl same ↦
-                (let both : Some v ≡ Some (version_by key (BySession n)) = sym held ∙ ap q'.held same ∙ p.here in
-                let is : v ≡ version_by key (BySession n) = cc both in
-                subst (λ (x : ℕ). LinksTo q.layout new x (earlier + 1)) (sym same) (own place t earlier v is after last low was.1))
+            | inl same ↦ grind (arith, own)
             | inr other ↦
                 links-same q.layout value new s (earlier + 1) record { each = λ w low high. (p.words s lt other).each w high }
                 (links.each s v lt (sym (p.others s other) ∙ held) place t earlier (came-put v place after) (ap (λ (cs : List Commit). last_row (take place cs) v.key) (sym p.history) ∙ last) low was.1)

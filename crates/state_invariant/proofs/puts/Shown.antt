@@ -4,16 +4,16 @@ use Rattle.std.specs.Prelude.{unwrap_or, IsTrue}
 use Rattle.std.proofs.lemmas.Bool.{cases_eq}
 use Rattle.base.specs.declared.key.Key.{Key}
 use Rattle.base.specs.declared.step.Step.TheVariants.{Put}
-use Rattle.machine.specs.Machine.{State, Active, Version, Writer, BySession, begun_of, held_after_put, next_state, refusal}
+use Rattle.machine.specs.Machine.{State, Version, Writer, BySession, held_after_put, next_state, refusal}
 use Rattle.base.proofs.Layouts.{line-words}
 use Rattle.state_invariant.specs.Kept.{Origin, Keeps, version_by}
 use Rattle.state_invariant.specs.Shown.{word_of, Spells, is_drawn_on, Class, Free, Waiting, Begun, Newest, Replaced, class_of, class_of_version, HasBegun, IsHidden, ShowsAs, SlotShows, SlotsShow, SameWords, StoresPut, StopsPut}
 use Rattle.state_invariant.proofs.Lookups.{replaced-other}
 use Rattle.state_invariant.proofs.Spelling.{spells-same}
-use Rattle.state_invariant.proofs.steps.Refusals.{allowed, active}
+use Rattle.state_invariant.proofs.steps.Refusals.{allowed}
 use Rattle.state_invariant.proofs.sessions.Steps.{with_active, lookup-here, lookup-there, own_slot-none, free_slot-some, keeps-put}
 use Rattle.state_invariant.proofs.steps.ShownStays.{Carries, shows-carries, class-same, wanted-commit, with_all, carries-with}
-use Rattle.state_invariant.proofs.steps.Shown.{fewer, shows-failed}
+use Rattle.state_invariant.proofs.steps.Shown.{shows-failed}
 
 -- ---- other values, the same words
 
@@ -71,17 +71,13 @@ module _ (o : Origin) (q : State) (n : ℕ) (key : Key) (row : List ℕ) (kept :
   carries-put : Carries o q put
   carries-put =
       let a = allowed q (Put n key row) none in
-      let s = active q (Put n key row) (q.sessions n) refl refl refl a.there a.placed in
-      carries-with o q (with_active q n key (Some row)) (held_after_put q n key) q.failed q.hand
-      (fewer q n _ (held_after_put q n key) (λ begun writes e. inr (n, s.1, s.2 ∙ ap (λ (b : ℕ). Some (Active b s.1)) (sym (ap begun_of s.2) ∙ ap begun_of e)))) (λ up. up) (λ down. down)
+      grind (arith, carries-with) steps 500000
 
   shows-put : (value new : ℕ → ℕ) → StoresPut q.layout value new slot key row → SlotsShow o q value → SlotsShow o put new
   shows-put value new stored shows = record { each = λ s lt_s. by s lt_s (cases_eq s slot) }
     where
       by : (s : ℕ) → s < q.layout.slots → (s ≡ slot) ⊎ (s ≢ slot) → SlotShows o put new s
-      by s lt_s (inl same) =
-          subst (λ (x : ℕ). SlotShows o put new x) (sym same)
-          (subst (ShowsAs o put new slot) (sym class-own) record { begin = inl stored.begin; end = λ up. stored.end; spells = λ up. stored.spells })
+      by s lt_s (inl same) = grind (arith, class-own)
       by s lt_s (inr apart) =
           subst (ShowsAs o put new s) (sym (class-other s lt_s apart))
           (shows-carries o q put new s carries-put (class_of o q s) (shows-values o q value new s (class_of o q s) (stored.others s lt_s apart) (shows.each s lt_s)))

@@ -1,5 +1,5 @@
 -- Sessions begin, put, delete, abort and end.
-use Rattle.std.proofs.Common.{◌≡◌, ◌≢◌, ◌⊎◌, inl, inr, ℕ, suc, zero, ◌+◌, ◌<◌, Bool, true, false, cond, ◌&&◌, List, [], length, ◌≤◌, refl, sym, ◌∙◌, ap, subst, arith, Option, Some, None, is_none, true≢false}
+use Rattle.std.proofs.Common.{◌≡◌, ◌≢◌, ◌⊎◌, inl, inr, ℕ, suc, zero, ◌+◌, ◌<◌, Bool, true, false, cond, ◌&&◌, List, [], length, ◌≤◌, refl, sym, ◌∙◌, ap, arith, Option, Some, None, is_none, true≢false}
 use Rattle.std.specs.Prelude.{nat_eq, unwrap_or, find}
 use Rattle.std.specs.List.{range_with_len}
 use Rattle.std.proofs.lemmas.Bool.{cases_eq, eq-eqb, eqb-true, eqb-false, and_parts, and_from}
@@ -135,9 +135,7 @@ module _ (o : Origin) (q : State) (n : ℕ) (key : Key) (row : List ℕ) (kept :
   put-held room = by_own (own_slot q n key) refl (free_slot q) refl room
     where
       by_own : (a : Option ℕ) → own_slot q n key ≡ a → (b : Option ℕ) → free_slot q ≡ b → (is_none a && is_none b) ≡ false → HeldKeeps q (with_active q n key (Some row)) (held_with q own (own_slot q n key))
-      by_own (Some slot) found b is room =
-          let at = own_slot-some q n key slot found in
-          subst (λ (a : Option ℕ). HeldKeeps q (with_active q n key (Some row)) (held_with q own a)) (sym found) (put-own slot at.0 at.1)
+      by_own (Some slot) found b is room = grind (arith, own_slot-some, put-own slot)
       by_own None none (Some taken) is room = grind (arith, free_slot-some, put-taken, own_slot-none)
       by_own None none None is room = cc room
 

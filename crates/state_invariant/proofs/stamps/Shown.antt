@@ -210,19 +210,7 @@ shows-stamped o q t d key row value new up kept unfinished found at stored shows
   where
     writer : (slot : ℕ) → slot < q.layout.slots → (v : Version) → q.held slot ≡ Some v → (w : Writer) → v.writer ≡ w → ShowsAs o q value slot (class_by q v.key (unwrap_or (wanted o q v) []) w)
         → ShowsAs o (with_stamp q t) new slot (class_by (with_stamp q t) v.key (unwrap_or (wanted o q v) []) w)
-    writer slot lt v held (BySession n) is here =
-        class-stays o q t d key row value new up kept unfinished found at stored shows slot
-        (stored.others slot lt (λ own. apart (version_by key (ByCommit t)) t refl (sym held ∙ own)) (λ last. apart (last_of q (length q.history) key) (last_writer (take (length q.history) q.history) key) refl (sym held ∙ last)))
-        (Waiting v.key (unwrap_or (wanted o q v) [])) (λ x k l eq same. not-newest x k l eq) here
-      where
-        apart : (w : Version) (u : ℕ) → w.writer ≡ ByCommit u → Some v ≡ Some w → ⊥
-        apart w u by e =
-            let same : v ≡ w = cc e in
-            let writers : BySession n ≡ ByCommit u = sym is ∙ ap (λ (x : Version). x.writer) same ∙ by in
-            cc writers
-
-        not-newest : (x : ℕ) (k : Key) (l : List ℕ) → Waiting v.key (unwrap_or (wanted o q v) []) ≡ Newest x k l → ⊥
-        not-newest x k l eq = cc eq
+    writer slot lt v held (BySession n) is here = grind (arith, class-stays)
     writer slot lt v held (ByCommit u) is here =
         subst (λ (x : Option Drawn). ShowsAs o (with_stamp q t) new slot (class_of_drawn (with_stamp q t) v.key u (unwrap_or (wanted o q v) []) x)) (sym (found-counted t u q.drawn))
         (commit-version o q t d key row value new up kept unfinished found at stored shows slot lt v held u is (unwrap_or (wanted o q v) []) (drawn_at q u) refl here)

@@ -88,9 +88,7 @@ links-draw : (o : Origin) (q : State) (n : ℕ) (value : ℕ → ℕ) → Keeps 
 links-draw o q n value kept none links = by (writes_of (q.sessions n)) refl
   where
     by : (ws : Writes) → writes_of (q.sessions n) ≡ ws → Links o (next_state q (Draw n)) value
-    by [] is =
-        let then : Keeps o (state_drawn q n []) = subst (λ (ws : Writes). Keeps o (state_drawn q n ws)) is (keeps-next o q (Draw n) kept none) in
-        subst (λ (ws : Writes). Links o (state_drawn q n ws) value) (sym is) (links-session o q n (Some WroteNothing) q.held then (λ slot v at. at) (inl refl) value links)
+    by [] is = grind (arith, keeps-next o q (Draw n) kept none, links-session o q n (Some WroteNothing))
     by (write ∷ rest) is =
         let f = draw-facts o q n write rest kept none is in
         subst (λ (ws : Writes). Links o (state_drawn q n ws) value) (sym is)

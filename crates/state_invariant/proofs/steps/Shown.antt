@@ -70,19 +70,13 @@ module _ (o : Origin) (q : State) (value : ℕ → ℕ) (n : ℕ) (write : Key �
       stamped : (key : Key) (u : ℕ) (d : Drawn) → drawn_at drew u ≡ Some d → is_key_stamped d key ≡ true → (u ≡ q.next) ⊎ (u ≢ q.next) → (e : Drawn) × (drawn_at q u ≡ Some e) × (is_key_stamped e key ≡ true)
       stamped key u d found is (inl now) =
           let one : Some (drawn_now q (write ∷ rest)) ≡ Some d = sym (found-new o q (write ∷ rest) kept.numbers) ∙ ap (drawn_at drew) (sym now) ∙ found in
-          let same : drawn_now q (write ∷ rest) ≡ d = cc one in
-          let not_yet : false ≡ true = ap (λ (x : Drawn). is_key_stamped x key) same ∙ is in
-          cc not_yet
+          grind (arith)
       stamped key u d found is (inr apart) = (d, sym (found-old q (write ∷ rest) u apart) ∙ found, is)
 
   class-drawn : (slot : ℕ) → slot < q.layout.slots → (x : Option Version) → q.held slot ≡ x → class_of_version o drew (by_commit n q.next x) ≡ class_of_version o q x
   class-drawn slot lt None held = refl
   class-drawn slot lt (Some v) held = by_writer v.writer refl
     where
-      by_found : (t : ℕ) (row : List ℕ) (d : Option Drawn) → class_of_drawn drew v.key t row d ≡ class_of_drawn q v.key t row d
-      by_found t row (Some d) = refl
-      by_found t row None = refl
-
       session : (m : ℕ) (b : Bool) → nat_eq m n ≡ b → class_of_version o drew (Some (version_by v.key (cond b (ByCommit q.next) (BySession m)))) ≡ class_of_version o q (Some (version_by v.key (BySession m)))
       session m true is =
           ap (class_of_drawn drew v.key q.next (unwrap_or (wanted o drew (version_by v.key (ByCommit q.next))) [])) (found-new o q (write ∷ rest) kept.numbers)
@@ -95,9 +89,7 @@ module _ (o : Origin) (q : State) (value : ℕ → ℕ) (n : ℕ) (write : Key �
       by_writer (BySession m) is = session m (nat_eq m n) refl
       by_writer (ByCommit t) is =
           let less = kept.owns.before slot t v.key lt (held ∙ ap (λ (w : Writer). Some (version_by v.key w)) is) in
-          ap (λ (r : Option (List ℕ)). class_of_drawn drew v.key t (unwrap_or r []) (drawn_at drew t)) (wanted-old o q n write rest has_writes below room alone kept v.key t less)
-          ∙ ap (class_of_drawn drew v.key t (unwrap_or (wanted o q (version_by v.key (ByCommit t))) [])) (found-old q (write ∷ rest) t (λ e. omega (arith, e, less)))
-          ∙ by_found t (unwrap_or (wanted o q (version_by v.key (ByCommit t))) []) (drawn_at q t)
+          grind (arith, wanted-old, found-old)
 
   shows-drawn : SlotsShow o q value → SlotsShow o drew value
   shows-drawn shows = record {
@@ -105,13 +97,7 @@ module _ (o : Origin) (q : State) (value : ℕ → ℕ) (n : ℕ) (write : Key �
   }
 
 shows-draw : (o : Origin) (q : State) (value : ℕ → ℕ) (n : ℕ) → Keeps o q → refusal q (Draw n) ≡ None → SlotsShow o q value → SlotsShow o (next_state q (Draw n)) value
-shows-draw o q value n kept none shows = by (writes_of (q.sessions n)) refl
-  where
-    by : (ws : Writes) → writes_of (q.sessions n) ≡ ws → SlotsShow o (state_drawn q n (writes_of (q.sessions n))) value
-    by [] is = subst (λ (ws : Writes). SlotsShow o (state_drawn q n ws) value) (sym is) (shows-session o q value shows n (Some WroteNothing) (sym is) (λ begun writes e. cc e))
-    by (write ∷ rest) is =
-        let f = draw-facts o q n write rest kept none is in
-        subst (λ (ws : Writes). SlotsShow o (state_drawn q n ws) value) (sym is) (shows-drawn o q value n write rest is f.0 f.1 f.2 kept shows)
+shows-draw o q value n kept none shows = grind (arith, shows-session o q value shows n (Some WroteNothing), draw-facts o q n, shows-drawn o q value n)
 
 -- ---- the committer's ticks
 

@@ -1,7 +1,7 @@
 -- From which state a close goes on, after a tick or a stamp.
 use Rattle.std.proofs.Common.{◌≡◌, ◌⊎◌, inl, inr, ℕ, ◌+◌, ◌-◌, Bool, true, false, not, ◌||◌, List, [], ◌∷◌, ◌++◌, map, filter, refl, sym, ◌∙◌, ap, subst, arith, append_assoc, true≢false}
-use Rattle.std.specs.Prelude.{Option, Some, nat_eq, Contains, if◌then◌else◌}
-use Rattle.std.proofs.lemmas.Bool.{or_left, or_right}
+use Rattle.std.specs.Prelude.{Option, Some, Contains, if◌then◌else◌}
+use Rattle.std.proofs.lemmas.Bool.{or_left}
 use Rattle.std.proofs.lemmas.List.Folds.{list_any-append}
 use Rattle.std.proofs.lemmas.List.Elements.{Contains-append_cases}
 use Rattle.base.specs.declared.gap.Gap.{Gap}
@@ -20,7 +20,7 @@ use Rattle.device_invariant.specs.Laws.{one_tick_on}
 use Rattle.device_invariant.proofs.Upheld.{stands-in_hand}
 use Rattle.simulation.specs.cycles.Closing.{ClosesAs}
 use Rattle.simulation.specs.cycles.Laws.{ClosesOn}
-use Rattle.simulation.proofs.cycles.closes.Covers.{one-is, among, at-first, second-at, closing-at, closing-last, within-closing, within-same}
+use Rattle.simulation.proofs.cycles.closes.Covers.{one-is, among, at-first, second-at, closing-last, within-closing, within-same}
 use Rattle.simulation.proofs.cycles.covers.Ticks.{refusal-in_hand}
 
 -- what is drawn, covered and in hand stays
@@ -84,11 +84,7 @@ under-covered q hand more cover image is s = record {
 }
   where
     has : (t : ℕ) → has_timestamp hand.commits t ≡ true → has_timestamp cover.commits t ≡ true
-    has t in_batch =
-        ap (λ (cs : List Commit). has_timestamp cs t) is
-        ∙ list_any-append (λ (c : Commit). nat_eq c.timestamp t) (q.history ++ hand.commits) more
-        ∙ or_left (has_timestamp (q.history ++ hand.commits) t) (has_timestamp more t)
-        (list_any-append (λ (c : Commit). nat_eq c.timestamp t) q.history hand.commits ∙ or_right (has_timestamp q.history t) (has_timestamp hand.commits t) in_batch)
+    has t in_batch = grind (arith, list_any-append)
 
 tick-covers : (q : State) (hand : Hand) → q.hand ≡ Some hand → KeepsHand q hand → ClosesAs q (state_covered q hand)
 tick-covers q hand in_hand k = record {
@@ -104,12 +100,8 @@ tick-covers q hand in_hand k = record {
     last image s = subst (λ (c : Cover). StandsUnder q c image) is_closed (under-covered q hand (uncovered (state_covered q hand)) (closed (state_covered q hand)) image refl s)
 
     by : (image : Image) (cover : Cover) → StandsUnder (state_covered q hand) cover image → Contains (covers_at (state_covered q hand)) cover ⊎ Contains (closed (state_covered q hand) ∷ []) cover → StandsClosing q image
-    by image cover s (inl c) =
-        let is = one-is (present (state_covered q hand)) cover c in
-        (present (state_covered q hand), closing-at q (present (state_covered q hand)) (second-at q hand in_hand), stands-in_hand q hand image (subst (λ (x : Cover). StandsUnder (state_covered q hand) x image) is s))
-    by image cover s (inr c) =
-        let is = one-is (closed (state_covered q hand)) cover c in
-        (closed q, closing-last q, last image (subst (λ (x : Cover). StandsUnder (state_covered q hand) x image) is s))
+    by image cover s (inl c) = grind (arith, one-is (present (state_covered q hand)) cover c, second-at q hand in_hand, stands-in_hand q hand image)
+    by image cover s (inr c) = grind (arith, one-is (closed (state_covered q hand)) cover c, closing-last q, last image)
 
 -- ---- whatever the tick comes to
 

@@ -1,6 +1,6 @@
 -- Drawn commits touch as many lines as the machine counts for them.
 use Rattle.std.proofs.Common.{◌≡◌, inl, ℕ, ◌+◌, ◌<◌, Bool, true, false, cond, ◌&&◌, List, [], ◌∷◌, length, map, take, refl, sym, ◌∙◌, ap, arith}
-use Rattle.std.specs.Prelude.{Option, Some, None, is_some, nat_eq, sum_by, unwrap_or}
+use Rattle.std.specs.Prelude.{Option, Some, None, is_some, nat_eq, sum_by}
 use Rattle.std.specs.List.{list_any, range_with_len, flat_map}
 use Rattle.std.specs.Option.{option_map, option_or}
 use Rattle.std.proofs.lemmas.Bool.{and_parts, and_from, eqb-true, eq-eqb}
@@ -16,7 +16,7 @@ use Rattle.base.specs.Layout.{version_lines}
 use Rattle.machine.specs.Machine.{State, Drawn, Hand, Version, Writer, BySession, ByCommit, drawn_at, drawn_of, lines_of_write, lines_of}
 use Rattle.base.proofs.Keys.{key_eq-true, key_eq-same}
 use Rattle.base.proofs.Lists.{all-drop}
-use Rattle.state_invariant.specs.Kept.{Origin, Keeps, KeepsHand, commit_at, commits_of_life, covered_since, version_by, row_by, row_in}
+use Rattle.state_invariant.specs.Kept.{Origin, Keeps, KeepsHand, commit_at, commits_of_life, covered_since, version_by}
 use Rattle.state_invariant.proofs.Lookups.{find-all}
 use Rattle.state_invariant.proofs.Commits.{commit_at-some, commit_at-has, commit_at-none, commit_at-append, commit_at-drawn, timestamp-all, found-any}
 use Rattle.device_invariant.specs.Slots.{newest_of}
@@ -122,20 +122,9 @@ module _ (o : Origin) (q : State) (commits : List Commit) (kept : Keeps o q) (dr
     where
       by_tests : (a : Bool) → is_own commits (Some v) ≡ a → (b : Bool) → is_ended q commits (Some v) ≡ b
           → length (of_version q commits slot (Some v)) ≡ cond (is_own commits (Some v)) (version_lines q.layout) 0 + cond (is_ended q commits (Some v)) 1 0
-      by_tests true own b is =
-          let un = apart own in
-          ap (λ (x : Bool). length (cond x (flat_map (λ part. line_at slot part ∷ []) (range_with_len 0 (version_lines q.layout))) (cond (is_ended q commits (Some v)) (line_at slot 0 ∷ []) []))) own
-          ∙ length-own slot
-          ∙ omega arith
-          ∙ sym (ap (λ (x : Bool). cond x (version_lines q.layout) 0 + cond (is_ended q commits (Some v)) 1 0) own ∙ ap (λ (x : Bool). version_lines q.layout + cond x 1 0) un)
-      by_tests false own true is =
-          ap (λ (x : Bool). length (cond x (flat_map (λ part. line_at slot part ∷ []) (range_with_len 0 (version_lines q.layout))) (cond (is_ended q commits (Some v)) (line_at slot 0 ∷ []) []))) own
-          ∙ ap (λ (x : Bool). length (cond x (line_at slot 0 ∷ []) [])) is
-          ∙ sym (ap (λ (x : Bool). cond x (version_lines q.layout) 0 + cond (is_ended q commits (Some v)) 1 0) own ∙ ap (λ (x : Bool). 0 + cond x 1 0) is)
-      by_tests false own false is =
-          ap (λ (x : Bool). length (cond x (flat_map (λ part. line_at slot part ∷ []) (range_with_len 0 (version_lines q.layout))) (cond (is_ended q commits (Some v)) (line_at slot 0 ∷ []) []))) own
-          ∙ ap (λ (x : Bool). length (cond x (line_at slot 0 ∷ []) [])) is
-          ∙ sym (ap (λ (x : Bool). cond x (version_lines q.layout) 0 + cond (is_ended q commits (Some v)) 1 0) own ∙ ap (λ (x : Bool). 0 + cond x 1 0) is)
+      by_tests true own b is = grind (arith)
+      by_tests false own true is = grind (arith)
+      by_tests false own false is = grind (arith)
 
   slot-lines : (slot : ℕ) → slot < q.layout.slots → length (lines_at q commits slot) ≡ per_write (q.held slot)
   slot-lines slot lt = by_held (q.held slot) refl
@@ -175,10 +164,7 @@ module _ (o : Origin) (q : State) (commits : List Commit) (kept : Keeps o q) (dr
         by_writer (BySession n) by_it both = let own : is_one_of commits (BySession n) ≡ true = ap (is_one_of commits) (sym by_it) ∙ both.0 in absurd (cc own)
         by_writer (ByCommit u) by_it both =
             let has : has_timestamp commits u ≡ true = ap (is_one_of commits) (sym by_it) ∙ both.0 in
-            let is_version : v ≡ version_by key (ByCommit u) = ap (λ (k : Key). version_by k v.writer) (key_eq-true v.key key both.1) ∙ ap (version_by key) by_it in
-            let held_so : q.held slot ≡ Some (version_by key (ByCommit u)) = held ∙ ap (λ (v : Version). Some v) is_version in
-            let own = owner slot u key lt held_so has in
-            held_so ∙ ap (λ (n : ℕ). Some (version_by key (ByCommit n))) (alone key u t own.commit c own.at found own.writes writes-it)
+            grind (arith, key_eq-true v.key key both.1, owner slot u key lt, alone key u t, writes-it)
 
     -- one that is ended on the key is its newest
     ended-here : (slot : ℕ) (v : Option Version) → q.held slot ≡ v → (is_ended q commits v && is_at key v) ≡ true → q.held slot ≡ Some (newest_of q key)
@@ -199,9 +185,7 @@ module _ (o : Origin) (q : State) (commits : List Commit) (kept : Keeps o q) (dr
         never slot lt held =
             let d = drawn.each t c found in
             let row = kept.owns.has slot (version_by key (ByCommit t)) lt held in
-            let none : row_in d.0.commit.writes key ≡ None = ap (λ (c : Commit). row_in c.writes key) d.2 ∙ ap (λ (v : Option (Option (List ℕ))). unwrap_or v None) (wrote ∙ ap (λ (x : Option (List ℕ)). Some x) is) in
-            let clash : None ≡ Some row.0 = sym none ∙ sym (ap (row_by o q key t) (in_life t d.0 d.1)) ∙ row.1 in
-            cc clash
+            grind (arith, in_life t d.0 d.1)
 
     whole : take (length q.history) q.history ≡ q.history
     whole = take_all (length q.history) q.history (omega arith)

@@ -1,8 +1,8 @@
 -- The lines that commits touch rise, and are those that one of the commits touches.
-use Rattle.std.proofs.Common.{◌≡◌, ◌≢◌, ◌⊎◌, inl, inr, ℕ, zero, suc, ◌+◌, ◌/◌, ◌<◌, ◌≤◌, Bool, true, false, cond, ◌&&◌, ◌||◌, List, [], ◌∷◌, ◌++◌, map, refl, sym, ◌∙◌, ap, subst, arith, true≢false}
+use Rattle.std.proofs.Common.{◌≡◌, ℕ, zero, suc, ◌+◌, ◌/◌, ◌<◌, ◌≤◌, Bool, true, false, cond, ◌&&◌, ◌||◌, List, [], ◌∷◌, ◌++◌, map, refl, sym, ◌∙◌, ap, subst, arith, true≢false}
 use Rattle.std.specs.Prelude.{Option, Some, None, nat_eq, nat_lt, nat_le}
 use Rattle.std.specs.List.{list_any, list_all, range_with_len, flat_map}
-use Rattle.std.proofs.lemmas.Bool.{and_from, eq-eqb, leb-true, ltb-true, le-leb, lt-ltb, ne_eqb, or_left, cases_eq}
+use Rattle.std.proofs.lemmas.Bool.{and_from, eq-eqb, leb-true, ltb-true, le-leb, lt-ltb, or_left, cases_eq}
 use Rattle.std.proofs.lemmas.List.Folds.{list_all-append, list_any-append}
 use Rattle.std.proofs.Math.Bool.{or-false}
 use Rattle.std.proofs.lemmas.Bool.Decides.{nat_tests}
@@ -167,16 +167,7 @@ same-lists (x ∷ xs) (y ∷ ys) rising_x rising_y same =
     ap (λ (n : ℕ). n ∷ xs) one ∙ ap (λ (zs : List ℕ). y ∷ zs) (same-lists xs ys (rising-rest x xs rising_x) (rising-rest y ys rising_y) (rest one))
   where
     rest : x ≡ y → (line : ℕ) → is_line_of line xs ≡ is_line_of line ys
-    rest one line = by_place (cases_eq x line)
-      where
-        by_place : (x ≡ line) ⊎ (x ≢ line) → is_line_of line xs ≡ is_line_of line ys
-        by_place (inl here) =
-            ap (λ (n : ℕ). is_line_of n xs) (sym here) ∙ none-below x xs (rising-above x xs rising_x)
-            ∙ sym (ap (λ (n : ℕ). is_line_of n ys) (sym here ∙ one) ∙ none-below y ys (rising-above y ys rising_y))
-        by_place (inr apart) =
-            let a : nat_eq x line ≡ false = ne_eqb x line apart in
-            let b : nat_eq y line ≡ false = ap (λ (n : ℕ). nat_eq n line) (sym one) ∙ a in
-            sym (ap (λ (t : Bool). t || is_line_of line xs) a) ∙ same line ∙ ap (λ (t : Bool). t || is_line_of line ys) b
+    rest one line = grind (arith, cases_eq x line, none-below x xs (rising-above x xs rising_x), none-below y ys (rising-above y ys rising_y))
 
 pub lines-are_in_order : LinesRise
 lines-are_in_order = record { rising = lines-rise; each = λ q commits line. lines-each q line commits; one = same-lists }

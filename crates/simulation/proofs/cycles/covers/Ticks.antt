@@ -1,15 +1,15 @@
 -- Each tick is a step of the plain machine, and each image that it leaves stands.
-use Rattle.std.proofs.Common.{◌≡◌, ◌≢◌, inl, inr, ℕ, ◌+◌, ◌^◌, ◌<◌, ◌≤◌, Bool, true, false, cond, [], ◌∷◌, ◌++◌, length, get_or, refl, sym, ◌∙◌, ap, subst, arith, true≢false}
+use Rattle.std.proofs.Common.{◌≡◌, ◌≢◌, inl, inr, ℕ, ◌+◌, ◌^◌, ◌<◌, ◌≤◌, true, false, cond, [], ◌∷◌, ◌++◌, length, refl, sym, ◌∙◌, ap, subst, arith, true≢false}
 use Rattle.std.specs.Prelude.{Option, Some, None, is_some, slice_get, IsTrue, Contains}
 use Rattle.std.proofs.lemmas.Bool.{leb-false}
 use Rattle.std.proofs.lemmas.Option.{slice_get_within}
 use Rattle.std.proofs.lemmas.List.Elements.{Contains-append_left, Contains-append_right, Contains-append_cases}
 use Rattle.base.specs.declared.step.Step.TheVariants.{Commit as CommitTick}
 use Rattle.base.specs.declared.step.Stage.{Stage}
-use Rattle.base.specs.declared.step.Stage.TheVariants.{Chosen, LineFlushed, LinesFenced}
-use Rattle.base.specs.declared.step.Reply.TheVariants.{Idle, Ticked}
+use Rattle.base.specs.declared.step.Stage.TheVariants.{LineFlushed, LinesFenced}
+use Rattle.base.specs.declared.step.Reply.TheVariants.{Ticked}
 use Rattle.base.specs.Images.{Image}
-use Rattle.machine.specs.Machine.{State, Hand, refused, answered, memory_refused, device_failed, refusal, is_idle, taken_in_hand, operates, most_operations, ticked, ticked_on, state_ticked, state_ticked_on, next_stage, stages, state_covered, Cover, present, of_hand, covers_at, StandsUnder, StandsAt, StandsWithin}
+use Rattle.machine.specs.Machine.{State, Hand, refused, memory_refused, device_failed, refusal, is_idle, taken_in_hand, operates, most_operations, next_stage, stages, state_covered, Cover, present, of_hand, covers_at, StandsUnder, StandsAt, StandsWithin}
 use Rattle.machine.proofs.Runs.{StandsAt-within}
 use Rattle.pmem.specs.Device.{Device, IsOrderly, MayLeave, stored, flushed, fenced}
 use Rattle.pmem.specs.Words.{Continues, operations_of}
@@ -60,9 +60,7 @@ idle-ticks o q device orderly none rests idle u = grind (arith, still)
 
 pub choosing-ticks : ChoosingTicks
 choosing-ticks o q device orderly none rests busy u = record {
-  stepped = answered none
-      (sym (ap (ticked q) rests ∙ ap (λ (b : Bool). cond b Idle (Ticked Chosen)) busy))
-      (sym (ap (state_ticked q) rests ∙ ap (λ (b : Bool). cond b q (record q { hand = Some (taken_in_hand q) })) busy));
+  stepped = grind (arith);
   leads = still o q (record q { hand = Some (taken_in_hand q) }) device orderly u
       (choosing-keeps o q (taken_in_hand q) device rests refl (keeps-chosen o q u.keeps) (numbered q none rests busy) u);
   no_failure = refl;
@@ -124,9 +122,7 @@ hand-within q hand image s = (s.0, within, record { stands = s.2.stands; ruled =
 on : (o : Origin) (q : State) (hand : Hand) (stage : Stage) (old new : Device) → IsOrderly old → IsOrderly new → IsOne old new → q.failed ≡ false → q.hand ≡ Some hand → next_stage q hand ≡ Some stage
     → Upholds o q old → Upholds o (one_tick_on q hand) new → Ticks o q (one_tick_on q hand) (Ticked stage) old new
 on o q hand stage old new orderly orderly' one up in_hand next before u = record {
-  stepped = answered (refusal-in_hand q hand up in_hand)
-      (sym (ap (ticked q) in_hand ∙ ap (ticked_on q hand) next))
-      (sym (ap (state_ticked q) in_hand ∙ ap (state_ticked_on q hand) next));
+  stepped = grind (arith);
   leads = one-leads o q (one_tick_on q hand) old new orderly orderly' one before u
       (λ image may. hand-within q (record hand { ticks = hand.ticks + 1 }) image (every-image-stands o (one_tick_on q hand) new image u may));
   no_failure = one.failures;
@@ -169,9 +165,7 @@ covered-within q hand image s = (
 )
   where
     one-is : (x y : Cover) → Contains (x ∷ []) y → y ≡ x
-    one-is x y c =
-        let first : c.0 ≡ 0 = omega (arith, c.1) in
-        sym (subst (λ (k : ℕ). get_or (x ∷ []) k y ≡ y) first c.2)
+    one-is x y c = grind (arith)
 
 pub covering-ticks : CoveringTicks
 covering-ticks o q hand old new orderly orderly' h is =
@@ -181,9 +175,7 @@ covering-ticks o q hand old new orderly orderly' h is =
     next-at o q hand (2 + length (lines_in q hand.commits) + operations_before FenceGate) None h.upholds.keeps h.in_hand h.ticks (stage-reached (length (lines_in q hand.commits)) FenceGate tt (λ e. cc e)) in
     let u = covering-keeps o q hand old new orderly orderly' h.works h.in_hand (omega (arith, h.ticks, counted)) is h.upholds in
     record {
-      stepped = answered (refusal-in_hand q hand h.works h.in_hand)
-          (sym (ap (ticked q) h.in_hand ∙ ap (ticked_on q hand) next))
-          (sym (ap (state_ticked q) h.in_hand ∙ ap (state_ticked_on q hand) next));
+      stepped = grind (arith);
       leads = one-leads o q (state_covered q hand) old new orderly orderly' one h.upholds u (λ image may. covered-within q hand image (every-image-stands o (state_covered q hand) new image u may));
       no_failure = one.failures;
       operations = omega (arith, one.count, one_at_most q hand h.in_hand);

@@ -1,7 +1,7 @@
 -- The words of a version are stored behind a begin that is 0, in the slot of a put.
 use Rattle.std.proofs.Common.{◌≡◌, ◌≢◌, ℕ, zero, suc, ◌+◌, ◌-◌, ◌/◌, ◌<◌, ◌≤◌, Bool, false, cond, List, map, length, get_or, refl, sym, ◌∙◌, ap, subst, arith}
 use Rattle.std.specs.List.{range_with_len}
-use Rattle.std.proofs.lemmas.Bool.{eq-eqb, ne_eqb}
+use Rattle.std.proofs.lemmas.Bool.{eq-eqb}
 use Rattle.base.specs.Layout.{Layout, slot_start, slot_words, total_words}
 use Rattle.base.specs.Images.{Image, layout_of, slot_word}
 use Rattle.machine.specs.Machine.{State}
@@ -78,19 +78,13 @@ module _ (q : State) (old : Device) (slot : ℕ) (v : Content) (some_next : 0 < 
 pub filled-value : (a : Layout) (slot : ℕ) (v : Content) (device : Device) (w : ℕ) → 1 ≤ w → w < slot_words a.version → value_of (after (fill_operations a slot v) device) (word_of a slot w) ≡ filled_word v w
 filled-value a slot v device w one low =
     let place : word_of a slot w ≡ slot_start a slot + 1 + (w - 1) = omega (arith, one) in
-    let back : w - 1 + 1 ≡ w = omega (arith, one) in
-    ap (value_of (after (fill_operations a slot v) device)) place
-    ∙ value-this (slot_start a slot + 1) (λ k. filled_word v (k + 1)) 0 (slot_words a.version - 1) device (w - 1) (omega arith) (omega (arith, one, low))
-    ∙ ap (filled_word v) back
+    grind (arith, value-this)
 
 -- so the words are those of the version
 filled-version : (a : Layout) (slot : ℕ) (v : Content) (device : Device) → Fits a v → (image : Image) → layout_of image ≡ a
     → ((w : ℕ) → 2 ≤ w → w < slot_words a.version → get_or image (word_of a slot w) 0 ≡ value_of (after (fill_operations a slot v) device) (word_of a slot w)) → IsVersion (layout_of image) (slot_word image slot) v
 filled-version a slot v device fits image laid words = record {
-  each = λ w two low.
-      let low' : w < slot_words a.version = subst (λ (b : Layout). w < slot_words b.version) laid low in
-      ap (λ (b : Layout). get_or image (slot_start b slot + w) 0) laid ∙ words w two low' ∙ filled-value a slot v device w (omega (arith, two)) low'
-      ∙ ap (λ (b : Bool). cond b 0 (version_word v w)) (ne_eqb w 1 (λ e. omega (arith, e, two)));
+  each = λ w two low. grind (arith, filled-value a slot v device w);
   fits = subst (λ (b : Layout). Fits b v) (sym laid) fits;
 }
 
@@ -102,11 +96,7 @@ whole-image a image laid size = omega (arith, size, ap total_words laid)
 
 pub filled-spells : (a : Layout) (slot : ℕ) (v : Content) (device : Device) → Fits a v → slot < a.slots → Spells a (value_of (after (fill_operations a slot v) device)) slot v.key v.row
 filled-spells a slot v device fits lt = record {
-  read = λ image laid size words.
-      let within = within-image a slot image lt laid in
-      let whole = whole-image a image laid size in
-      let holds = filled-version a slot v device fits image laid words in
-      record { at = key_is image slot within whole v holds; is = row_is_of image slot within whole v holds; fits = well_formed image slot within whole v holds };
+  read = λ image laid size words. grind (arith, filled-version a slot v device fits image laid words, key_is image slot, row_is_of image slot, well_formed image slot);
 }
 
 -- and so is its link
