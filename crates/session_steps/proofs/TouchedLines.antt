@@ -1,5 +1,5 @@
 -- Lines that are touched one after another.
-use Rattle.std.proofs.Common.{◌≡◌, ℕ, ◌+◌, ◌<◌, List, [], ◌∷◌, ◌++◌, length, take, get_or, refl, sym, ◌∙◌, ap, subst, arith}
+use Rattle.std.proofs.Common.{◌≡◌, ℕ, ◌+◌, ◌<◌, List, [], ◌∷◌, ◌++◌, length, take, get_or, refl, ap, subst, arith}
 use Rattle.std.specs.List.{flat_map}
 use Rattle.std.proofs.lemmas.List.{take_more}
 use Rattle.std.proofs.lemmas.List.Folds.{list_any-append}
@@ -25,6 +25,4 @@ touches-more lines n i writes write own ended before old mid new lt is both so-f
         append-none (l ∷ ls) = ap (λ (more : List ℕ). l ∷ more) (append-none ls)
 
     same : flat_map lines (take i writes) ++ (own ++ ended) ≡ flat_map lines (take (i + 1) writes)
-    same =
-        ap (λ (ls : List ℕ). flat_map lines (take i writes) ++ ls) (sym (last ∙ both)) ∙ sym (flat_map-append lines (take i writes) (write ∷ []))
-        ∙ ap (λ (ws : List _). flat_map lines ws) (ap (λ w. take i writes ++ w ∷ []) is ∙ sym (take_more writes i write lt))
+    same = grind (arith, last, flat_map-append lines (take i writes) (write ∷ []), take_more writes i write lt)

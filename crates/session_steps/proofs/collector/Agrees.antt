@@ -155,9 +155,7 @@ module _ (s : Sessions) (h : Hidden) (keeps : Keeps h.origin (plain_of s h)) (ag
 
       none : (b : Bool) → e.ended ≡ b → IsSlotOf q (newest_of q key) None
       none true is = subst (IsSlotOf q (newest_of q key)) (ap (λ (b : Bool). cond b None e.newest) is) has.live
-      none false is =
-          let there : IsSlotOf q (newest_of q key) (Some slot) = subst (IsSlotOf q (newest_of q key)) (ap (λ (b : Bool). cond b None e.newest) is ∙ at) has.live in
-          absurd (newest-read key slot g there.1)
+      none false is = grind (arith, newest-read)
 
   -- ---- all
 

@@ -359,11 +359,7 @@ module _ (s : Sessions) (h : Hidden) (before now : Device) (holds : HoldsOn s h 
           at-index same live = subst (λ (es : List (Key × Entry)). HoldsEntry h.origin then key (entry_at es key)) (sym same) (live-kept live key)
 
           by : ForgetsFreed a (value_of now) place (is_free s.slots place) slots s.index index → HoldsEntry h.origin then key (entry_at index key)
-          by (taken held_by same) = at-index same (live (is_garbage q place) refl)
-            where
-              live : (b : Bool) → is_garbage q place ≡ b → b ≡ false
-              live false is = refl
-              live true is = absurd (true≢false (sym (free-at ∙ ap (λ (o : Option Version). is_none o) (garbage-none is)) ∙ held_by))
+          by (taken held_by same) = grind (arith, at-index, free-at)
           by (known free same) = at-index same (bare-live (held-before free))
           by (gone was free sets) = subst (HoldsEntry h.origin then key) (sym (sets key)) (which (key_eq found key) refl)
             where

@@ -28,7 +28,7 @@ use Rattle.dirty_table.specs.declared.sessions.SessionSet.{SessionSet}
 use Rattle.dirty_table.specs.Touches.{has, is_touched, Forgets}
 use Rattle.index.specs.declared.entry.Entry.{Entry}
 use Rattle.index.specs.Entries.{entry_at, live_of}
-use Rattle.state_invariant.specs.Kept.{Origin, Keeps, commits_of_life, version_by}
+use Rattle.state_invariant.specs.Kept.{Origin, commits_of_life, version_by}
 use Rattle.state_invariant.specs.Links.{last_row}
 use Rattle.state_invariant.proofs.covers.Kept.{batch-drawn, found-left}
 use Rattle.state_invariant.proofs.Lists.{rising-above}
@@ -40,7 +40,7 @@ use Rattle.simulation.specs.steps.Moves.{IsSlotOf}
 use Rattle.session_steps.specs.declared.sessions.Sessions.{Sessions}
 use Rattle.simulation.specs.sessions.Sees.{Sees, last_on}
 use Rattle.session_steps.specs.Shows.{Hidden, plain_of, plain_session, plain_drawn, HasItsSlot, HoldsSession, HasDrawn, HoldsEntry, HoldsDrawn, HoldsLines, has_drawn_by, line_numbers, Agrees}
-use Rattle.session_steps.specs.Covering.{covered_by_commits, committed_by, left_by, CoversCommits, IsOf, MayCover, hidden_covered, HasCovered, ShowsCovered}
+use Rattle.session_steps.specs.Covering.{covered_by_commits, committed_by, left_by, CoversCommits, MayCover, hidden_covered, HasCovered, ShowsCovered}
 use Rattle.session_steps.proofs.slots.Held.{numbers-by-tests}
 use Rattle.session_steps.proofs.Filters.{filter-at, any-split}
 use Rattle.session_steps.proofs.covers.Index.{has_key, written-plain, written-commits, Within, IsOwn, within-commits, live-commits, none-commits, stays-commits, newest-after}
@@ -216,10 +216,7 @@ module _ (s : Sessions) (ruling : Record) (h : Hidden) (hand : Hand) (may : MayC
           not-of_batch t d at writes false is = refl
           not-of_batch t d at writes true is =
               let e = batch-drawn o q hand may.keeps (may.keeps.numbers.hand hand may.batch.in_hand) t is in
-              let both : Some e.0 ≡ Some d = sym e.1 ∙ at in
-              let same : e.0 ≡ d = cc both in
-              let any : list_any (writes_key key) hand.commits ≡ true = any-found (writes_key key) (λ (c : Commit). nat_eq c.timestamp t) hand.commits e.0.commit e.2 (ap (λ (x : PlainDrawn). writes_key key x.commit) same ∙ writes) in
-              absurd (cc (sym any ∙ batch-writes key ∙ unwritten))
+              grind (arith, any-found (writes_key key), batch-writes key)
 
       either : (b : Bool) → list_any (writes_key key) hand.commits ≡ b → IsSlotOf q (newest_of q' key) (live_of (entry_at s.index key)) ⊎ (list_any (λ (d : DrawnCommit). has_key key d.writes) batch ≡ true)
       either true is = inr (sym (batch-writes key) ∙ is)
@@ -327,11 +324,4 @@ shows-covered old new ruling covers before present q hand shown batch upholds = 
 }
   where
     done : HasCovered old new shown.hidden hand
-    done = covers shown.hidden hand record {
-      keeps = subst (Keeps shown.hidden.origin) shown.plain kept;
-      agrees = subst (λ (p : State). Agrees old shown.hidden.origin shown.hidden.seen p) shown.plain shown.agrees;
-      batch = subst (λ (p : State). IsOf p hand ruling) shown.plain batch;
-    }
-      where
-        kept : Keeps shown.hidden.origin q
-        kept = shown.upholds.keeps
+    done = grind (arith)

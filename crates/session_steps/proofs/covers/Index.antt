@@ -202,10 +202,7 @@ module _ (o : Origin) (q : State) (kept : Keeps o q) (key : Key) where
           ap (λ (x : Entry). x.newest) (stays-all key d.writes e (has false (ap (λ (x : Option (Option (List ℕ))). is_some x) is))) ∙ newest t slot (sym (as-last None is) ∙ at) lt held
       by (Some None) is = λ t slot at lt held.
           same-writes v d.writes e (deletion-none (ByCommit d.timestamp) d.writes own is) (own-writes (ByCommit d.timestamp) d.writes own) ∙ newest t slot (sym (as-last (Some None) is) ∙ at) lt held
-      by (Some (Some row)) is = λ t slot at lt held.
-          let both : Some d.timestamp ≡ Some t = sym (as-last (Some (Some row)) is) ∙ at in
-          let same : d.timestamp ≡ t = cc both in
-          newest-writes v slot d.writes e lt (held ∙ ap (λ (u : ℕ). Some (version_by key (ByCommit u))) (sym same)) (own-writes (ByCommit d.timestamp) d.writes own) (inr (has true (ap (λ (x : Option (Option (List ℕ))). is_some x) is)))
+      by (Some (Some row)) is = grind (arith, newest-writes v, has true)
 
   newest-commits : (ds : List DrawnCommit) (last : Option ℕ) (e : Entry) → All (λ (d : DrawnCommit). All (HasItsSlot q (ByCommit d.timestamp)) d.writes) ds → IsNewestAt last e → IsNewestAt (fold row_after last ds) (covered_by_commits key e ds)
   newest-commits [] last e own newest = newest

@@ -131,11 +131,7 @@ module _ (s : Sessions) (h : Hidden) (n : ℕ) (snapshot : Seen) (writes : List 
     -- another's version keeps its slot
     slot-stays : (v : Version) (o : Option ℕ) → is_by n v.writer ≡ false → (v.writer ≡ ByCommit t → ⊥) → IsSlotOf old v o → IsSlotOf then v o
     slot-stays v (Some slot) other apart has = (has.0, held-stays n t (h.held slot) v has.1 other)
-    slot-stays v None other apart none = λ slot lt there. by slot lt (held-drawn n t (h.held slot) v there)
-      where
-        by : (slot : ℕ) → slot < s.numbers.geometry.slots → ((h.held slot ≡ Some (version_by v.key (BySession n))) × (v.writer ≡ ByCommit t)) ⊎ ((h.held slot ≡ Some v) × (is_by n v.writer ≡ false)) → ⊥
-        by slot lt (inl turned) = apart turned.1
-        by slot lt (inr was) = none slot lt was.0
+    slot-stays v None other apart none = grind (arith)
 
     -- the session's versions become the commit's
     slot-turns : (key : Key) (o : Option ℕ) → IsSlotOf old (version_by key (BySession n)) o → IsSlotOf then (version_by key (ByCommit t)) o
@@ -151,9 +147,6 @@ module _ (s : Sessions) (h : Hidden) (n : ℕ) (snapshot : Seen) (writes : List 
     sees-more : (seen : ℕ) (snap : Seen) → Sees h.origin old snap seen → Sees h.origin then snap seen
     sees-more seen snap sees = record { covered = λ u lt unswept. by u lt unswept (nat_lt u t) refl; early = omega (arith, sees.early); gaps = sees.gaps }
       where
-        earlier : List Commit
-        earlier = drop h.origin.opened (take seen h.history)
-
         out : (u : ℕ) → t ≤ u → (b : Bool) → has_timestamp (drop h.origin.opened (take seen h.history)) u ≡ b → b ≡ false
         out u le false has = refl
         out u le true has =
@@ -271,27 +264,11 @@ module _ (s : Sessions) (h : Hidden) (n : ℕ) (snapshot : Seen) (writes : List 
 
         own : (o : Option Version) → is_own ((plain_drawn d).commit ∷ []) (by_commit n t o) ≡ is_own ((plain_drawn d).commit ∷ []) o
         own None = refl
-        own (Some v) = by v.writer
-          where
-            which : (m : ℕ) (b : Bool) → is_own ((plain_drawn d).commit ∷ []) (Some (version_by v.key (cond b (ByCommit t) (BySession m)))) ≡ false
-            which m true = λ i. other i || false
-            which m false = refl
-
-            by : (w : Writer) → is_own ((plain_drawn d).commit ∷ []) (by_commit n t (Some (version_by v.key w))) ≡ is_own ((plain_drawn d).commit ∷ []) (Some (version_by v.key w))
-            by (BySession m) = which m (nat_eq m n)
-            by (ByCommit u) = refl
+        own (Some v) = grind (arith, other)
 
         ended : (o : Option Version) → is_ended then ((plain_drawn d).commit ∷ []) (by_commit n t o) ≡ is_ended old ((plain_drawn d).commit ∷ []) o
         ended None = refl
-        ended (Some v) = by v.writer
-          where
-            which : (m : ℕ) (b : Bool) → is_ended then ((plain_drawn d).commit ∷ []) (Some (version_by v.key (cond b (ByCommit t) (BySession m)))) ≡ false
-            which m true = λ i. unlike v.key i && list_any (writes_key v.key) ((plain_drawn d).commit ∷ [])
-            which m false = refl
-
-            by : (w : Writer) → is_ended then ((plain_drawn d).commit ∷ []) (by_commit n t (Some (version_by v.key w))) ≡ is_ended old ((plain_drawn d).commit ∷ []) (Some (version_by v.key w))
-            by (BySession m) = which m (nat_eq m n)
-            by (ByCommit u) = refl
+        ended (Some v) = grind (arith, unlike)
 
     -- ---- the lines of the new one
 
@@ -387,9 +364,7 @@ module _ (s : Sessions) (h : Hidden) (n : ℕ) (snapshot : Seen) (writes : List 
 
               end-hit : (e : Option ℕ) → IsSlotOf old (newest_of old w.key) e → ended-of e ≡ true → list_any at-slot (range_with_len 0 s.numbers.geometry.slots) ≡ true
               end-hit None lives some = absurd (cc some)
-              end-hit (Some slot) lives some =
-                  let hit : first-hits slot ≡ true = sym (or-false (first-hits slot)) ∙ some in
-                  slot-there slot lives.0 (or_right (own-at slot && own-hits slot) (ended-at slot && first-hits slot) (λ i. ended slot lives.1 i && hit i))
+              end-hit (Some slot) lives some = grind (arith, or-false, slot-there slot lives.0, or_right, ended slot lives.1)
 
               by : (o : Option ℕ) → IsSlotOf old (version_by w.key (BySession n)) o → (e : Option ℕ) → IsSlotOf old (newest_of old w.key) e → (own-of o || ended-of e) ≡ true → list_any at-slot (range_with_len 0 s.numbers.geometry.slots) ≡ true
               by None has e lives some = end-hit e lives some
@@ -499,9 +474,7 @@ module _ (s : Sessions) (h : Hidden) (n : ℕ) (snapshot : Seen) (writes : List 
         swap a b is = grind (arith, nat_tests)
 
         of-old : (d : DrawnCommit) → nat_eq d.session n ≡ false → d.timestamp < t → ((line : ℕ) → is_touched s.dirty d.session line ≡ list_any (λ l. nat_eq l line) (line_numbers old ((plain_drawn d).commit ∷ []))) → IsHeld d
-        of-old d apart early was = λ line.
-            touches.touched d.session line ∙ (λ i. is_touched s.dirty d.session line || (swap d.session n apart i && list_any (λ l. nat_eq l line) (flat_map (touched_lines s.numbers.geometry s.index) writes)))
-            ∙ or-false (is_touched s.dirty d.session line) ∙ was line ∙ ap (λ (ls : List ℕ). list_any (λ l. nat_eq l line) ls) (sym (lines-stay d early))
+        of-old d apart early was = grind (arith, swap d.session, or-false, lines-stay d early)
 
         self-same : nat_eq n n ≡ true
         self-same = grind (arith, nat_tests)
@@ -511,12 +484,7 @@ module _ (s : Sessions) (h : Hidden) (n : ℕ) (snapshot : Seen) (writes : List 
             touches.touched n line ∙ (λ i. holds.agrees.lines.none n line (none-by n s.drawn.commits apart-sessions) i || (self-same i && list_any (λ l. nat_eq l line) (flat_map (touched_lines s.numbers.geometry s.index) writes))) ∙ lines-new line
 
         both : (m : ℕ) → has_drawn_by (s.drawn.commits ++ new ∷ []) m ≡ false → (has_drawn_by s.drawn.commits m ≡ false) × (nat_eq n m ≡ false)
-        both m out = which (has_drawn_by s.drawn.commits m) refl (nat_eq n m) refl (sym (list_any-append (λ (d : DrawnCommit). nat_eq d.session m) s.drawn.commits (new ∷ [])) ∙ out)
-          where
-            which : (a : Bool) → has_drawn_by s.drawn.commits m ≡ a → (b : Bool) → nat_eq n m ≡ b → (a || (b || false)) ≡ false → (a ≡ false) × (b ≡ false)
-            which false is false same none = (refl, refl)
-            which true is b same none = absurd (cc none)
-            which false is true same none = absurd (cc none)
+        both m out = grind (arith, list_any-append)
 
         of-none : (m line : ℕ) → (has_drawn_by s.drawn.commits m ≡ false) × (nat_eq n m ≡ false) → is_touched dirty m line ≡ false
         of-none m line out = touches.touched m line ∙ (λ i. holds.agrees.lines.none m line out.0 i || (out.1 i && list_any (λ l. nat_eq l line) (flat_map (touched_lines s.numbers.geometry s.index) writes)))

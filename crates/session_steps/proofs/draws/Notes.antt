@@ -1,5 +1,5 @@
 -- The keys that a draw notes in the index, and the slots whose lines it touches.
-use Rattle.std.proofs.Common.{◌≡◌, ℕ, ◌+◌, ◌<◌, Bool, true, false, ◌&&◌, cond, List, [], ◌∷◌, ◌++◌, length, take, drop, refl, sym, ◌∙◌, ap, subst, arith, get_or}
+use Rattle.std.proofs.Common.{◌≡◌, ℕ, ◌+◌, ◌<◌, Bool, true, false, ◌&&◌, cond, List, [], ◌∷◌, ◌++◌, length, take, refl, sym, ◌∙◌, ap, subst, arith, get_or}
 use Rattle.std.specs.Prelude.{Option, Some, None, All, slice_get}
 use Rattle.std.specs.List.{list_all}
 use Rattle.std.specs.Option.{option_or}
@@ -42,20 +42,12 @@ note-next writes i t write old mid new lt is rising before sets key =
 
     -- a write of the key that came before is this one
     one : (w : Write) → key_eq write.key key ≡ true → write_of key (take i writes) ≡ Some w → w ≡ write
-    one w same found =
-        let whole : write_of key writes ≡ Some w = ap (λ (ws : List Write). write_of key ws) (sym (take-append-drop i writes)) ∙ find-append (λ (w : Write). key_eq w.key key) (take i writes) (drop i writes) ∙ ap (λ (o : Option Write). option_or o (write_of key (drop i writes))) found in
-        let this : write_of key writes ≡ Some write = ap (λ (k : Key). write_of k writes) (sym (key_eq-true write.key key same)) ∙ find_from_at writes i write rising at in
-        cc (whole, this)
+    one w same found = grind (arith, take-append-drop i writes, find-append, find_from_at writes i write rising at)
 
     by : (b : Bool) → key_eq write.key key ≡ b → (o : Option Write) → write_of key (take i writes) ≡ o
         → cond b (record (entry_at mid write.key) { drawn = write.slot; last = Some t }) (entry_at mid key) ≡ drawn_entry (option_or o (cond b (Some write) None)) t (entry_at old key)
-    by true same None found =
-        ap (λ (k : Key). let e : Entry = record (entry_at mid k) { drawn = write.slot; last = Some t } in e) (key_eq-true write.key key same)
-        ∙ ap (λ (e : Entry). let e' : Entry = record e { drawn = write.slot; last = Some t } in e') (before key ∙ ap (λ (o : Option Write). drawn_entry o t (entry_at old key)) found)
-    by true same (Some w) found =
-        ap (λ (k : Key). let e : Entry = record (entry_at mid k) { drawn = write.slot; last = Some t } in e) (key_eq-true write.key key same)
-        ∙ ap (λ (e : Entry). let e' : Entry = record e { drawn = write.slot; last = Some t } in e') (before key ∙ ap (λ (o : Option Write). drawn_entry o t (entry_at old key)) found)
-        ∙ ap (λ (x : Write). let e : Entry = record (entry_at old key) { drawn = x.slot; last = Some t } in e) (sym (one w same found))
+    by true same None found = grind (arith, key_eq-true write.key key same)
+    by true same (Some w) found = grind (arith, key_eq-true write.key key same, one w same found)
     by false apart None found = before key ∙ ap (λ (o : Option Write). drawn_entry o t (entry_at old key)) found
     by false apart (Some w) found = before key ∙ ap (λ (o : Option Write). drawn_entry o t (entry_at old key)) found
 

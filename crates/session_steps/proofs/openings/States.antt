@@ -1,13 +1,13 @@
 -- The sessions of an opened device show the state in which the life begins.
-use Rattle.std.proofs.Common.{◌≡◌, ◌≢◌, ◌⊎◌, inl, inr, ℕ, ◌*◌, ◌<◌, ◌≤◌, Bool, true, false, cond, List, [], ◌++◌, map, length, take, refl, sym, ◌∙◌, ap, subst, arith, nat_eq}
+use Rattle.std.proofs.Common.{◌≡◌, ◌≢◌, ℕ, ◌*◌, ◌<◌, ◌≤◌, Bool, true, false, List, [], ◌++◌, map, length, refl, sym, ◌∙◌, ap, subst, arith}
 use Rattle.std.specs.Prelude.{Option, Some, None, is_none, is_some, slice_get, All}
 use Rattle.std.specs.Option.{option_map}
-use Rattle.std.proofs.lemmas.Bool.{cases_eq, ne_eqb, true≢false}
+use Rattle.std.proofs.lemmas.Bool.{ne_eqb, true≢false}
 use Rattle.std.proofs.lemmas.List.{take_all, drop_all}
 use Rattle.std.proofs.lemmas.List.Elements.{All-nil}
 use Rattle.std.proofs.lemmas.Option.{none-some}
 use Rattle.base.specs.declared.key.Key.{Key}
-use Rattle.base.specs.Commits.{Commit, after, last_writer}
+use Rattle.base.specs.Commits.{Commit, last_writer}
 use Rattle.base.specs.Layout.{Layout, total_words}
 use Rattle.base.specs.Records.{Record}
 use Rattle.base.specs.Images.{IsRuledBy, layout_of, key_of}
@@ -22,7 +22,7 @@ use Rattle.txn.specs.Transactions.{transaction_at}
 use Rattle.dirty_table.specs.Touches.{is_touched}
 use Rattle.index.specs.declared.entry.Entry.{Entry}
 use Rattle.index.specs.Entries.{entry_at, live_of}
-use Rattle.state_invariant.specs.Kept.{origin_of, version_by, row_by, row_in, commit_at, commits_of_life}
+use Rattle.state_invariant.specs.Kept.{origin_of, version_by, row_in, commits_of_life}
 use Rattle.state_invariant.specs.Shown.{word_of, HasVersion}
 use Rattle.device_invariant.specs.Slots.{newest_of}
 use Rattle.device_invariant.specs.Upholds.{Upholds}
@@ -61,9 +61,7 @@ module _ (a : Layout) (ruling : Record) (next : ℕ) (free : List Bool) (q : Sta
   only-last : (slot t : ℕ) (key : Key) → slot < q.layout.slots → q.held slot ≡ Some (version_by key (ByCommit t)) → t ≢ last_writer q.history key → ⊥
   only-last slot t key lt held other =
       let has = u.keeps.owns.has slot (version_by key (ByCommit t)) lt held in
-      let whole : take (length q.history) q.history ≡ q.history = take_all (length q.history) q.history (omega arith) in
-      let apart : nat_eq (last_writer (take (length q.history) q.history) key) t ≡ false = ap (λ (cs : List Commit). nat_eq (last_writer cs key) t) whole ∙ ne_eqb (last_writer q.history key) t (λ same. other (sym same)) in
-      none-some has.0 (sym (ap (λ (cs : List Commit). row_by (origin_of q) q key t (commit_at cs t)) life ∙ ap (λ (b : Bool). cond b (after (take (length q.history) q.history) key) None) apart) ∙ has.1)
+      grind (arith, take_all, ne_eqb, life)
 
   -- each version that holds a slot is the newest of its key
   held-newest : (slot : ℕ) (v : Version) → slot < q.layout.slots → q.held slot ≡ Some v → v ≡ newest_of q v.key
@@ -71,11 +69,7 @@ module _ (a : Layout) (ruling : Record) (next : ℕ) (free : List Bool) (q : Sta
     where
       by : (w : Writer) → q.held slot ≡ Some (version_by v.key w) → version_by v.key w ≡ newest_of q v.key
       by (BySession n) held = absurd (no-session slot n v.key lt held)
-      by (ByCommit t) held = last (cases_eq t (last_writer q.history v.key))
-        where
-          last : (t ≡ last_writer q.history v.key) ⊎ (t ≢ last_writer q.history v.key) → version_by v.key (ByCommit t) ≡ newest_of q v.key
-          last (inl same) = ap (λ (t : ℕ). version_by v.key (ByCommit t)) same
-          last (inr other) = absurd (only-last slot t v.key lt held other)
+      by (ByCommit t) held = grind (arith, only-last slot t)
 
   -- its words have its key
   spelt : (slot : ℕ) (key : Key) → slot < q.layout.slots → q.held slot ≡ Some (newest_of q key) → (row : List ℕ) × HasVersion (image_of device) slot key row
@@ -113,10 +107,7 @@ module _ (a : Layout) (ruling : Record) (next : ℕ) (free : List Bool) (q : Sta
     newest-slot (Some slot) is =
         let at = found.newest key slot is in
         let held = taken-held slot at.0 at.1 in
-        let lt : slot < q.layout.slots = in-layout slot at.0 in
-        let newest : q.held slot ≡ Some (newest_of q held.0.key) = held.1 ∙ ap (λ (v : Version). Some v) (held-newest slot held.0 lt held.1) in
-        let same : held.0.key ≡ key = sym (spelt slot held.0.key lt newest).1.at ∙ at.2 in
-        (lt, newest ∙ ap (λ (k : Key). Some (newest_of q k)) same)
+        grind (arith, held-newest slot held.0, spelt slot held.0.key)
     newest-slot None is = λ slot lt held.
         let has = spelt slot key lt held in
         let some : is_some (entry_at index (key_of (image_of device) slot)).newest ≡ true = found.each slot (of-layout slot lt) (held-taken slot (newest_of q key) (of-layout slot lt) held) has.1.fits in

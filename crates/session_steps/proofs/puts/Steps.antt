@@ -40,7 +40,7 @@ use Rattle.version_slot.specs.Operations.{clear_operations, fill_operations}
 use Rattle.pmem.proofs.Traces.{stops-first, stops-then}
 use Rattle.state_invariant.specs.Kept.{version_by}
 use Rattle.state_invariant.proofs.Lookups.{apart-keys, first_below-some}
-use Rattle.state_invariant.proofs.sessions.Steps.{version-parts, free_slot-some}
+use Rattle.state_invariant.proofs.sessions.Steps.{free_slot-some}
 use Rattle.device_invariant.specs.Upholds.{Upholds}
 use Rattle.simulation.specs.steps.Moves.{IsSlotOf, unless_own, put_operations, LinksNewest}
 use Rattle.simulation.proofs.steps.Counting.{puts-count}
@@ -291,22 +291,11 @@ module _ (s : Sessions) (h : Hidden) (n : ℕ) (snapshot : Seen) (writes : List 
         moves k false is = inl (at-slot k ∙ ap (λ (b : Bool). cond b (Some (version_by v.key (BySession n))) (h.held k)) is)
 
         apart : (k : ℕ) (w : Version) → h.held k ≡ Some w → nat_eq k slot ≡ false
-        apart k w there = by (nat_eq k slot) refl
-          where
-            by : (b : Bool) → nat_eq k slot ≡ b → b ≡ false
-            by false is = refl
-            by true is = let same : k ≡ slot = grind (arith, nat_tests) in absurd (cc (there, ap (λ (j : ℕ). h.held j) same, free-here.1))
+        apart k w there = grind (arith, nat_tests, free-here)
 
         others : (other : Key) → key_eq v.key other ≡ false → (o : Option ℕ) → IsSlotOf q (version_by other (BySession n)) o → IsSlotOf (then ts slots sets) (version_by other (BySession n)) o
         others other ne (Some k) has = (has.0, at-slot k ∙ ap (λ (b : Bool). cond b (Some (version_by v.key (BySession n))) (h.held k)) (apart k _ has.1) ∙ has.1)
-        others other ne None has = λ k lt there. by k lt (nat_eq k slot) refl (sym (at-slot k) ∙ there)
-          where
-            by : (k : ℕ) → k < s.numbers.geometry.slots → (b : Bool) → nat_eq k slot ≡ b → cond (nat_eq k slot) (Some (version_by v.key (BySession n))) (h.held k) ≡ Some (version_by other (BySession n)) → ⊥
-            by k lt true is there =
-                let both : Some (version_by v.key (BySession n)) ≡ Some (version_by other (BySession n)) = ap (λ (b : Bool). cond b (Some (version_by v.key (BySession n))) (h.held k)) (sym is) ∙ there in
-                let same : version_by v.key (BySession n) ≡ version_by other (BySession n) = cc both in
-                apart-keys v.key other ne (version-parts same).1
-            by k lt false is there = has k lt (ap (λ (b : Bool). cond b (Some (version_by v.key (BySession n))) (h.held k)) (sym is) ∙ there)
+        others other ne None has = grind (arith, at-slot, apart-keys)
 
         free : (k : ℕ) → k < s.numbers.geometry.slots → (b : Bool) → nat_eq k slot ≡ b → slice_get slots k ≡ Some (is_none (held_after_put q n v.key k))
         free k lt true is =

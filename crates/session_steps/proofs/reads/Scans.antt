@@ -8,7 +8,7 @@ use Rattle.base.specs.declared.fault.Fault.TheVariants.{OutOfMemory}
 use Rattle.base.specs.declared.step.Step.TheVariants as step
 use Rattle.base.specs.declared.step.SessionStep.TheVariants.{Scan}
 use Rattle.base.specs.declared.step.SessionReply.TheVariants.{Rows, Refused}
-use Rattle.base.specs.Keys.{key_eq, lookup_key}
+use Rattle.base.specs.Keys.{key_eq}
 use Rattle.base.specs.Commits.{Tables, Lists, after, overlaid, in_range}
 use Rattle.machine.specs.Machine.{answered, begun_of, writes_of}
 use Rattle.base.proofs.Keys.{key_eq-true, key_lt-apart}
@@ -55,17 +55,7 @@ laid-next : (writes : List Write) (i : ℕ) (write : Write) (tables : Tables) (k
     → laid (suc i) writes tables key ≡ cond (key_eq write.key key) write.row (laid i writes tables key)
 laid-next [] i write tables key rising at = absurd (cc at)
 laid-next (first ∷ writes) zero write tables key rising at = grind (arith, unwrapped)
-laid-next (first ∷ writes) (suc i) write tables key rising at =
-    unwrapped (key_eq first.key key) first.row (lookup_key (plain_writes (take (suc i) writes)) key) (tables key)
-    ∙ (ap (λ (o : Option (List ℕ)). cond (key_eq first.key key) first.row o) (laid-next writes i write tables key (rising_tail first writes rising) at)
-    ∙ (swapped (key_eq first.key key) (key_eq write.key key) first.row write.row (laid i writes tables key) never
-    ∙ ap (λ (o : Option (List ℕ)). cond (key_eq write.key key) write.row o) (sym (unwrapped (key_eq first.key key) first.row (lookup_key (plain_writes (take i writes)) key) (tables key)))))
-  where
-    never : key_eq first.key key ≡ true → key_eq write.key key ≡ true → ⊥
-    never one other =
-        let apart : key_eq first.key write.key ≡ false = key_lt-apart first.key write.key (first_below_rest first writes i write rising at) in
-        let is : key_eq first.key write.key ≡ true = ap (key_eq first.key) (key_eq-true write.key key other) ∙ one in
-        cc
+laid-next (first ∷ writes) (suc i) write tables key rising at = grind (arith, key_lt-apart first.key write.key (first_below_rest first writes i write rising at), first_below_rest first writes i write rising at, key_eq-true write.key key, laid-next writes i write tables key (rising_tail first writes rising) at)
 
 -- rows that one more write is laid over
 pub put-over : (range : KeyRange) (old new : BTreeMap Key (List ℕ)) (writes : List Write) (i : ℕ) (write : Write) (tables : Tables) → IsRising writes → slice_get writes i ≡ Some write → contains range write.key ≡ true
@@ -88,9 +78,7 @@ passed-over range rows writes i write tables rising at outside has =
   where
     by : (key : Key) (b : Bool) → key_eq write.key key ≡ b
         → cond (contains range key) (laid i writes tables key) None ≡ cond (contains range key) (cond b write.row (laid i writes tables key)) None
-    by key true same =
-        let out : contains range key ≡ false = ap (contains range) (sym (key_eq-true write.key key same)) ∙ outside in
-        ap (λ (c : Bool). cond c (laid i writes tables key) None) out ∙ sym (ap (λ (c : Bool). cond c write.row None) out)
+    by key true same = grind (arith)
     by key false same = refl
 
 -- ---- the step

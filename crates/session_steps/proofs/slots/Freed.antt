@@ -40,9 +40,7 @@ gives-no_slot writes write old new none gives = record {
   where
     by : (other : Write) (slot : ℕ) → other.slot ≡ Some slot → Contains writes other ⊎ (write ≡ other) → slice_get new slot ≡ Some true
     by other slot has (inl in_set) = gives.given other slot in_set has
-    by other slot has (inr same) =
-        let both : None ≡ Some slot = sym none ∙ ap (λ (w : Write). w.slot) same ∙ has in
-        absurd (cc both)
+    by other slot has (inr same) = grind (arith)
 
 -- a write with one
 pub gives-slot : (writes : List Write) (write : Write) (slot : ℕ) (old new : List Bool) → write.slot ≡ Some slot → slot < length old → ReleasesSlots writes old new → ReleasesSlots (writes ++ write ∷ []) old (set new slot true)
@@ -60,9 +58,7 @@ gives-slot writes write slot old new own lt gives = record {
     by : (other : Write) (at : ℕ) → other.slot ≡ Some at → Contains writes other ⊎ (write ≡ other) → (at ≡ slot) ⊎ (at ≢ slot) → slice_get (set new slot true) at ≡ Some true
     by other at has either (inl is) = ap (slice_get (set new slot true)) is ∙ given-same new slot within
     by other at has (inl in_set) (inr apart) = given-other new slot at apart ∙ gives.given other at in_set has
-    by other at has (inr same) (inr apart) =
-        let both : Some slot ≡ Some at = sym own ∙ ap (λ (w : Write). w.slot) same ∙ has in
-        absurd (apart (cc both))
+    by other at has (inr same) (inr apart) = grind (arith)
 
 -- ---- the next of the writes
 

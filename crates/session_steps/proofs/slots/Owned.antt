@@ -1,6 +1,6 @@
 -- The slots that a session's writes have are those that it holds.
 use Rattle.std.proofs.Common.{◌≡◌, ℕ, ◌<◌, Bool, true, false, ◌&&◌, List, [], ◌∷◌, map, refl, sym, ◌∙◌, ap, subst, arith, nat_eq, Contains}
-use Rattle.std.specs.Prelude.{Option, Some, None, All, unwrap_or}
+use Rattle.std.specs.Prelude.{Option, Some, None, All}
 use Rattle.std.specs.Option.{option_map, option_and_then}
 use Rattle.std.proofs.lemmas.Bool.{and_from}
 use Rattle.std.proofs.lemmas.Bool.Decides.{nat_tests}
@@ -65,13 +65,7 @@ module _ (o : Origin) (q : State) (n begun : ℕ) (writes : List Write) (keeps :
       absent : write_of key writes ≡ None → (slot : ℕ) → slot < q.layout.slots → q.held slot ≡ Some (version_by key (BySession n)) → ⊥
       absent none slot lt held =
           let has = keeps.owns.has slot (version_by key (BySession n)) lt held in
-          let row = row-there (lookup_key (writes_of (q.sessions n)) key) has.0 has.1 in
-          let both : None ≡ Some (Some has.0) = ap (option_map (λ (w : Write). w.row)) (sym none) ∙ sym (looked-up key) ∙ row in
-          absurd (cc both)
-        where
-          row-there : (found : Option (Option (List ℕ))) (row : List ℕ) → unwrap_or found None ≡ Some row → found ≡ Some (Some row)
-          row-there None row is = absurd (cc is)
-          row-there (Some r) row is = ap (λ (x : Option (List ℕ)). Some x) is
+          grind (arith, looked-up)
 
       by : (w : Option Write) → write_of key writes ≡ w → IsSlotOf q (version_by key (BySession n)) (option_and_then (λ (w : Write). w.slot) w)
       by None none = absent none

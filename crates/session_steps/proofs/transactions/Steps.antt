@@ -8,7 +8,6 @@ use Rattle.std.proofs.lemmas.List.Elements.{All-nil}
 use Rattle.base.specs.declared.fault.Fault.{Fault}
 use Rattle.base.specs.declared.fault.Fault.TheVariants.{SessionsFull, OutOfMemory}
 use Rattle.base.specs.declared.step.Step.TheVariants as step
-use Rattle.base.specs.declared.step.Reply.{Reply}
 use Rattle.base.specs.declared.step.Reply.TheVariants as reply
 use Rattle.base.specs.declared.step.SessionStep.{SessionStep}
 use Rattle.base.specs.declared.step.SessionStep.TheVariants.{Begin, End, Poll}
@@ -179,21 +178,11 @@ lets-poll n a b = grind (arith)
 
 -- its commit waits to be covered
 pub polls-waiting : (s : Sessions) (n t : ℕ) (h : Hidden) → transaction_at s.transactions n ≡ Some (Drawn t) → is_some (commit_at t s.drawn.commits) ≡ true → Holds s h → Goes s s (Poll n) Waiting h
-polls-waiting s n t h at is holds = asks s n (Drawn t) Waiting h at (lets-poll n _ _) (by (commit_at t s.drawn.commits) is (has_timestamp h.history t) (covered-or-drawn s h n t holds at)) holds
-  where
-    by : (o : Option DrawnCommit) → is_some o ≡ true → (b : Bool) → b ≡ is_none o → ◌≡◌ {A = Reply} reply.Waiting (cond b (reply.Committed t) reply.Waiting)
-    by None is b e = absurd (cc is)
-    by (Some d) is true e = absurd (cc e)
-    by (Some d) is false e = refl
+polls-waiting s n t h at is holds = grind (arith, asks s n (Drawn t) Waiting h at, covered-or-drawn s h n t holds at)
 
 -- it is covered
 pub polls-committed : (s : Sessions) (n t : ℕ) (h : Hidden) → transaction_at s.transactions n ≡ Some (Drawn t) → is_some (commit_at t s.drawn.commits) ≡ false → Holds s h → Goes s s (Poll n) (Committed t) h
-polls-committed s n t h at is holds = asks s n (Drawn t) (Committed t) h at (lets-poll n _ _) (by (commit_at t s.drawn.commits) is (has_timestamp h.history t) (covered-or-drawn s h n t holds at)) holds
-  where
-    by : (o : Option DrawnCommit) → is_some o ≡ false → (b : Bool) → b ≡ is_none o → ◌≡◌ {A = Reply} (reply.Committed t) (cond b (reply.Committed t) reply.Waiting)
-    by None is true e = refl
-    by None is false e = absurd (cc e)
-    by (Some d) is b e = absurd (cc is)
+polls-committed s n t h at is holds = grind (arith, asks s n (Drawn t) (Committed t) h at, covered-or-drawn s h n t holds at)
 
 pub polls-not : (s : Sessions) (n : ℕ) (fault : Fault) (h : Hidden) (t : Option Transaction) → transaction_at s.transactions n ≡ t → IsBarred (λ t. not (is_active t)) t fault → Holds s h → Goes s s (Poll n) (Refused fault) h
 polls-not s n fault h t at barred holds = grind (arith, bars) steps 800000
