@@ -79,12 +79,7 @@ upholds-ticked o q hand old new in_hand shrinks holds u = grind (arith, keeps-ti
 pub choosing-keeps : ChoosingKeeps
 choosing-keeps o q hand device none first k numbered u =
     let kept : Keeps o (record q { hand = Some hand }) = keeps-with_hand o q (Some hand) q.failed u.keeps (some-hand q hand k) in
-    record {
-      keeps = kept;
-      shows = shows-hand o q (Some hand) (value_of device) u.shows;
-      links = links-hand o q (Some hand) (value_of device) u.links;
-      holds = holds-chosen o q hand device none first kept numbered u.holds;
-    }
+    grind (arith, shows-hand, links-hand, holds-chosen)
 
 pub line-keeps : LineKeeps
 line-keeps o q hand i line old new orderly in_hand ticks more at is u =
@@ -166,27 +161,10 @@ clearing-keeps o q slot old new lt free is u =
 pub filling-keeps : FillingKeeps
 filling-keeps o q slot w value old new lt free begin one low as_end is u =
     let zero = zero-facts o q u.keeps in
-    let filled = holds-filled q old new slot w value zero.0 zero.1 lt (inl free) one low as_end begin is u.holds in (
-      record {
-        keeps = u.keeps;
-        shows = shows-but_one o q old new slot w value low is (shows-free o q (value_of new) slot free filled.1.holds) u.shows;
-        links = links-but_one o q old new slot w value low is (inr (inl free)) u.links;
-        holds = filled.0;
-      },
-      filled.1,
-    )
+    grind (arith, holds-filled q old new slot w value zero.0 zero.1 lt (inl free) one low as_end begin is, shows-but_one o q old new slot w value low is, links-but_one o q old new slot w value low is (inr (inl free)))
 
 pub refilling-keeps : RefillingKeeps
 refilling-keeps o q slot n w value key old new lt held one low as_end is u =
     let down : State = record q { failed = true } in
     let zero = zero-facts o down u.keeps in
-    let begin = (u.holds.slots.each slot lt).own n key held in
-    let filled = holds-filled down old new slot w value zero.0 zero.1 lt (inr (n, key, held)) one low as_end begin is u.holds in
-    record {
-      keeps = u.keeps;
-      shows = shows-but_one o down old new slot w value low is
-          (subst (λ (v : Option Version). ShowsAs o down (value_of new) slot (class_of_version o down v)) (sym held)
-          (record { begin = inl filled.1.holds; end = λ up. absurd (true≢false up); spells = λ up. absurd (true≢false up) })) u.shows;
-      links = links-but_one o down old new slot w value low is (inr (inr (refl, n, key, held))) u.links;
-      holds = filled.0;
-    }
+    grind (arith, holds-filled down old new slot w value zero.0 zero.1 lt (inr (n, key, held)) one low as_end, shows-but_one o down old new slot w value low is, links-but_one o down old new slot w value low is (inr (inr (refl, n, key, held))))

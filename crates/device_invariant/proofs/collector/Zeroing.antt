@@ -1,5 +1,5 @@
 -- The collector makes 0 of a begin or an end that lies in a gap.
-use Rattle.std.proofs.Common.{◌≡◌, ◌≢◌, ◌⊎◌, inl, inr, ℕ, zero, suc, ◌<◌, Bool, true, false, cond, List, [], refl, sym, ◌∙◌, ap, subst, arith, true≢false, nat_eq}
+use Rattle.std.proofs.Common.{◌≡◌, ◌≢◌, ◌⊎◌, inl, inr, ℕ, zero, suc, ◌<◌, true, false, List, [], refl, sym, ◌∙◌, ap, subst, arith, true≢false, nat_eq}
 use Rattle.std.specs.Prelude.{Option, Some, None, IsTrue, unwrap_or}
 use Rattle.std.specs.List.{list_any}
 use Rattle.std.proofs.lemmas.Bool.{cases_eq, eq-eqb, ne_eqb, and_right, leb-true, leb-false}
@@ -12,7 +12,7 @@ use Rattle.pmem.specs.Device.{Device, stored}
 use Rattle.pmem.specs.Words.{Survives, value_of, OnlyShrinks}
 use Rattle.pmem.proofs.Changes.{stored-survives, stored-value, each-shrinks}
 use Rattle.state_invariant.specs.Kept.{Origin, version_by, wanted}
-use Rattle.state_invariant.specs.Shown.{word_of, HasBegun, IsNever, IsHidden, is_drawn_on, is_key_stamped, SlotShows, ShowsAs, class_of_version, class_of_drawn, Newest, Replaced, IsNewest, IsReplaced}
+use Rattle.state_invariant.specs.Shown.{word_of, HasBegun, IsNever, IsHidden, is_drawn_on, is_key_stamped, SlotShows, ShowsAs, class_of_version, class_of_drawn, IsNewest, IsReplaced}
 use Rattle.state_invariant.proofs.Commits.{uncommitted-gap}
 use Rattle.state_invariant.proofs.covers.Kept.{no_gap-above}
 use Rattle.state_invariant.proofs.reads.Tables.{never-counts}
@@ -128,11 +128,7 @@ module _ (o : Origin) (q : State) (slot : ℕ) (old : Device) (up : q.failed ≡
     hidden (inr ended) = absurd (true≢false (sym (ended _ (inl refl)) ∙ never-counts o q u.keeps _ end (inr (unswept, inside))))
       where
         inside : is_in o.ruling.gaps end ≡ true
-        inside = by u.keeps.numbers.origin.gaps
-          where
-            by : (q.ruling.gaps ≡ o.ruling.gaps) ⊎ ((q.swept ≡ true) × (q.ruling.gaps ≡ [])) → is_in o.ruling.gaps end ≡ true
-            by (inl same) = ap (λ gaps. is_in gaps end) (sym same) ∙ gap
-            by (inr over) = absurd (true≢false (sym over.0 ∙ unswept))
+        inside = grind (arith)
 
     free-end : q.held slot ≡ None → Upholds o q new
     free-end free = record {
@@ -195,9 +191,7 @@ module _ (o : Origin) (q : State) (slot : ℕ) (old : Device) (up : q.failed ≡
         drawn = λ v other d at found. absurd (undrawn v other d at found);
         unstamped = λ v other d at found not_yet working. absurd (undrawn v other d at found);
         newest = λ other at. live-now other (was.newest other at);
-        replaced = λ v other at none apart.
-            let same = same-key q slot (last_writer q.history key) v key other held at in
-            absurd (apart (same.1 ∙ ap (last_writer q.history) (sym same.0)));
+        replaced = λ v other at none apart. grind (arith);
       }
 
       newest : (r : List ℕ) → IsNewest o q (value_of old) slot (last_writer q.history key) key r → IsNewest o q (value_of new) slot (last_writer q.history key) key r
@@ -206,10 +200,7 @@ module _ (o : Origin) (q : State) (slot : ℕ) (old : Device) (up : q.failed ≡
       shown : SlotShows o q (value_of new) slot
       shown =
           let wanted_is : wanted o q (newest_of q key) ≡ Some says.0 = wanted-newest o q u.keeps key ∙ says.1 in
-          subst (λ (v : Option Version). ShowsAs o q (value_of new) slot (class_of_version o q v)) (sym held)
-          (subst (λ (f : Option Drawn). ShowsAs o q (value_of new) slot (class_of_drawn q key (last_writer q.history key) (unwrap_or (wanted o q (newest_of q key)) []) f)) (sym (last-undrawn o q u.keeps key))
-          (subst (λ (r : Option (List ℕ)). ShowsAs o q (value_of new) slot (class_of_drawn q key (last_writer q.history key) (unwrap_or r []) None)) (sym wanted_is)
-          (subst (λ (b : Bool). ShowsAs o q (value_of new) slot (cond b (Newest (last_writer q.history key) key says.0) (Replaced (last_writer q.history key) key says.0))) (sym (eq-eqb (last_writer q.history key) (last_writer q.history key) refl)) (newest says.0 says.2))))
+          grind (arith, last-undrawn o q, eq-eqb, newest says.0 says.2)
 
       newest-end : Upholds o q new
       newest-end = record {

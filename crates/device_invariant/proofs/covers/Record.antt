@@ -66,9 +66,7 @@ at-stage q hand stage device in_hand staged ticks h = by_hand (subst (HoldsHand 
   where
     by_hand : HoldsHand q device (Some hand) → IsReplacing q.ruling (writing_at q hand stage) device × IsBatchSettled q hand.commits device
     by_hand (inl f) = absurd (omega (arith, f.within, ticks))
-    by_hand (inr r) =
-        let same : r.stage ≡ stage = same-stage r.stage stage r.staged staged (omega (arith, ticks, r.ticks)) in
-        (subst (λ (s : WritingStage). IsReplacing q.ruling (writing_at q hand s) device) same r.replaces, r.settled)
+    by_hand (inr r) = grind (arith, same-stage r.stage stage r.staged staged)
 
 -- the slots are spared
 pub operation-shrinks : (q : State) (hand : Hand) (stage : WritingStage) (old new : Device) → q.hand ≡ Some hand → IsStage stage → hand.ticks ≡ 2 + lines_of q hand.commits + operations_before stage

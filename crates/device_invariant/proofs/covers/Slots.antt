@@ -57,15 +57,7 @@ module _ (o : Origin) (q : State) (hand : Hand) (kept : Keeps o q) (k : KeepsHan
 
   -- no commit of the batch writes the key
   pub unwritten : (key : Key) (n : WritesNone q.history hand.commits key) (t : ℕ) (d : Drawn) → drawn_at q t ≡ Some d → writes_key key d.commit ≡ true → has_timestamp hand.commits t ≡ false
-  unwritten key n t d found writes = by_test (has_timestamp hand.commits t) refl
-    where
-      by_test : (b : Bool) → has_timestamp hand.commits t ≡ b → b ≡ false
-      by_test false is = refl
-      by_test true is =
-          let drawn = batch-drawn o q hand kept k t is in
-          let same : Some drawn.0 ≡ Some d = sym drawn.1 ∙ found in
-          let this : drawn.0 ≡ d = cc same in
-          sym (found-any (writes_key key) hand.commits t drawn.0.commit drawn.2 (ap (λ (d : Drawn). writes_key key d.commit) this ∙ writes)) ∙ n.none
+  unwritten key n t d found writes = grind (arith, batch-drawn, found-any (writes_key key))
 
 -- ---- the slots
 
@@ -191,9 +183,7 @@ module _ (o : Origin) (q : State) (hand : Hand) (device : Device) (kept : Keeps 
           let this : version_by key (ByCommit l.commit.timestamp) ≡ newest_of now key = ap (λ (t : ℕ). version_by key (ByCommit t)) (sym l.last) in
           let says = says-begun o q kept (value_of device) shows slot l.commit.timestamp key own.drawn lt (held ∙ ap (λ (v : Version). Some v) (sym this)) own.found own.stamped in
           (says.0, sym (wanted-newest o now kept' key) ∙ wanted-now o q hand kept k (newest_of now key) ∙ ap (wanted o q) (sym this) ∙ says.1, says.2.spells)
-      by_last (inr n) =
-          let says = says-newest o q kept (value_of device) shows slot key lt (held ∙ ap (λ (t : ℕ). Some (version_by key (ByCommit t))) n.last) in
-          (says.0, n.row ∙ says.1, says.2.spells)
+      by_last (inr n) = grind (arith, says-newest)
 
   -- the slots hold for the state in which the batch is covered
   pub slots-covered : SlotsHold q device → SlotsHold now device

@@ -1,5 +1,5 @@
 -- What each tick of a cycle makes of what a device holds.
-use Rattle.std.proofs.Common.{◌≡◌, inl, inr, ℕ, suc, zero, ◌+◌, ◌-◌, ◌*◌, ◌/◌, ◌^◌, ◌<◌, ◌≤◌, Bool, true, false, cond, List, [], ◌∷◌, ◌++◌, take, length, refl, sym, ◌∙◌, ap, subst, arith, true≢false}
+use Rattle.std.proofs.Common.{◌≡◌, inl, inr, ℕ, suc, zero, ◌+◌, ◌-◌, ◌*◌, ◌/◌, ◌^◌, ◌<◌, ◌≤◌, Bool, true, false, List, [], ◌∷◌, ◌++◌, take, length, refl, sym, ◌∙◌, ap, subst, arith, true≢false}
 use Rattle.std.specs.Prelude.{Option, Some, None, slice_get}
 use Rattle.std.specs.List.{flat_map, range_with_len}
 use Rattle.std.proofs.lemmas.Bool.{cases_lt}
@@ -19,7 +19,7 @@ use Rattle.state_invariant.specs.Kept.{Origin, Keeps, KeepsHand}
 use Rattle.state_invariant.specs.Shown.{word_of}
 use Rattle.device_invariant.specs.Slots.{SlotHolds, SlotsHold}
 use Rattle.device_invariant.specs.Sweeps.{IsSweeping}
-use Rattle.device_invariant.specs.Log.{Line, line_at, line_number, lines_at, lines_in, is_own, is_ended, IsLineReady, AreReady, IsBatchSettled, IsFlushing, IsRecording, HoldsHand}
+use Rattle.device_invariant.specs.Log.{Line, line_number, lines_at, lines_in, is_own, is_ended, IsLineReady, AreReady, IsBatchSettled, IsFlushing, IsRecording, HoldsHand}
 use Rattle.device_invariant.specs.Upholds.{HoldsState}
 use Rattle.device_invariant.proofs.Words.{word-within}
 use Rattle.device_invariant.proofs.moves.Shrinking.{slots-shrink, sweeping-shrink, hand-shrink}
@@ -156,20 +156,11 @@ module _ (q : State) (commits : List Commit) (old new : Device) (is : new ≡ fe
   }
     where
       whole : (slot w : ℕ) → slot < q.layout.slots → w < slot_words q.layout.version → is_own commits (q.held slot) ≡ true → IsSettled new (word_of q.layout slot w)
-      whole slot w lt low own =
-          let all : AreReady q.layout old (flat_map (λ part. line_at slot part ∷ []) (range_with_len 0 (version_lines q.layout))) =
-          subst (λ (b : Bool). AreReady q.layout old (cond b (flat_map (λ part. line_at slot part ∷ []) (range_with_len 0 (version_lines q.layout))) (cond (is_ended q commits (q.held slot)) (line_at slot 0 ∷ []) []))) own (here slot lt) in
-          let part = w / 8 in
-          let one = ready-at q.layout old (λ part. line_at slot part ∷ []) 0 (version_lines q.layout) part all (omega arith) (omega (arith, part-below q.layout w low)) in
-          settles slot w (line_at slot part) lt low refl (omega arith) (omega arith) one.0
+      whole slot w lt low own = grind (arith, here slot lt)
 
       by_own : (slot : ℕ) → slot < q.layout.slots → is_ended q commits (q.held slot) ≡ true → (b : Bool) → is_own commits (q.held slot) ≡ b → IsSettled new (word_of q.layout slot 1)
       by_own slot lt ended true own = whole slot 1 lt (omega (arith, line-words q.layout.version)) own
-      by_own slot lt ended false own =
-          let first : AreReady q.layout old (line_at slot 0 ∷ []) =
-          subst (λ (b : Bool). AreReady q.layout old (cond b (line_at slot 0 ∷ []) [])) ended
-          (subst (λ (b : Bool). AreReady q.layout old (cond b (flat_map (λ part. line_at slot part ∷ []) (range_with_len 0 (version_lines q.layout))) (cond (is_ended q commits (q.held slot)) (line_at slot 0 ∷ []) []))) own (here slot lt)) in
-          settles slot 1 (line_at slot 0) lt (omega (arith, line-words q.layout.version)) refl (omega arith) (omega arith) first.0
+      by_own slot lt ended false own = grind (arith, here slot lt)
 
 -- all lines are flushed, and now they persist
 pub holds-lines : (q : State) (hand : Hand) (old new : Device) → q.hand ≡ Some hand → hand.ticks ≡ lines_of q hand.commits + 1 → length (lines_in q hand.commits) ≡ lines_of q hand.commits

@@ -1,5 +1,5 @@
 -- Moves under which no word of the slots is stored.
-use Rattle.std.proofs.Common.{◌≡◌, inl, inr, ℕ, ◌-◌, ◌<◌, List, [], ◌∷◌, take, sym, subst, arith}
+use Rattle.std.proofs.Common.{◌≡◌, inl, inr, ℕ, ◌-◌, ◌<◌, List, [], ◌∷◌, take, arith}
 use Rattle.std.specs.Prelude.{Option, Some, None}
 use Rattle.base.specs.Layout.{Layout, slot_words}
 use Rattle.machine.specs.Machine.{State, Hand}
@@ -8,7 +8,7 @@ use Rattle.pmem.specs.Words.{OnlyShrinks}
 use Rattle.log_area.specs.Writings.{IsNextRecord}
 use Rattle.log_area.proofs.UntouchedWords.{KeepsLog, holds_record_kept, replacing_kept}
 use Rattle.state_invariant.specs.Shown.{word_of}
-use Rattle.device_invariant.specs.Slots.{Counts, IsDead, SlotHolds, SlotsHold}
+use Rattle.device_invariant.specs.Slots.{IsDead, SlotHolds, SlotsHold}
 use Rattle.device_invariant.specs.Sweeps.{IsSweeping}
 use Rattle.device_invariant.specs.Log.{Line, IsLineReady, AreReady, IsBatchSettled, HoldsHand, writing_at, lines_in}
 use Rattle.pmem.proofs.Changes.{each-shrinks, settled_at-shrinks}
@@ -32,14 +32,7 @@ slot-shrink q old new slot shrinks h = record {
   own = λ n key held. settled_at-shrinks first (h.own n key held);
   drawn = λ t key d held found. each-shrinks first (λ x is. is) (h.drawn t key d held found);
   unstamped = λ t key d held found not_stamped up. settled_at-shrinks first (h.unstamped t key d held found not_stamped up);
-  newest = λ key held.
-      let live = h.newest key held in
-      record {
-        begin = first.settled live.begin;
-        counted = subst (Counts q) (sym first.value) live.counted;
-        end = each-shrinks second (λ x is. is) live.end;
-        settled = λ w two lt. (shrinks w lt).settled (live.settled w two lt);
-      };
+  newest = λ key held. grind (arith);
   replaced = λ t key held none other. each-shrinks second (λ x is. is) (h.replaced t key held none other);
 }
   where

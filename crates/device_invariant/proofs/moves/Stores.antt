@@ -113,10 +113,7 @@ sweeping-stored q old new slot w value low is out s = record {
 }
   where
     by_place : (k v : ℕ) → v < 2 → word_of q.layout k v ≡ word_of q.layout slot w → (k ≡ slot) ⊎ (k ≢ slot) → w < 2
-    by_place k v two at (inl same) =
-        let one : word_of q.layout slot v ≡ word_of q.layout slot w = subst (λ (i : ℕ). word_of q.layout i v ≡ word_of q.layout slot w) same at in
-        let is : v ≡ w = omega (arith, one) in
-        subst (λ (i : ℕ). i < 2) is two
+    by_place k v two at (inl same) = grind (arith)
     by_place k v two at (inr apart) = absurd (words-apart q.layout k slot v w apart (within-slot q.layout.version v (omega (arith, two))) low at)
 
     by : (k v : ℕ) → v < 2 → (x : ℕ) (Was : Type 0) → (Was → is_in q.ruling.gaps x ≡ false) → ((word_of q.layout k v ≡ word_of q.layout slot w) × (x ≡ value)) ⊎ Was → is_in q.ruling.gaps x ≡ false

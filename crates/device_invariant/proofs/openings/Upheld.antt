@@ -9,7 +9,6 @@ use Rattle.base.specs.Commits.{Commit, last_writer}
 use Rattle.base.specs.Layout.{Layout, slot_words}
 use Rattle.base.specs.Records.{is_committed}
 use Rattle.base.specs.Images.{layout_of, ruling, begin_of, end_of}
-use Rattle.base.specs.Stands.{has_timestamp}
 use Rattle.machine.specs.Machine.{State, Drawn, Version, BySession, ByCommit, drawn_at}
 use Rattle.machine.specs.Openings.{gaps_kept, opened_slots}
 use Rattle.base.specs.Records.{opened_gaps}
@@ -73,12 +72,7 @@ module _ (q : State) (device : Device) (fresh : IsFresh q device) (kept : Keeps 
 
       by_hidden : IsHidden (origin_of q) q (value_of device first) (value_of device second) → IsDead q device slot
       by_hidden (inl never) = inl (each-weaken (λ x is. subst (NeverCounts q) (sym is) (never-counts (value_of device first) never)) begin)
-      by_hidden (inr counted) = inr (each-weaken (λ x is. subst (λ (y : ℕ). is_committed q.ruling y ≡ true) (sym is)
-          (by_or (or_cases (is_committed q.ruling (value_of device second)) (has_timestamp (drop (length q.history) (take (length q.history) q.history)) (value_of device second)) (counted (length q.history) (inl refl))))) end)
-        where
-          by_or : (is_committed q.ruling (value_of device second) ≡ true) ⊎ (has_timestamp (drop (length q.history) (take (length q.history) q.history)) (value_of device second) ≡ true) → is_committed q.ruling (value_of device second) ≡ true
-          by_or (inl is) = is
-          by_or (inr is) = absurd (true≢false (sym is ∙ ap (λ (cs : List Commit). has_timestamp cs (value_of device second)) none-since))
+      by_hidden (inr counted) = grind (arith, or_cases, end, none-since)
 
   -- a session has no version
   no-session : (n : ℕ) (key : Key) → q.held slot ≡ Some (version_by key (BySession n)) → ⊥

@@ -12,7 +12,7 @@ use Rattle.machine.specs.Machine.{State, Hand, Drawn, Version, BySession, ByComm
 use Rattle.pmem.specs.Words.{Survives, value_of, OnlyShrinks}
 use Rattle.pmem.proofs.Changes.{stored-survives, stored-value}
 use Rattle.state_invariant.specs.Kept.{Origin, Keeps, KeepsHand, version_by, wanted}
-use Rattle.state_invariant.specs.Shown.{word_of, HasBegun, is_drawn_on, is_key_stamped, SlotShows, ShowsAs, class_of_version, class_of_drawn, Begun, Waiting, Newest, Replaced, IsWaiting, IsNewest}
+use Rattle.state_invariant.specs.Shown.{word_of, HasBegun, is_drawn_on, is_key_stamped, SlotShows, ShowsAs, class_of_version, class_of_drawn, Newest, Replaced, IsWaiting, IsNewest}
 use Rattle.state_invariant.proofs.Lists.{find-any}
 use Rattle.state_invariant.proofs.covers.Kept.{no_gap-above, batch-drawn}
 use Rattle.device_invariant.specs.Slots.{newest_of, NeverCounts, IsLive, SlotHolds}
@@ -24,7 +24,7 @@ use Rattle.device_invariant.proofs.Words.{within-slot}
 use Rattle.device_invariant.proofs.covers.Batches.{IsLastOf, WritesNone, last-of}
 use Rattle.device_invariant.proofs.PresentValues.{drawn-bounds, last-undrawn, says-newest, wanted-newest}
 use Rattle.device_invariant.proofs.stamps.Stamped.{stamped-writes, writes-held}
-use Rattle.device_invariant.proofs.covers.Slots.{own-of, one-of}
+use Rattle.device_invariant.proofs.covers.Slots.{own-of}
 use Rattle.device_invariant.proofs.moves.Stores.{IsUntouched, rest-stored, holds-stored}
 use Rattle.device_invariant.proofs.moves.Links.{links-but_one}
 use Rattle.device_invariant.proofs.Laws.{shows-but_one}
@@ -54,10 +54,7 @@ module _ (o : Origin) (q : State) (kept : Keeps o q) (t : ℕ) (d : Drawn) (key 
       by_last (inr n) = n.none
       by_last (inl l) =
           let own = own-of o q hand kept k key l in
-          let one : t ≡ l.commit.timestamp = one-of o q hand kept k key l t d found writes in
-          let same : Some own.drawn ≡ Some d = sym own.found ∙ ap (drawn_at q) (sym one) ∙ found in
-          let this : own.drawn ≡ d = cc same in
-          absurd (true≢false (sym own.stamped ∙ ap (λ (e : Drawn). is_key_stamped e key) this ∙ not_stamped))
+          grind (arith)
 
   pub untouched-begin : (hand : Hand) (slot : ℕ) → KeepsHand q hand → q.held slot ≡ Some (version_by key (ByCommit t)) → IsUntouched q hand.commits slot
   untouched-begin hand slot k held = record {
@@ -136,18 +133,10 @@ stamps-begin o q slot t key d old new down lt held found not_stamped is u = reco
     begin = stored-value old new (word_of q.layout slot 0) t is
 
     waits : (row : List ℕ) → IsWaiting q (value_of new) slot key row
-    waits row = record {
-      begin = inr (down, subst (λ (x : ℕ). is_drawn_on q key x ≡ true) (sym begin) (drawn_on o q u.keeps t d key found writes not_stamped));
-      end = λ up. absurd (true≢false (sym down ∙ up));
-      spells = λ up. absurd (true≢false (sym down ∙ up));
-    }
+    waits row = grind (arith, begin, drawn_on, writes)
 
     shown : SlotShows o q (value_of new) slot
-    shown =
-        subst (λ (v : Option Version). ShowsAs o q (value_of new) slot (class_of_version o q v)) (sym held)
-        (subst (λ (f : Option Drawn). ShowsAs o q (value_of new) slot (class_of_drawn q key t (unwrap_or (wanted o q (version_by key (ByCommit t))) []) f)) (sym found)
-        (subst (λ (b : Bool). ShowsAs o q (value_of new) slot (cond b (Begun t key (unwrap_or (wanted o q (version_by key (ByCommit t))) [])) (Waiting key (unwrap_or (wanted o q (version_by key (ByCommit t))) [])))) (sym not_stamped)
-        (waits (unwrap_or (wanted o q (version_by key (ByCommit t))) []))))
+    shown = grind (arith, waits)
 
 -- ---- the end
 
@@ -160,9 +149,6 @@ stamps-end o q slot t key d old new lt held found writes not_stamped is u = reco
       (λ hand in_hand. untouched-end o q u.keeps t d key found writes not_stamped hand slot (u.keeps.numbers.hand hand in_hand) held) this u.holds;
 }
   where
-    last : ℕ
-    last = last_writer q.history key
-
     low : 1 < slot_words q.layout.version
     low = within-slot q.layout.version 1 (omega arith)
 
@@ -180,10 +166,7 @@ stamps-end o q slot t key d old new lt held found writes not_stamped is u = reco
     only v e at wrote = u.keeps.draws.apart v t e d key at found wrote writes
 
     undrawn : (v : ℕ) (other : Key) (e : Drawn) → q.held slot ≡ Some (version_by other (ByCommit v)) → drawn_at q v ≡ Some e → ⊥
-    undrawn v other e at drawn =
-        let same : v ≡ last_writer q.history key = (same-key q slot (last_writer q.history key) v key other held at).1 in
-        let both : ◌≡◌ {A = Option Drawn} None (Some e) = sym (last-undrawn o q u.keeps key) ∙ ap (drawn_at q) (sym same) ∙ drawn in
-        cc both
+    undrawn v other e at drawn = grind (arith, last-undrawn o q)
 
     before : (x : ℕ) → ((word_of q.layout slot 1 ≡ word_of q.layout slot 1) × (x ≡ t)) ⊎ Survives old (word_of q.layout slot 1) x → x < q.next
     before x (inl this) = subst (λ (y : ℕ). y < q.next) (sym this.1) (drawn-bounds o q u.keeps t d found).1
@@ -211,9 +194,7 @@ stamps-end o q slot t key d old new lt held found writes not_stamped is u = reco
       drawn = λ v other e at drawn. absurd (undrawn v other e at drawn);
       unstamped = λ v other e at drawn not_yet up. absurd (undrawn v other e at drawn);
       newest = λ other at. live-now other (same-key q slot (last_writer q.history key) (last_writer q.history other) key other held at).0 (was.newest other at);
-      replaced = λ v other at none apart.
-          let same = same-key q slot (last_writer q.history key) v key other held at in
-          absurd (apart (same.1 ∙ ap (last_writer q.history) (sym same.0)));
+      replaced = λ v other at none apart. grind (arith);
     }
 
     value : value_of new (word_of q.layout slot 1) ≡ t

@@ -2,7 +2,6 @@
 use Rattle.std.proofs.Common.{◌≡◌, ◌⊎◌, inl, inr, ℕ, ◌<◌, Bool, true, false, cond, ◌&&◌, List, [], ◌∷◌, refl, sym, ◌∙◌, ap, arith, Option, Some, None, is_some, true≢false, nat_eq}
 use Rattle.std.specs.Prelude.{unwrap_or, nat_lt, map}
 use Rattle.std.specs.List.{list_any, list_all, find}
-use Rattle.std.specs.Option.{option_map, option_or}
 use Rattle.std.proofs.lemmas.Bool.{eqb-true, or_cases, and_parts, ltb-true}
 use Rattle.base.specs.declared.key.Key.{Key}
 use Rattle.base.specs.Keys.{lookup_key}
@@ -64,10 +63,7 @@ writes-held o q kept slot t key d lt held found =
         sym committed ∙ (drawn-bounds o q kept t d found).0
 
     in_life : commit_at (commits_of_life o q) t ≡ Some d.commit
-    in_life =
-        commit_at-append (covered_since o q) (drawn_of q) t
-        ∙ ap (λ (c : Option Commit). option_or c (commit_at (drawn_of q) t)) (commit_at-none (covered_since o q) t (uncovered (has_timestamp (covered_since o q) t) refl))
-        ∙ commit_at-drawn q t ∙ ap (λ (f : Option Drawn). option_map (λ (d : Drawn). d.commit) f) found
+    in_life = grind (arith, commit_at-append (covered_since o q) (drawn_of q) t, commit_at-none (covered_since o q) t (uncovered (has_timestamp (covered_since o q) t) refl), commit_at-drawn q t)
 
     by_row : (w : Option (Option (List ℕ))) → (row : List ℕ) → unwrap_or w None ≡ Some row → is_some w ≡ true
     by_row None row is = absurd (cc is)

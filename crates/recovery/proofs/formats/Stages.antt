@@ -15,13 +15,13 @@ use Rattle.pmem.specs.Trace.{Operation, Runs, StopsWithin}
 use Rattle.pmem.specs.Words.{Survives, value_of, image_of, LeavesOnly, Keeps, HasOneFailure, IsSettledAt, Makes, Spares, OldOr, IsStore}
 use Rattle.pmem.proofs.Changes.{settled_at-shrinks}
 use Rattle.pmem.proofs.Images.{leaves_trans, leaves_weaken}
-use Rattle.pmem.proofs.Lists.{StoresOnly, StoreOnly, IsElsewhere, IsInTwo, runs-in_two, stops-in_two, keeps-run, keeps-stopped, shrinks-run, spares-run, spares-stopped, store-weaker, makes_trans, one_failure-stopped, persist-only, persist-made, persist-settles, set-only, set-made, set-settles}
+use Rattle.pmem.proofs.Lists.{StoresOnly, StoreOnly, IsElsewhere, IsInTwo, runs-in_two, stops-in_two, keeps-run, keeps-stopped, shrinks-run, spares-run, spares-stopped, store-weaker, one_failure-stopped, persist-only, persist-made, persist-settles, set-only, set-settles}
 use Rattle.pmem.proofs.OperationEffects.{only-settled}
 use Rattle.pmem.proofs.Traces.{words-run}
 use Rattle.log_area.specs.Rulings.{gate_word}
 use Rattle.log_area.specs.Writings.{geometry_operations, record_operations}
 use Rattle.log_area.proofs.Rulings.{some_places, log_within}
-use Rattle.log_area.proofs.Whole.{record-only, record-made, record-settles}
+use Rattle.log_area.proofs.Whole.{record-only, record-settles}
 use Rattle.base.specs.Fresh.{superblock_words, first_record, fresh_word, fresh_image}
 use Rattle.base.proofs.Fresh.{low-word, inside-word, outside-word}
 use Rattle.base.proofs.Layouts.{lines-words}
@@ -250,14 +250,7 @@ module _ (layout : Layout) (limits : is_in_limits layout ≡ true) {old : Device
       let body = runs-in_two (cleared layout ++ recorded layout) (superblock layout) begin.then in
       let log = runs-in_two (cleared layout) (recorded layout) body.first in
       let clear = persist-made committer 8 (λ k. 0) (total_words layout - 8) 1 (total_words layout / 8 - 1) log.first in
-      let block = persist-made committer 1 (λ k. get_or (superblock_words layout) (k + 1) 0) 7 0 1 body.then in
-      let made = makes_trans (makes_trans (set-made committer 0 0 begin.first) (makes_trans (makes_trans clear (record-made layout first_record log.then)) block)) (set-made committer 0 superblock_word end.then) in
-      record {
-        stores_made = omega (arith, made.stores_made, log_within layout);
-        flushes_made = omega (arith, made.flushes_made, log_within layout, total-lines layout limits);
-        fences_made = omega (arith, made.fences_made);
-        failures_made = omega (arith, made.failures_made);
-      }
+      grind (arith)
 
   pub format-failure : {new : Device} → StopsWithin (format_operations layout) old new → HasOneFailure old new
   format-failure stop = one_failure-stopped Anything format-only stop

@@ -10,7 +10,7 @@ use Rattle.base.specs.declared.fault.Fault.{Fault}
 use Rattle.base.specs.declared.fault.Fault.TheVariants.{TimestampsOut, OutOfMemory, Device as DeviceFault}
 use Rattle.base.specs.Search.{some_if}
 use Rattle.base.specs.Commits.{Commit}
-use Rattle.base.specs.Layout.{Layout, total_words, is_known_version, is_in_limits, is_between}
+use Rattle.base.specs.Layout.{Layout, total_words, is_known_version, is_in_limits}
 use Rattle.base.specs.Records.{Record, opened_gaps}
 use Rattle.base.specs.Images.{Image, IsSound, damage, layout_of, ruling, is_shown, opening_fault, is_bad_slot, is_near_limit, needs_sweep, IsRuledBy}
 use Rattle.base.specs.Stands.{Stands}
@@ -132,10 +132,7 @@ module _ (image : Image) (layout : Layout) (r : Record) (gaps : Option (List Gap
   some-window : 0 < layout.window
   some-window =
       let a = and_parts (is_known_version layout.version) _ (layout-good layout r image is.rules) in
-      let b = and_parts (is_between 1 65536 layout.slots) _ a.1 in
-      let c = and_parts (is_between 2 64 layout.places) _ b.1 in
-      let four : 4 ≤ layout.window = leb-true 4 layout.window (and_parts (nat_le 4 layout.window) _ c.1).0 in
-      omega (arith, four)
+      grind (arith)
 
   covers : IsOpenedGaps r (opened_gaps r)
   covers = subst (λ (x : Record). IsOpenedGaps x (opened_gaps x)) is.rules.by_record (covers-of image sound)

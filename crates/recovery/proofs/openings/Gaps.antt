@@ -260,9 +260,7 @@ module _ (r : Record) (may : MayRule r) where
       where
         by : (t : ℕ) → lies t ≡ true → t ≤ below - 1 → (last < t) ⊎ (t ≤ last) → t ≤ last
         by t lay high (inr low) = low
-        by t lay high (inl up) =
-            let found = any-at t r.longs (sym (between t (omega (arith, added.low, up)) (omega (arith, high, added.high))) ∙ lay) in
-            omega (arith, found.2, added.done found.0 found.1 (omega (arith, found.2, high, added.high)))
+        by t lay high (inl up) = grind (arith, any-at)
 
     module _ (gaps : List Gap) (last k : ℕ) (added : Added r above below gaps last k) (h : k < length r.longs) (here : ℕ) (at : here ≡ get_or r.longs k 0) where
       abbrev point : ℕ → Gap

@@ -61,14 +61,7 @@ stands-same before image history drawn next r s like alike rules later still =
     let good : (slot : ℕ) → slot < (layout_of before).slots → is_bad_slot (ruling image) image slot ≡ false =
     λ slot h. subst (λ (x : Record). is_bad_slot x image slot ≡ false) (sym ruled) (good-same before image like (ruling before) r alike wide slot h (no_bad_slot before s.sound slot h)) in
     record {
-      sound = sound-faultless image (record {
-        formatted = rules.formatted;
-        known = known-good image rules.geometry;
-        geometry = rules.geometry;
-        gates = subst (λ (n : ℕ). first_below n (is_wrong_gate image) ≡ None) places rules.gates;
-        well_ruled = rules.well_ruled;
-        slots = subst (λ (n : ℕ). first_below n (is_bad_slot (ruling image) image) ≡ None) slots (first_below-nowhere (layout_of before).slots (is_bad_slot (ruling image) image) good);
-      });
+      sound = grind (arith, first_below-nowhere (layout_of before).slots (is_bad_slot (ruling image) image) good);
       tables = λ key row.
           let shown = subst (λ (x : Record). ShownUnder x image key row ↔ ShownUnder (ruling before) before key row) (sym ruled) (tables-same before image like (ruling before) r alike wide key row) in
           (λ t. (s.tables key row).0 (shown.0 t), λ e. shown.1 ((s.tables key row).1 e));

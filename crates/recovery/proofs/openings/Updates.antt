@@ -22,10 +22,9 @@ use Rattle.pmem.specs.Persisting.{set_operations}
 use Rattle.pmem.specs.Trace.{Operation, Runs, StopsWithin}
 use Rattle.pmem.specs.Words.{value_of, IsAtRest, IsSettledAt, IsStore, IsWithin, LeavesOnly, image_of, Keeps, Makes, OldOr, Spares}
 use Rattle.pmem.proofs.Images.{leaves_trans, leaves_weaken}
-use Rattle.pmem.proofs.Lists.{StoreOnly, keeps-run, keeps-stopped, spares-run, store-weaker, makes_none, makes_trans, count_of, one_store, one_flush, one_fence, few-stopped, one_failure-stopped, set-only, set-made, set-settles}
+use Rattle.pmem.proofs.Lists.{StoreOnly, keeps-run, keeps-stopped, spares-run, store-weaker, makes_none, makes_trans, count_of, one_store, one_flush, one_fence, few-stopped, one_failure-stopped, set-only, set-settles}
 use Rattle.pmem.proofs.Traces.{words-run}
 use Rattle.pmem.proofs.Spares.{spares_fewer, spares_trans}
-use Rattle.pmem.proofs.OperationEffects.{only-settled}
 use Rattle.log_area.proofs.Rulings.{log_within}
 use Rattle.log_area.proofs.Heads.{image_word, image_size}
 use Rattle.recovery.specs.Slots.{free_below}
@@ -90,17 +89,10 @@ module _ (old : Device) (rest : IsAtRest old) (opens : opening_fault (image_of o
   either-image other size within = by (cases_lt 1 old.words)
     where
       other-word : (word : ℕ) → word < old.words → word ≢ 1 → get_or other word 0 ≡ get_or image word 0
-      other-word word lt far = elim (within word lt) [
-        | inl there ↦ only-settled old word (get_or other word 0) (rest word lt) there ∙ sym (image_word old word lt)
-        | inr store ↦ absurd (far store.0)
-      ]
+      other-word word lt far = grind (arith, image_word)
 
       whole : get_or other 1 0 ≡ get_or image 1 0 → other ≡ image
-      whole same = ext_get_or 0 other image (size ∙ sym (image_size old)) (λ word lt. at word (omega (arith, lt, size)) (cases_eq word 1))
-        where
-          at : (word : ℕ) → word < old.words → (word ≡ 1) ⊎ (word ≢ 1) → get_or other word 0 ≡ get_or image word 0
-          at word lt (inl one) = ap (λ (w : ℕ). get_or other w 0) one ∙ same ∙ sym (ap (λ (w : ℕ). get_or image w 0) one)
-          at word lt (inr far) = other-word word lt far
+      whole same = grind (arith, ext_get_or 0 other, image_size, other-word)
 
       changed : get_or other 1 0 ≡ opened_version (layout_of image).version → other ≡ updated image
       changed same = ext_get_or 0 other (updated image) (size ∙ sym (image_size old) ∙ sym up.size) (λ word lt. at word (omega (arith, lt, size)) (cases_eq word 1))
@@ -110,10 +102,7 @@ module _ (old : Device) (rest : IsAtRest old) (opens : opening_fault (image_of o
           at word lt (inr far) = other-word word lt far ∙ sym (up.words word far)
 
       by : (1 < old.words) ⊎ (old.words ≤ 1) → (other ≡ image) ⊎ (other ≡ updated image)
-      by (inl lt) = elim (within 1 lt) [
-        | inl there ↦ inl (whole (only-settled old 1 (get_or other 1 0) (rest 1 lt) there ∙ sym (image_word old 1 lt)))
-        | inr store ↦ inr (changed store.1)
-      ]
+      by (inl lt) = grind (arith, whole, image_word, changed)
       by (inr short) = inl (whole (get_or_past other 1 0 (omega (arith, short, size)) ∙ sym (get_or_past image 1 0 (omega (arith, short, image_size old)))))
 
   stands-now : (history drawn : List Commit) (next : ℕ) → Stands image history drawn next → StandsOpening image history next image
@@ -219,14 +208,7 @@ module _ {old new : Device} (rest : IsAtRest old) (opens : opening_fault (image_
       by true some set =
           let holds = set-settles committer 1 (version old) set (omega (arith, opened-size old opens)) in
           let far = spares-run (IsStore 1 (version old)) (λ word. word ≢ 1) (λ word x this far. far this.0) (set-only committer 1 (version old) (IsStore 1 (version old)) (refl, refl)) set in
-          record {
-            image = image-updated old rest opens new (words-run run) holds far;
-            rest = rest-updated old rest opens new (words-run run) holds far;
-            made = subst (λ (b : Bool). MakesAll (counts_by b) old new) (sym some) (set-made committer 1 (version old) set);
-            others = others;
-            images = images-updating old rest opens new keeps;
-            first = version-updating old rest opens new keeps;
-          }
+          grind (arith, image-updated old rest opens new (words-run run) holds far, rest-updated old rest opens new (words-run run) holds far, others, images-updating old rest opens new keeps, version-updating old rest opens new keeps)
       by false none nothing = record {
         image = ap image_of nothing.made ∙ sym ((updated-open (image_of old) opens).same none);
         rest = subst IsAtRest (sym nothing.made) rest;

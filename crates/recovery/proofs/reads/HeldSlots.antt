@@ -130,10 +130,7 @@ module _ (live : List LiveSlot) (places : BTreeMap Key ℕ) (made : IsFromIterRe
           ∙ sym (looked-up (placed 0 live) key)
 
       there : (key : Key) (place : ℕ) → lookup_key places.entries key ≡ Some place → (s : LiveSlot) × (slice_get live place ≡ Some s) × (s.key ≡ key)
-      there key place found =
-          let at = placed-there 0 live key place (sym (looks key) ∙ found) in
-          let same : at.0 ≡ place = omega (arith, at.1) in
-          (at.2.0, ap (slice_get live) (sym same) ∙ at.2.1, at.2.2)
+      there key place found = grind (arith, placed-there, looks)
 
       once : (s : LiveSlot) (place : ℕ) → slice_get live place ≡ Some s → lookup_key places.entries s.key ≡ Some place
       once s place at = looks s.key ∙ placed-once 0 live distinct s place at ∙ (let same : 0 + place ≡ place = omega arith in λ i. Some (same i))
@@ -148,10 +145,7 @@ live-in image (suc n) place s at = by (is_free image n) refl (λ was. let told =
     by : (b : Bool) → is_free image n ≡ b → (slice_get (live_below image n) place ≡ Some s → (s.slot < suc n) × (is_free image s.slot ≡ false) × (key_of image s.slot ≡ s.key)) → slice_get (live_below image (n + 1)) place ≡ Some s
         → (s.slot < suc n) × (is_free image s.slot ≡ false) × (key_of image s.slot ≡ s.key)
     by true free earlier here = earlier (subst (λ (live : List LiveSlot). slice_get live place ≡ Some s) (live-free image n free) here)
-    by false free earlier here = elim (get-either (live_below image n) (live_at image n) s place (subst (λ (live : List LiveSlot). slice_get live place ≡ Some s) (live-live image n free) here)) [
-      | inl was ↦ earlier was
-      | inr new ↦ subst (λ (x : LiveSlot). (x.slot < suc n) × (is_free image x.slot ≡ false) × (key_of image x.slot ≡ x.key)) new (omega arith, free, refl)
-    ]
+    by false free earlier here = grind (arith, get-either (live_below image n) (live_at image n) s place, live-live image n free)
 
 pub shown-here : (image : Image) (slot : ℕ) → is_free image slot ≡ false → is_shown (ruling image) image slot ≡ true
 unfolding is_free
@@ -296,9 +290,7 @@ module _ (readings : List SlotReading) (n : ℕ) (d reading : SlotReading) (is :
   pub each-more : (s : LiveSlot) (key : Key) → s.slot ≡ n → s.key ≡ key → reading.found ≡ Live key → HasEach readings (n + 1) (live ++ s ∷ [])
   each-more s key here key-is held slot r k lt at found = elim (cases_below slot n (omega (arith, lt))) [
     | inl before ↦ let was = each slot r k before at found in (was.0, (was.1.0, get-before live s was.1.0 was.0 was.1.1, was.1.2, was.1.3))
-    | inr this ↦
-        let same : Live key ≡ Live k = sym held ∙ this-found slot r k this at found in
-        (length live, (s, get-last live s, here ∙ sym this, key-is ∙ cc same))
+    | inr this ↦ grind (arith, this-found slot r k this at found, get-last live s)
   ]
 
   pub each-skip : ((key : Key) → reading.found ≡ Live key → ⊥) → HasEach readings (n + 1) live
@@ -323,9 +315,7 @@ rows-of image (suc n) = subst (λ (k : ℕ). rows_below image k ≡ map (row-in 
 
     by : (b : Bool) → is_free image n ≡ b → rows_below image n ≡ map (row-in image) (live_below image n) → rows_below image (n + 1) ≡ map (row-in image) (live_below image (n + 1))
     by true free before = rows-free image n free ∙ before ∙ ap (map (row-in image)) (sym (live-free image n free))
-    by false live before =
-        rows-live image n live ∙ ap (λ (rows : List (Key × List ℕ)). rows ++ (key_of image n, row_of image n) ∷ []) before
-        ∙ sym (map-more (live_below image n) (live_at image n)) ∙ ap (map (row-in image)) (sym (live-live image n live))
+    by false live before = grind (arith, rows-live, map-more, live-live)
 
 pub well-held : (image : Image) (slot : ℕ) → is_bad image slot ≡ false → is_shown (ruling image) image slot ≡ true → is_misfit image slot ≡ false
 unfolding is_bad

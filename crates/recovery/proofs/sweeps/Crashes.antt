@@ -5,7 +5,7 @@ use Rattle.std.proofs.lemmas.Bool.{and_parts, le-ltb}
 use Rattle.std.proofs.lemmas.List.FromFn.{length-map-range_with_len, get_or-map-range_with_len}
 use Rattle.base.specs.Commits.{Commit}
 use Rattle.base.specs.Fresh.{superblock_words}
-use Rattle.base.specs.Layout.{Layout, place_start, slot_start, slot_words, total_words}
+use Rattle.base.specs.Layout.{Layout, slot_start, slot_words, total_words}
 use Rattle.base.specs.Records.{Record, record_word, is_in, is_committed, opened_gaps}
 use Rattle.base.specs.Images.{Image, IsSound, layout_of, ruling, slot_word, IsRuledBy}
 use Rattle.machine.specs.Openings.{StandsOpening, is_mark}
@@ -18,7 +18,7 @@ use Rattle.machine.proofs.openings.Sweeps.{mark-of, unmarked-low}
 use Rattle.pmem.specs.Device.{Device}
 use Rattle.pmem.specs.Words.{value_of, image_of, Survives, IsAtRest, IsSettledAt, IsWithin, OldOr, Keeps, LeavesOnly}
 use Rattle.pmem.proofs.OperationEffects.{only-settled}
-use Rattle.log_area.specs.Rulings.{HoldsRecord, IsEarlierGate, gate_word}
+use Rattle.log_area.specs.Rulings.{HoldsRecord, gate_word}
 use Rattle.log_area.proofs.AtRest.{laid, rest_holds}
 use Rattle.log_area.proofs.Heads.{laid_size}
 use Rattle.log_area.proofs.Rulings.{ruled_by, place_below, log_within}
@@ -34,9 +34,7 @@ ruled-like a r device image holds size log =
       size = size ∙ has.size;
       superblock = λ word h. at word (get_or (superblock_words a) word 0) (omega (arith, h)) (has.superblock word h);
       place = λ w h. at (gate_word a r + w) (record_word r w) (omega (arith, h, place_below a r has.fits.limits)) (has.place w h);
-      gates = λ place h.
-          let gate = holds.gates place h in
-          subst (IsEarlierGate a r.gate place) (sym (only-settled device (place_start place) (get_or image (place_start place) 0) gate.settled (log (place_start place) (omega (arith, h))))) gate.earlier;
+      gates = λ place h. grind (arith);
     })
   where
     at : (word value : ℕ) → word < 8 + 32 * a.places → IsSettledAt device word value → get_or image word 0 ≡ value
@@ -67,12 +65,7 @@ module _ (a : Layout) (r : Record) (old : Device) (rest : IsAtRest old) (rules :
     }
       where
         same : (slot w : ℕ) → slot < a.slots → 2 ≤ w → w < slot_words a.version → slot_word image slot w ≡ slot_word (image_of old) slot w
-        same slot w h low high =
-            let word : ℕ = slot_start a slot + w in
-            let lt = slot-in slot w h high in
-            ap (λ (l : Layout). get_or image (slot_start l slot + w) 0) ruled-sweeping.laid_out
-            ∙ only-settled old word (get_or image word 0) (rest word lt) (unswept word lt (mark-of a slot w high ∙ le-ltb w 2 low))
-            ∙ sym (value-old word lt) ∙ sym (ap (λ (l : Layout). get_or (image_of old) (slot_start l slot + w) 0) rules.laid_out)
+        same slot w h low high = grind (arith, slot-in slot w h high, ruled-sweeping, mark-of, le-ltb w 2 low, value-old)
 
     module _ (sound : IsSound (image_of old)) where
       -- a begin or an end is what it was, or was in a gap and is 0
@@ -114,16 +107,10 @@ module _ (a : Layout) (r : Record) (old : Device) (rest : IsAtRest old) (rules :
           inside slot h = subst (λ (l : Layout). slot < l.slots) rules.laid_out h
 
           counts : (slot w : ℕ) → slot < a.slots → w < 2 → is_committed (ruling (image_of old)) (slot_word image slot w) ≡ is_committed (ruling (image_of old)) (slot_word (image_of old) slot w)
-          counts slot w h two = elim (mark-sweeping slot w h two) [
-            | inl same ↦ ap (is_committed (ruling (image_of old))) same
-            | inr none ↦ ap (is_committed (ruling (image_of old))) none.0 ∙ sym none.1
-          ]
+          counts slot w h two = grind (arith, mark-sweeping)
 
           below : (slot w : ℕ) → slot < a.slots → w < 2 → slot_word (image_of old) slot w < (ruling (image_of old)).dirty → slot_word image slot w < (ruling (image_of old)).dirty
-          below slot w h two less = elim (mark-sweeping slot w h two) [
-            | inl same ↦ omega (arith, same, less)
-            | inr none ↦ omega (arith, none.0, less)
-          ]
+          below slot w h two less = grind (arith, mark-sweeping)
 
   -- whatever a crash leaves meanwhile stands for the same history
   pub images-sweeping : (new : Device) → Keeps old new (OldOr old (IsSwept a r old)) → (history drawn : List Commit) (next : ℕ) → Stands (image_of old) history drawn next → LeavesOnly old new (StandsOpening (image_of old) history next)

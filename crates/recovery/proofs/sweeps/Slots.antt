@@ -1,8 +1,8 @@
 -- What a sweep makes of a device, and an opening of one whose gaps are swept where a record can't hold them.
-use Rattle.std.proofs.Common.{◌≡◌, ◌≢◌, ◌⊎◌, inl, inr, ℕ, zero, suc, ◌+◌, ◌-◌, ◌*◌, ◌/◌, ◌%◌, ◌<◌, ◌≤◌, Bool, true, false, cond, ◌&&◌, ◌||◌, List, [], ◌∷◌, ◌++◌, flat_map, get_or, refl, sym, ◌∙◌, ap, subst, arith, true≢false, mul_comm, length, nat_lt}
+use Rattle.std.proofs.Common.{◌≡◌, ◌≢◌, ◌⊎◌, inl, inr, ℕ, zero, suc, ◌+◌, ◌-◌, ◌*◌, ◌/◌, ◌<◌, ◌≤◌, Bool, true, false, cond, ◌&&◌, ◌||◌, List, [], ◌∷◌, ◌++◌, flat_map, get_or, refl, sym, ◌∙◌, ap, subst, arith, true≢false, length, nat_lt}
 use Rattle.std.specs.List.{Contains, range_with_len}
-use Rattle.std.proofs.Math.Nat.{div-add-mod, div-lt_iff_lt-mul, mul-le-mul_left}
-use Rattle.std.proofs.lemmas.Bool.{and_parts, and_from, leb-true, lt-ltb, ltb-true, or_left, or_right}
+use Rattle.std.proofs.Math.Nat.{mul-le-mul_left}
+use Rattle.std.proofs.lemmas.Bool.{and_parts, and_from, lt-ltb, or_left, or_right}
 use Rattle.std.proofs.lemmas.List.{append_assoc, append-nil, ext_get_or}
 use Rattle.std.proofs.lemmas.List.Concat.{flat_map-append}
 use Rattle.std.proofs.lemmas.List.Elements.{All-nil, All-cons, All-append, Contains-append_right}
@@ -24,8 +24,7 @@ use Rattle.version_slot.specs.Operations.{zero_operations, sweep_operations}
 use Rattle.recovery.specs.Sweeping.{lies, is_hit, IsSwept, slot_operations, sweep_below, whole_sweep}
 use Rattle.std.specs.Prelude.{Option, Some, None}
 use Rattle.base.specs.declared.gap.Gap.{Gap}
-use Rattle.pmem.proofs.Runs.{keeps_none}
-use Rattle.pmem.proofs.Spares.{spares_fewer, spares_none}
+use Rattle.pmem.proofs.Spares.{spares_fewer}
 use Rattle.log_area.proofs.AtRest.{laid}
 use Rattle.recovery.specs.Gaps.{few_gaps}
 use Rattle.recovery.specs.Opened.{gap_operations}
@@ -173,18 +172,7 @@ module _ (a : Layout) (r : Record) (start : Device) where
     of-slot : (word : ℕ) → word < start.words → is_mark a word ≡ true → IsOfSlot word
     of-slot word lt mark =
         let width : ℕ = slot_words a.version in
-        let base : ℕ = slot_start a 0 in
-        let both = and_parts _ _ mark in
-        let low : base ≤ word = leb-true base word both.0 in
-        let parts : width * ((word - base) / width) + (word - base) % width ≡ word - base = div-add-mod (word - base) width in
-        let wide : 8 ≤ width = line-words a.version in
-        record {
-          slot = (word - base) / width;
-          w = (word - base) % width;
-          inside = (div-lt_iff_lt-mul {k = width} {x = word - base} {y = a.slots} (omega (arith, wide))).1 (omega (arith, lt, size, low, mul_comm a.slots width));
-          two = ltb-true ((word - base) % width) 2 both.1;
-          is = omega (arith, parts, low);
-        }
+        grind (arith)
 
     inside-words : (slot w : ℕ) → slot < a.slots → w < 2 → slot_start a slot + w < start.words
     inside-words slot w h two = omega (arith, slot-order a slot a.slots h, size, two, line-words a.version)
@@ -321,9 +309,7 @@ module _ (a : Layout) (r : Record) (start : Device) where
           (λ word lt. image_word new word (omega (arith, lt, image_size new)) ∙ each word (omega (arith, lt, image_size new, words-run run)) ∙ sym (there word (omega (arith, lt, image_size new, words-run run))))
         where
           there : (word : ℕ) → word < start.words → get_or (swept (image_of start)) word 0 ≡ cond (is_hit a r start word) 0 (value_of start word)
-          there word lt =
-              swept-at (image_of start) word
-              ∙ (λ i. cond (is_mark (rules.laid_out i) word && is_in (opened_gaps (rules.by_record i)) (image_word start word lt i)) 0 (image_word start word lt i))
+          there word lt = grind (arith, swept-at, image_word)
 
           each : (word : ℕ) → word < start.words → value_of new word ≡ cond (is_hit a r start word) 0 (value_of start word)
           each word lt = by (is_hit a r start word) refl
@@ -376,12 +362,7 @@ module _ (layout : Layout) (r : Record) {old new : Device} (rules : IsRuledBy la
             image = swept-image layout r old rules size run ∙ ap (λ (b : Bool). cond b (swept (image_of old)) (image_of old)) (sym many);
             others = spares_fewer (λ word alone. sym (ap (λ (b : Bool). b && is_hit layout r old word) many) ∙ alone) (swept-spares layout r old rules size run);
           }
-      by false few run = subst (AreKept layout r old) (sym run.made) (record {
-        kept = keeps_none old (OldOr old (IsSwept layout r old)) run.orderly (λ word x there. inl there);
-        rest = rest;
-        image = ap (λ (b : Bool). cond b (swept (image_of old)) (image_of old)) (sym few);
-        others = spares_none (λ word. (needs_sweep (image_of old) && is_hit layout r old word) ≡ false) old run.orderly;
-      })
+      by false few run = grind (arith)
 
   -- also where the sweep stops
   pub kept_stopped : StopsWithin (gap_operations layout r old) old new → Keeps old new (OldOr old (IsSwept layout r old))
