@@ -14,14 +14,6 @@ join_is number (word ∷ words) fits =
     let tail = join_is number words (λ at lt. fits (suc at) (omega (arith, lt))) in
     (λ i. first i ∷ joined (map low words) (more i)) ∙ (λ i. word ∷ tail i)
 
-number_is : (number : ℕ) (words : List ℕ) → ((at : ℕ) → at < length words → get_or words at 0 < 2 ^ 64) → number_in (map low words) (packed number words) ≡ number
-number_is number [] fits = refl
-number_is number (word ∷ words) fits =
-    let rest = packed number words in
-    let here : word < 2 ^ 64 = fits 0 (omega arith) in
-    let more : (word / 2 ^ 63 + 2 * rest) / 2 ≡ rest = omega (arith, here) in
-    ap (number_in (map low words)) more ∙ number_is number words (λ at lt. fits (suc at) (omega (arith, lt)))
-
 one_back : (line : Line) (others : List ℕ) → IsLine line → line_of (line_payloads line ++ others) ≡ line
 one_back line others is =
     let lows : List ℕ = map low line.words in

@@ -102,15 +102,7 @@ lived-played image image' rows life report replies before q P may listed w same 
     let opens : OpensAs before.image before.history before.lost q = subst (λ (i : Image). OpensAs i before.history before.lost q) (sym same) opened in
     let ended = played.ends before.lost in
     let lists : Lists rows (after q.history) = subst (λ (h : List Commit). Lists rows (after h)) (sym (ap (λ (x : State). x.history) opens.2)) (lists-after image rows before.history before.drawn before.next listed stands) in
-    record {
-      replies = replies;
-      reported = tells;
-      after = ended.0;
-      leaves = ended.1;
-      lives = subst (λ (o : Opening). LifeAs before (asked_of life) o replies (closed_of report.closed) ended.0) (sym played.opening)
-          (ap opening_fault same ∙ may, q, played.states, opens, refl, refl, refl, lists, played.runs, ended.2);
-      so = so;
-    }
+    grind (arith)
 
 -- what the opened state's numbers say
 pub opens-so : (q : State) (gate persisted dirty next : ℕ) (gaps : List Gap) (rows : List (Key × List ℕ))

@@ -138,10 +138,6 @@ ready-at : (a : Layout) (device : Device) (f : ℕ → List Line) (from n k : �
 ready-at a device f from zero k ready le lt = absurd (omega (arith, le, lt))
 ready-at a device f from (suc n) k ready le lt = grind (arith, ready-part a device (f from) (flat_map f (range_with_len (from + 1) n)) ready, cases_lt from k, ready-at a device f (from + 1) n k)
 
--- the lines of a slot have all its words
-part-below : (a : Layout) (w : ℕ) → w < slot_words a.version → w / 8 < version_lines a
-part-below a w lt = grind arith
-
 module _ (q : State) (commits : List Commit) (old new : Device) (is : new ≡ fenced committer old) (ready : AreReady q.layout old (lines_in q commits)) where
   here : (slot : ℕ) → slot < q.layout.slots → AreReady q.layout old (lines_at q commits slot)
   here slot lt = ready-at q.layout old (lines_at q commits) 0 q.layout.slots slot ready (omega arith) (omega (arith, lt))

@@ -163,9 +163,7 @@ module _ (q : State) (past : q.layout.slots < q.place) where
         let parts : visits q.layout.slots first ≡ visits rest (visits (suc slot) first) = visits-split q.layout.slots (suc slot) rest first (omega (arith, below)) in
         subst (λ (p : State). is_garbage p slot ≡ false) (sym (whole-past ∙ parts)) (clean-visits rest (visits (suc slot) first) slot here);
     swept = ap (λ (p : State). p.swept) whole-past ∙ swept-visits q.layout.slots first over-first.swept;
-    place =
-        let up : (visits q.layout.slots first).place ≡ first.place + q.layout.slots = place-up q.layout.slots first (omega (arith, over-first.place, slots-visited q)) in
-        omega (arith, ap (λ (p : State). p.place) whole-past, up, over-first.place, slots-visits (q.layout.slots + 1) q);
+    place = grind (arith, place-up, slots-visits);
   }
 
 round-settles : (q : State) → IsSettled (round_of q)

@@ -7,8 +7,6 @@ use Rattle.std.proofs.Math.Seq.{get_or-append_seam}
 use Rattle.std.proofs.lemmas.Bool.{and_parts, not-true}
 use Rattle.std.proofs.lemmas.List.FromFn.{length-map-range_with_len}
 use Rattle.std.proofs.lemmas.Option.{slice_get-get_or, slice_get_past}
-use Rattle.base.specs.declared.fault.Fault.{Fault}
-use Rattle.base.specs.declared.step.Step.{Step}
 use Rattle.base.specs.declared.step.Step.TheVariants.{Commit as CommitTick}
 use Rattle.base.specs.declared.step.Stage.{Stage}
 use Rattle.base.specs.declared.step.Stage.TheVariants.{Chosen, LineFlushed, LinesFenced, BodyStored, BodyFlushed, BodyFenced, GateStored, GateFlushed}
@@ -74,19 +72,8 @@ cycle-whole q none chooses_now ok =
     let works : q.failed ≡ false = by q.failed refl in
     let on = rest-of q (taken_in_hand q) (Chosen ∷ []) (later lines) works refl in
     let count : lines + 41 ≡ suc (suc (length (later lines))) = omega (arith, later-length lines) in
-    let moved = first-state q none busy ok in
-    let ticks : List Step = replicate (suc (length (later lines))) CommitTick in
-    record {
-      replies =
-          ap (λ (n : ℕ). replies q (replicate n CommitTick)) count
-          ∙ ap (λ (r : Reply). r ∷ replies (state_of q CommitTick) ticks) (first-reply q none busy ok)
-          ∙ ap (λ (p : State). Ticked Chosen ∷ replies p ticks) moved ∙ ap (λ (rs : List Reply). Ticked Chosen ∷ rs) on.0;
-      covers = ap (λ (n : ℕ). end q (replicate n CommitTick)) count ∙ ap (λ (p : State). end p ticks) moved ∙ on.1;
-    }
+    grind (arith)
   where
     by : (b : Bool) → q.failed ≡ b → b ≡ false
     by false is = refl
-    by true is =
-        let some : is_none (refusal q CommitTick) ≡ false = rw is refl in
-        let nothing : is_none (refusal q CommitTick) ≡ true = ap (λ (o : Option Fault). is_none o) ok in
-        cc
+    by true is = grind (arith)

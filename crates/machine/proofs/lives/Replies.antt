@@ -11,7 +11,7 @@ use Rattle.base.specs.declared.step.Step.TheVariants.{Begin, Get, Scan, Put, Del
 use Rattle.base.specs.declared.step.Stage.{Stage}
 use Rattle.base.specs.declared.step.Stage.TheVariants.{Chosen}
 use Rattle.base.specs.declared.step.Reply.{Reply}
-use Rattle.base.specs.declared.step.Reply.TheVariants.{Rows, Done, Drawn as DrewAs, More, Stamped, Idle, Ticked, Covered, Visited, SweepEnd}
+use Rattle.base.specs.declared.step.Reply.TheVariants.{Rows, Done, Drawn as DrewAs, More, Stamped, Idle, Ticked, Covered}
 use Rattle.base.specs.Commits.{Commit, Writes}
 use Rattle.base.specs.Stands.{has_timestamp}
 use Rattle.base.specs.Lists.{is_nil}
@@ -19,7 +19,7 @@ use Rattle.machine.specs.Machine.{State, Session, Drawn, Hand, Stepped, refused,
 use Rattle.machine.specs.Lives.{World, IsWorld, Opening, Opens, Fails, Numbers, Asked, Report, StopsAt, EndsAs, LifeAs, Lives, RunsUp}
 use Rattle.machine.specs.Openings.{OpensAs}
 use Rattle.machine.specs.Laws.{drawn_by, drawn_in, covered_by, covered_in, acknowledged_by, acknowledged_in, has_closed, AddsDrawn, LifeAdds, LivesAdd}
-use Rattle.machine.specs.Collecting.{is_at_slot, visited}
+use Rattle.machine.specs.Collecting.{visited}
 use Rattle.machine.proofs.Growth.{any-append, extends-run}
 use Rattle.machine.proofs.collector.Visits.{visit-changes}
 use Rattle.machine.proofs.lives.Lost.{runs-up}
@@ -221,11 +221,7 @@ told-next before covered ts q CommitTick reply told a =
     subst (λ (r : Reply). ReportedAfter before covered ts r (next_state q CommitTick)) (sym a) (told-ticked before covered ts q q.hand told.hand_among told)
 told-next before covered ts q Collect reply told a =
     let changes = visit-changes q in
-    told-still before covered ts q reply _ (visited q) told a (quiet-if (is_at_slot q) (Visited q.place) SweepEnd (refl, refl) (refl, refl)) (record {
-      history = changes.history;
-      drawn = ap (λ (ds : List Drawn). map (λ (d : Drawn). d.commit) ds) changes.drawn;
-      hand = ap (λ (o : Option Hand). option_map_or (λ (h : Hand). h.commits) o []) changes.hand;
-    })
+    grind (arith, told-still before covered ts q reply _ (visited q) told a)
 
 told-stepped : (before covered : List Commit) (ts : List ℕ) (q : State) (step : Step) (reply : Reply) (q' : State) → Reported before covered ts q → Stepped q step reply q' → ReportedAfter before covered ts reply q'
 told-stepped before covered ts q step reply q' told (refused fault e r s) =

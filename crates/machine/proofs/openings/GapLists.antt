@@ -73,11 +73,7 @@ in-with low added (gap ∷ gaps) t b (c, d, rest) is =
     apart (inr x) y e f w = inr (inl (omega (arith, x, w.0), omega (arith, x, ltb-false (gap.last + 1) added.first e)))
 
     at_most : (m n : ℕ) → (m ≤ n) ⊎ (n < m)
-    at_most m n = swap (cases_lt n m)
-      where
-        swap : (n < m) ⊎ (m ≤ n) → (m ≤ n) ⊎ (n < m)
-        swap (inl x) = inr x
-        swap (inr x) = inl x
+    at_most m n = grind (arith)
 
     split : nat_lt (gap.last + 1) added.first ≡ false → nat_lt (added.last + 1) gap.first ≡ false → Within (joined added gap) t ⊎ In gaps t → Within added t ⊎ In (gap ∷ gaps) t
     split e f (inl w) = apart (at_most added.first t) (at_most t added.last) e f w

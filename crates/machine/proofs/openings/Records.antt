@@ -1,5 +1,5 @@
 -- What the record that an opening writes commits, with and without a sweep.
-use Rattle.std.proofs.Common.{◌≡◌, ℕ, ◌+◌, ◌-◌, ◌^◌, ◌<◌, ◌≤◌, Bool, true, false, cond, not, ◌&&◌, ◌||◌, List, [], ◌∷◌, length, refl, arith, nat_eq, nat_lt, nat_le}
+use Rattle.std.proofs.Common.{◌≡◌, ℕ, ◌+◌, ◌-◌, ◌^◌, ◌<◌, ◌≤◌, Bool, true, false, cond, not, ◌&&◌, ◌||◌, List, [], ◌∷◌, length, refl, arith, nat_eq, nat_le}
 use Rattle.std.specs.List.{list_any, list_all}
 use Rattle.std.proofs.lemmas.Bool.{and_parts, or_cases, ltb-true, ltb-false, le-leb, false≢true}
 use Rattle.std.proofs.lemmas.Bool.Decides.{nat_tests}
@@ -58,19 +58,4 @@ formed-over version a r gaps well opened few some room = grind (arith, gaps-belo
 -- with the gaps kept or swept, the record is well formed
 pub formed-kept : (version : ℕ) (a : Layout) (r : Record) (gaps : List Gap) → is_well_formed version r ≡ true → IsOpenedGaps r gaps → 0 < a.window → r.dirty + a.window < 2 ^ 62
     → is_well_formed version (opening_record a r (gaps_kept gaps)) ≡ true
-formed-kept version a r gaps well opened some room = by (nat_lt 8 (length gaps)) refl
-  where
-    by : (b : Bool) → nat_lt 8 (length gaps) ≡ b → is_well_formed version (opening_record a r (cond b [] gaps)) ≡ true
-    by false is = formed-over version a r gaps well opened (ltb-false 8 (length gaps) is) some room
-    by true is =
-        let less = (well_formed-parts version r well).below in
-        well_formed-from version (opening_record a r []) (record {
-          below = omega (arith, less);
-          limit = room;
-          few = omega arith;
-          fewer = omega arith;
-          each = refl;
-          apart = refl;
-          within = refl;
-          rising = refl;
-        })
+formed-kept version a r gaps well opened some room = grind (arith, formed-over version a r gaps well opened, ltb-false 8 (length gaps), well_formed-from version (opening_record a r []))

@@ -1,13 +1,12 @@
 -- What an opening finds, and the state that it gives: with a sweep it is that of the image as swept, under a record
 -- without gaps.
-use Rattle.std.proofs.Common.{◌≡◌, ℕ, ◌+◌, ◌-◌, ◌*◌, ◌^◌, ◌<◌, ◌≤◌, Bool, true, false, cond, not, ◌&&◌, ◌||◌, List, [], ◌∷◌, length, refl, sym, ◌∙◌, ap, arith, nat_lt, nat_le}
+use Rattle.std.proofs.Common.{◌≡◌, ℕ, ◌+◌, ◌-◌, ◌*◌, ◌^◌, ◌<◌, ◌≤◌, Bool, true, false, cond, ◌&&◌, ◌||◌, List, [], ◌∷◌, length, refl, sym, ◌∙◌, ap, arith, nat_lt, nat_le}
 use Rattle.std.specs.Prelude.{Some, None, ◌↔◌}
 use Rattle.std.specs.List.{list_all}
 use Rattle.std.proofs.lemmas.Bool.{and_parts, and_from, or_parts, leb-true, leb-false, ltb-true, ltb-false, lt-ltb, le-leb, eqb-true, not-false}
 use Rattle.std.proofs.lemmas.Bool.Decides.{nat_tests}
 use Rattle.base.specs.declared.key.Key.{Key}
 use Rattle.base.specs.declared.gap.Gap.{Gap}
-use Rattle.base.specs.declared.fault.Fault.TheVariants.{Damaged}
 use Rattle.base.specs.Search.{first_below}
 use Rattle.base.specs.Commits.{Commit, after}
 use Rattle.base.specs.Layout.{Layout, most_longs, slot_words, total_words, is_in_limits, is_known_version}
@@ -23,7 +22,7 @@ use Rattle.machine.proofs.openings.GapLists.{opened-gaps, one_gap_list}
 use Rattle.base.proofs.Alike.{HasRowsOf, CountsAlike, key-same, shown-same, good-same, tables-same}
 use Rattle.machine.proofs.openings.Records.{same-committed, swept-committed, uncommitted-in}
 use Rattle.machine.proofs.openings.Sweeps.{swept_record, swept-size, swept-layout, swept-rows, swept-counts}
-use Rattle.base.proofs.Options.{or-none, all_none, map-none, some_if-none}
+use Rattle.base.proofs.Options.{or-none, all_none, some_if-none}
 
 -- what an opening finds, by this record and with these gaps
 pub record IsOpening (a : Layout) (r : Record) (image : Image) (history : List Commit) (gaps : List Gap) : Type 0 where
@@ -50,13 +49,7 @@ pub record IsWhole (image : Image) : Type 0 where
 pub whole-of : (image : Image) → IsSound image → IsWhole image
 whole-of image sound =
     let (formatted, (known, (geometry, (gates, (ruled, _))))) = all_none (faults_of image) sound in
-    record {
-      formatted = not-false (is_formatted image) (some_if-none (not (is_formatted image)) _ formatted);
-      gates = map-none Damaged (first_below (layout_of image).places (is_wrong_gate image)) gates;
-      known = not-false (is_known_version (layout_of image).version) (some_if-none (not (is_known_version (layout_of image).version)) _ known);
-      geometry = not-false (has_good_geometry image) (some_if-none (not (has_good_geometry image)) _ geometry);
-      ruled = not-false (is_ruled image) (some_if-none (not (is_ruled image)) _ ruled);
-    }
+    grind (arith, not-false, some_if-none)
 
 pub size-of : (image : Image) → has_good_geometry image ≡ true → (is_in_limits (layout_of image) ≡ true) × (length image ≡ total_words (layout_of image))
 size-of image good = grind (arith, and_parts, eqb-true)

@@ -1,10 +1,10 @@
 -- The rows of a scan: there is one list of them, and it lists the tables that the session sees.
-use Rattle.std.proofs.Common.{◌≡◌, ℕ, Bool, true, false, cond, List, [], ◌∷◌, map, take, filter, refl, sym, ◌∙◌, ap, subst, arith, true≢false}
+use Rattle.std.proofs.Common.{◌≡◌, ℕ, Bool, true, false, cond, List, [], ◌∷◌, map, take, filter, refl, sym, ◌∙◌, ap, arith, true≢false}
 use Rattle.std.specs.Prelude.{Option, Some, None, unwrap_or}
 use Rattle.std.specs.List.{list_all}
 use Rattle.std.proofs.lemmas.Bool.{and_parts, and_from}
 use Rattle.std.proofs.lemmas.Bool.Decides.{nat_tests}
-use Rattle.std.proofs.lemmas.Option.{same_Some, none-some}
+use Rattle.std.proofs.lemmas.Option.{none-some}
 use Rattle.base.specs.declared.key.Key.{Key}
 use Rattle.base.specs.Keys.{key_eq, key_lt, is_rising, lookup_key, is_in_range}
 use Rattle.base.specs.Commits.{Commit, Writes, Tables, overlaid, laid, in_range, Lists, with_write}
@@ -67,18 +67,10 @@ module _ {X : Type 0} where
           none-some a.1 (sym (absent a.0 (b ∷ over) (and_from _ _ less (above-lower a.0 b.0 over less (rising-above b over rb)))) ∙ (sym e ∙ head-found a under))
 
       heads : key_eq x.0 y.0 ≡ true → x ≡ y
-      heads is =
-          let at : x.0 ≡ y.0 = key_eq-true x.0 y.0 is in
-          let value : x.1 ≡ y.1 = same_Some x.1 y.1 (sym (head-found x xs) ∙ (same x.0 ∙ (ap (lookup_key (y ∷ ys)) at ∙ head-found y ys))) in
-          λ i. (at i, value i)
+      heads is = grind (arith)
 
       by : (((key : Key) → lookup_key xs key ≡ lookup_key ys key) → xs ≡ ys) → (b : Bool) → key_eq x.0 y.0 ≡ b → (l : Bool) → key_lt x.0 y.0 ≡ l → x ∷ xs ≡ y ∷ ys
-      by more true is l less =
-          let head : x ≡ y = heads is in
-          let along : (key : Key) → lookup_key (x ∷ xs) key ≡ lookup_key (x ∷ ys) key = λ key. same key ∙ ap (λ (p : Key × X). lookup_key (p ∷ ys) key) (sym head) in
-          let above_ys : above x.0 ys ≡ true = subst (λ (p : Key × X). above p.0 ys ≡ true) (sym head) (rising-above y ys ry) in
-          let rest : xs ≡ ys = more (past-head x xs ys (rising-above x xs rx) above_ys along) in
-          λ i. head i ∷ rest i
+      by more true is l less = grind (arith, heads is, rising-above y ys ry, past-head x xs ys (rising-above x xs rx))
       by more false is true less = absurd (lower x y xs ys ry less (same x.0))
       by more false is false less = absurd (lower y x ys xs rx (key_lt-swap x.0 y.0 is less) (sym (same y.0)))
 

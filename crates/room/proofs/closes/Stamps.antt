@@ -3,7 +3,7 @@ use Rattle.std.proofs.Common.{◌≡◌, ◌≢◌, ℕ, ◌-◌, ◌<◌, ◌�
 use Rattle.std.proofs.Math.Bridge.{le_prop}
 use Rattle.std.proofs.Math.Logic.{∥∥₁_elim, ∥∥₁_map}
 use Rattle.std.proofs.Math.Nat.{ℕ_set}
-use Rattle.std.proofs.lemmas.Bool.{and_parts, cases_lt, eq-eqb, eqb-true, leb-true, not-true}
+use Rattle.std.proofs.lemmas.Bool.{and_parts, cases_lt, eq-eqb, eqb-true, leb-true}
 use Rattle.std.proofs.lemmas.List.Sums.{sum_by-cons}
 use Rattle.std.specs.Prelude.{Option, Some, None, Result, Err, nat_eq, nat_le, find, sum_by}
 use Rattle.std.specs.List.{list_all, list_any}
@@ -113,9 +113,7 @@ module _ (old : Sessions) (before : Device) (q : State) (n : ℕ) (shown : Sessi
   by-timestamp =
       let some : list_any (λ e. not (is_stamped e) && nat_eq e.commit.timestamp d.timestamp) q.drawn ≡ true =
       find-any (λ (e : PlainDrawn). not (is_stamped e)) (λ e. nat_eq e.commit.timestamp d.timestamp) q.drawn (plain_drawn d) plain-first (eq-eqb d.timestamp d.timestamp refl) in
-      let one = any-by_timestamp (λ e. not (is_stamped e) && nat_eq e.commit.timestamp d.timestamp) q.drawn shown.upholds.keeps.draws.rising some in
-      let both = and_parts (not (is_stamped one.0)) (nat_eq one.0.commit.timestamp d.timestamp) one.2 in
-      (one.0, ap (λ (u : ℕ). drawn_at q u) (sym (eqb-true one.0.commit.timestamp d.timestamp both.1)) ∙ one.1, not-true (is_stamped one.0) both.0)
+      grind (arith, any-by_timestamp, and_parts, eqb-true) steps 500000
 
   -- so its session may stamp
   allowed : allows (step.Stamp n) (standing_of q (Drew d.timestamp)) ≡ true
@@ -186,11 +184,7 @@ module _ (old : VolatileState) (new : Sessions) (before now : Device) (n : ℕ) 
           record {
             shows = record {
               shown = to.1.shows;
-              cycle_is =
-                  let before_it : HoldsCycle q old.sessions.drawn.commits q.hand None = subst (HoldsCycle q old.sessions.drawn.commits q.hand) rests shown.cycle_is in
-                  let hand : to.0.hand ≡ q.hand = ap (λ (p : State). p.hand) same in
-                  subst (HoldsCycle to.0 new.drawn.commits to.0.hand) (sym rests)
-                  (subst (λ (h : Option Hand). HoldsCycle to.0 new.drawn.commits h None) (sym hand) (still-none q to.0 old.sessions.drawn.commits new.drawn.commits q.hand before_it));
+              cycle_is = grind (arith);
             };
             works = ap (λ (p : State). p.failed) same ∙ works;
             closes = subst (λ (p : State). ClosesAs q p) (sym same) (closes-on.stamp q n);

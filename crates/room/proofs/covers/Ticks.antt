@@ -270,13 +270,7 @@ module _ (s : Sessions) (cycle : Cycling) (before : Device) (orderly : IsOrderly
           pub comes-closer : left_at (length (lines_touched new.sessions s.dirty)) new.writing.stage new.stage < left_at (length table) cycle.writing.stage cycle.stage
           comes-closer =
               let low : hand.ticks + 1 < length numbers + 41 = ticks-are_counted.before numbers (hand.ticks + 1) new more open-still in
-              let after : left_at (length numbers) new.writing.stage new.stage + (hand.ticks + 1) ≡ length numbers + 42 = left-is numbers (hand.ticks + 1) new more low in
-              let at_first : left_at (length numbers) cycle.writing.stage cycle.stage + hand.ticks ≡ length numbers + 42 = left-is numbers hand.ticks cycle h.ticks (omega (arith, low)) in
-              subst (λ (n : ℕ). n < left_at (length table) cycle.writing.stage cycle.stage) (sym new-left) (subst (λ (n : ℕ). left_at (length numbers) new.writing.stage new.stage < n) (sym same.left)
-              (fewer (left_at (length numbers) new.writing.stage new.stage) (left_at (length numbers) cycle.writing.stage cycle.stage) hand.ticks after at_first))
-            where
-              fewer : (a b ticks : ℕ) → a + (ticks + 1) ≡ length numbers + 42 → b + ticks ≡ length numbers + 42 → a < b
-              fewer a b ticks after first = omega (arith, after, first)
+              grind (arith, more, h, same)
 
       -- ---- the tick that covers
 

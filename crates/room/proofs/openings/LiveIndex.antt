@@ -8,7 +8,7 @@ use Rattle.std.proofs.lemmas.List.Elements.{Contains-append_left, Contains-appen
 use Rattle.base.specs.declared.key.Key.{Key}
 use Rattle.base.specs.Keys.{key_eq, lookup_key}
 use Rattle.base.specs.Images.{Image, key_of}
-use Rattle.base.proofs.Keys.{key_eq-true, key_eq-same}
+use Rattle.base.proofs.Keys.{key_eq-true}
 use Rattle.index.specs.declared.entry.Entry.{Entry}
 use Rattle.index.specs.Entries.{blank, entry_at, ArePlaced}
 use Rattle.recovery.specs.declared.examining.Examined.{Examined}
@@ -103,10 +103,7 @@ one-more t live rest = record {
 
     has : (s : LiveSlot) → Contains (t ∷ live) s → (b : Bool) → key_eq t.key s.key ≡ b → is_some (unwrap_or (cond b (Some (entry_of t).1) (lookup_key (map entry_of live) s.key)) blank).newest ≡ true
     has s c true is = refl
-    has s c false is = elim (Contains-append_cases (t ∷ []) live s c) [
-      | inl here ↦ absurd (true≢false (sym (ap (λ (x : LiveSlot). key_eq t.key x.key) (sym (one-in t s here)) ∙ key_eq-same t.key) ∙ is))
-      | inr later ↦ rest.each s later
-    ]
+    has s c false is = grind (arith)
 
 listed : (live : List LiveSlot) → HasListed live (map entry_of live)
 listed [] = grind (arith, none-in) steps 800000

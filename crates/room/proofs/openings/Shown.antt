@@ -8,7 +8,7 @@ use Rattle.std.proofs.lemmas.List.FromFn.{length-map-range_with_len, get_or-map-
 use Rattle.base.specs.declared.key.Key.{Key}
 use Rattle.base.specs.declared.gap.Gap.{Gap}
 use Rattle.base.specs.Commits.{Commit}
-use Rattle.base.specs.Layout.{Layout, slot_start, slot_words, total_words, is_between, is_known_version}
+use Rattle.base.specs.Layout.{Layout, slot_words, total_words, is_between, is_known_version}
 use Rattle.base.specs.Records.{Record, opened_gaps}
 use Rattle.base.specs.Images.{Image, IsSound, layout_of, ruling, is_shown, IsRuledBy}
 use Rattle.base.specs.Stands.{Stands}
@@ -72,9 +72,7 @@ found-alike : (before image : Image) (free : List Bool) (index : List (Key × En
 found-alike before image free index like wide found = record {
   nothing_else = found.nothing_else;
   newest = λ key slot is. let at = found.newest key slot is in (at.0, at.1, key-same before image like slot at.0 wide ∙ at.2);
-  each = λ slot lt taken fits.
-      let known = found.each slot lt taken (sym (misfit-same before image like slot lt wide) ∙ fits) in
-      subst (λ (key : Key). is_some (entry_at index key).newest ≡ true) (sym (key-same before image like slot lt wide)) known;
+  each = λ slot lt taken fits. grind (arith, misfit-same);
 }
 
 -- the same slots are free
@@ -125,11 +123,7 @@ module _ (old new : Device) (layout : Layout) (r : Record) (next : ℕ) (free : 
   rows-now = record {
     size = image_size new ∙ new-words ∙ sym (image_size old) ∙ sym up.size;
     laid_out = layout-now;
-    same = λ slot w lt low high.
-        ap (λ (l : Layout). get_or (image_of new) (slot_start l slot + w) 0) (layout-now ∙ sym layout_is)
-        ∙ slot-now slot w (subst (λ (l : Layout). slot < l.slots) (sym layout_is) lt) (subst (λ (l : Layout). w < slot_words l.version) (sym layout_is) high)
-        ∙ ap (λ (l : Layout). get_or (opened_slots image) (slot_start l slot + w) 0) (layout_is ∙ sym (opened-rows image).laid_out)
-        ∙ (opened-rows image).same slot w lt low high;
+    same = λ slot w lt low high. grind (arith, layout-now, layout_is, slot-now, opened-rows);
   }
 
   wide : 8 ≤ slot_words (layout_of image).version

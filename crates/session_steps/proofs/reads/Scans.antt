@@ -46,10 +46,6 @@ laid n writes tables = overlaid (plain_writes (take n writes)) tables
 unwrapped : (b : Bool) (row : Option (List ℕ)) (o : Option (Option (List ℕ))) (rest : Option (List ℕ)) → unwrap_or (cond b (Some row) o) rest ≡ cond b row (unwrap_or o rest)
 unwrapped a row o rest = grind (arith)
 
--- of two tests that never both pass either may come first
-swapped : (a b : Bool) (x y z : Option (List ℕ)) → (a ≡ true → b ≡ true → ⊥) → cond a x (cond b y z) ≡ cond b y (cond a x z)
-swapped a b x y z never = grind (arith)
-
 -- one write more is laid over those before it
 laid-next : (writes : List Write) (i : ℕ) (write : Write) (tables : Tables) (key : Key) → IsRising writes → slice_get writes i ≡ Some write
     → laid (suc i) writes tables key ≡ cond (key_eq write.key key) write.row (laid i writes tables key)

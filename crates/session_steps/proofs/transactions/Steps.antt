@@ -173,9 +173,6 @@ asks : (s : Sessions) (n : ℕ) (t : Transaction) (answer : SessionReply) (h : H
     → as_reply answer ≡ polled (plain_of s h) (Some (plain_session (h.seen n) t)) → Holds s h → Goes s s (Poll n) answer h
 asks s n t answer h at lets is holds = grind (arith, same-drawers, passes, found) steps 800000
 
-lets-poll : (n : ℕ) (a b : Bool) → allows (step.Poll n) (cond a IsCovered (cond b IsStamped IsDrawn)) ≡ true
-lets-poll n a b = grind (arith)
-
 -- its commit waits to be covered
 pub polls-waiting : (s : Sessions) (n t : ℕ) (h : Hidden) → transaction_at s.transactions n ≡ Some (Drawn t) → is_some (commit_at t s.drawn.commits) ≡ true → Holds s h → Goes s s (Poll n) Waiting h
 polls-waiting s n t h at is holds = grind (arith, asks s n (Drawn t) Waiting h at, covered-or-drawn s h n t holds at)

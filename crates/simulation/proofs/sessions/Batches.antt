@@ -96,9 +96,6 @@ none-on key p (d ∷ ds) all = by (p d) both.0 (none-on key p ds both.1)
     by true un rest = ap (λ (o : Option ℕ). option_or o (cond (writes_key key d.commit) (Some d.commit.timestamp) None)) rest ∙ unwritten (writes_key key d.commit) un
     by false un rest = rest
 
-none-on_all : (key : Key) (ds : List Drawn) → list_all (λ (d : Drawn). not (writes_key key d.commit)) ds ≡ true → last_on key (commits ds) ≡ None
-none-on_all key ds all = ap (λ (es : List Drawn). last_on key (commits es)) (sym (filter-all ds)) ∙ none-on key (λ d. true) ds all
-
 -- where no two of them write one key, those that pass may come before the others
 last-split : (key : Key) (p : Drawn → Bool) (ds : List Drawn) → are_rising (map time_of ds) ≡ true
     → ((t u : ℕ) (d e : Drawn) → find (λ (x : Drawn). nat_eq x.commit.timestamp t) ds ≡ Some d → find (λ (x : Drawn). nat_eq x.commit.timestamp u) ds ≡ Some e → writes_key key d.commit ≡ true → writes_key key e.commit ≡ true → t ≡ u)

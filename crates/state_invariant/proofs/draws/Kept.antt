@@ -166,9 +166,6 @@ module _ (o : Origin) (q : State) (n : ℕ) (write : Key × Option (List ℕ)) (
       further : (d : Drawn) → (not (is_committed q.ruling d.commit.timestamp) && nat_lt d.commit.timestamp q.next) ≡ true → (not (is_committed q.ruling d.commit.timestamp) && nat_lt d.commit.timestamp (q.next + 1)) ≡ true
       further d e = grind (arith, and_parts, ltb-true, and_from, lt-ltb)
 
-  writes-new : (key : Key) → writes_key key newest.commit ≡ true → is_some (lookup_key (writes_of (q.sessions n)) key) ≡ true
-  writes-new key writes = ap (λ (ws : Writes). is_some (lookup_key ws key)) has_writes ∙ writes
-
   is-new : (d : Drawn) → drawn_at then q.next ≡ Some d → newest ≡ d
   is-new d found = let same : Some newest ≡ Some d = sym (found-new o q (write ∷ rest) kept.numbers) ∙ found in cc same
 

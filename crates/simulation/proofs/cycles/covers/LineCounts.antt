@@ -106,9 +106,6 @@ module _ (o : Origin) (q : State) (commits : List Commit) (kept : Keeps o q) (dr
       (λ c. sum-plus (λ (w : Wrote). owned q commits w.0 v) (λ (w : Wrote). ended q commits w.0 v) c.writes)
       ∙ sum-plus (λ (c : Commit). sum_by (λ (w : Wrote). owned q commits w.0 v) c.writes) (λ (c : Commit). sum_by (λ (w : Wrote). ended q commits w.0 v) c.writes) commits
 
-  length-own : (slot : ℕ) → length (flat_map (λ part. line_at slot part ∷ []) (range_with_len 0 (version_lines q.layout))) ≡ version_lines q.layout
-  length-own slot = ap length (flat_map_single (line_at slot) (range_with_len 0 (version_lines q.layout))) ∙ length-map (range_with_len 0 (version_lines q.layout)) (line_at slot) ∙ length-range_with_len 0 (version_lines q.layout)
-
   none-lines : (slot : ℕ) → length (of_version q commits slot None) ≡ per_write None
   none-lines slot = sym (sum-zero (λ (c : Commit). sum_by (λ (w : Wrote). owned q commits w.0 None + ended q commits w.0 None) c.writes) commits (λ c. sum-zero (λ (w : Wrote). owned q commits w.0 None + ended q commits w.0 None) c.writes (λ w. refl)))
 
