@@ -5,7 +5,7 @@ use Rattle.std.specs.List.{flat_map, range_with_len}
 use Rattle.std.proofs.lemmas.Bool.{cases_lt}
 use Rattle.std.proofs.lemmas.List.{take_all}
 use Rattle.base.specs.Commits.{Commit}
-use Rattle.base.specs.Layout.{Layout, slot_words, total_words, version_lines}
+use Rattle.base.specs.Layout.{Layout, slot_words, total_words}
 use Rattle.machine.specs.Machine.{State, Hand, lines_of}
 use Rattle.pmem.specs.Device.{Device, IsOrderly, flushed, fenced, failed}
 use Rattle.pmem.specs.Words.{OnlyShrinks, IsSettled}

@@ -1,5 +1,5 @@
 -- Refusals, and the steps that change one transaction alone: Begin, Abort, End; and Poll.
-use Rattle.std.proofs.Common.{◌≡◌, ◌⊎◌, inl, inr, ℕ, Bool, true, false, cond, not, List, [], length, refl, sym, ◌∙◌, ap, subst, nat_eq, arith}
+use Rattle.std.proofs.Common.{◌≡◌, ◌⊎◌, inl, inr, ℕ, Bool, true, false, not, List, [], length, refl, sym, ◌∙◌, ap, subst, nat_eq, arith}
 use Rattle.std.specs.Prelude.{Option, Some, None, is_none, is_some, unwrap_or, All}
 use Rattle.std.specs.Option.{option_map}
 use Rattle.std.proofs.lemmas.Bool.{and_parts}
@@ -17,7 +17,7 @@ use Rattle.base.specs.Steps.{as_step, as_reply}
 use Rattle.base.specs.Stands.{has_timestamp}
 use Rattle.base.specs.Records.{is_committed}
 use Rattle.base.specs.Lists.{replaced}
-use Rattle.machine.specs.Machine.{State, Drawn as PlainDrawn, Active as Reads, IsDrawn, IsStamped, IsCovered, refused, answered, refusal, session_of, allows, standing_of, with_session, drawn_at, polled}
+use Rattle.machine.specs.Machine.{State, Drawn as PlainDrawn, Active as Reads, refused, answered, refusal, session_of, allows, standing_of, with_session, drawn_at, polled}
 use Rattle.base.proofs.Lists.{find-passes}
 use Rattle.snapshot.specs.Snapshots.{Seen, seen_by}
 use Rattle.txn.specs.declared.drawn.DrawnCommit.{DrawnCommit}

@@ -10,7 +10,7 @@ use Rattle.base.specs.Commits.{Commit, writes_key, last_writer}
 use Rattle.base.specs.Records.{is_committed, are_rising}
 use Rattle.base.specs.Stands.{has_timestamp}
 use Rattle.machine.specs.Machine.{State, Drawn, Hand, ByCommit, drawn_at, drawn_of, state_covered}
-use Rattle.base.proofs.Lists.{rising-rest, filter-all}
+use Rattle.base.proofs.Lists.{rising-rest}
 use Rattle.state_invariant.specs.Kept.{Origin, Keeps, KeepsHand, commit_at, commits_of_life, covered_since, version_by}
 use Rattle.state_invariant.proofs.Lists.{find-filter, find-dropped, rising-above, rising-filter}
 use Rattle.state_invariant.proofs.Commits.{commit_at-none, commit_at-drawn, timestamp-all, writer_from, writer-append, writer-none}
