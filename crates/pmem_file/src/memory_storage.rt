@@ -1,8 +1,8 @@
-ghost use Rattle.std.specs.Prelude.{◌≡◌, ◌⊎◌, ℕ, ◌+◌, ◌-◌, ◌<◌, ◌≤◌, length, slice_index, OnSome};
+ghost use Rattle.std.specs.Prelude.{◌≡◌, ◌⊎◌, ℕ, ◌+◌, ◌-◌, ◌%◌, ◌<◌, ◌≤◌, length, slice_index, false, true, None, IfNone, IsBitSet, OnSome, Some};
 ghost use Rattle.journal.specs.Files.{IsInRun};
 ghost use Rattle.journal.specs.Kept.{HoldsOnly, IsFound};
-ghost use Rattle.pmem_file.specs.Memory.{stored_in, IsStored};
-ghost use Rattle.pmem_file.specs.declared.part.Part.TheVariants.{All as AllWords};
+ghost use Rattle.pmem_file.specs.Memory.{calls_left_in, stored_in, torn_in, IsStored};
+ghost use Rattle.pmem_file.specs.declared.part.Part.TheVariants.{All as AllWords, Words};
 
 use crate::journaled::JournaledPmem;
 use crate::part::Part;
@@ -25,7 +25,8 @@ pub struct MemoryStorage {
 impl MemoryStorage {
     /// These words, of which no write fails.
     pub fn new(words: Vec<u64>) -> MemoryStorage
-        ensures { stored_in result ≡ words.items }
+        ensures words { stored_in result ≡ words.items }
+        ensures calls { calls_left_in result ≡ None }
     {
         MemoryStorage {
             words,
@@ -37,7 +38,9 @@ impl MemoryStorage {
     /// The same, with so many writes and syncs until each further one fails. Of each eight words of a write that fails this part is
     /// written.
     pub fn failing_after(self, calls: usize, torn: Part) -> MemoryStorage
-        ensures { stored_in result ≡ stored_in self }
+        ensures words { stored_in result ≡ stored_in self }
+        ensures calls { calls_left_in result ≡ Some calls }
+        ensures torn { torn_in result ≡ torn }
     {
         MemoryStorage {
             words: self.words,
@@ -57,7 +60,11 @@ impl MemoryStorage {
 
     // Whether a write or a sync succeeds, of which one less does so from now on.
     fn take_call(&mut self) -> bool
-        ensures { stored_in self.new ≡ stored_in self.old }
+        ensures words { stored_in self.new ≡ stored_in self.old }
+        ensures torn { torn_in self.new ≡ torn_in self.old }
+        ensures unlimited { calls_left_in self.old ≡ None → (result ≡ true) × (calls_left_in self.new ≡ None) }
+        ensures one_less { (left : ℕ) → calls_left_in self.old ≡ Some (1 + left) → (result ≡ true) × (calls_left_in self.new ≡ Some left) }
+        ensures none_left { calls_left_in self.old ≡ Some 0 → (result ≡ false) × (calls_left_in self.new ≡ Some 0) }
     {
         match self.left {
             None => true,
@@ -147,6 +154,9 @@ impl Storage for MemoryStorage {
 fn write_words(into: &mut Vec<u64>, start: usize, words: &[u64], part: Part) -> Option<()>
     ensures puts { (word : ℕ) → IsInRun start words.now word (slice_index into.new.items word) ⊎ (slice_index into.new.items word ≡ slice_index into.old.items word) }
     ensures whole { OnSome result (part ≡ AllWords → (word : ℕ) → start ≤ word → word < start + length words.now → slice_index into.new.items word ≡ slice_index words.now (word - start)) }
+    ensures torn { OnSome result ((set place : ℕ) → part ≡ Words set → place < length words.now → IsBitSet set (place % 8) → slice_index into.new.items (start + place) ≡ slice_index words.now place) }
+    ensures left { (set place : ℕ) → part ≡ Words set → place < length words.now → ¬ IsBitSet set (place % 8) → slice_index into.new.items (start + place) ≡ slice_index into.old.items (start + place) }
+    ensures outside { IfNone result ((length into.old.items < start + length words.now) × (into.new ≡ into.old)) }
 {
     if words.len() > into.len() || start > into.len() - words.len() {
         return None;

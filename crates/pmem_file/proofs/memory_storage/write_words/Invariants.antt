@@ -1,7 +1,5 @@
-use Rattle.std.specs.Prelude.{◌≡◌}
-use Rattle.pmem_file.specs.declared.part.Part.TheVariants.{All as AllWords}
 use Rattle.pmem_file.proofs.Stored.{IsStoring}
 use Rattle.pmem_file.proofs.memory_storage.write_words.Given as goal
 
 abbrev pub invariant-loop-place : goal.invariant-loop-place
-invariant-loop-place l = IsStoring (l.fn.part ≡ AllWords) l.fn.into.items l.into.items l.fn.words l.fn.start l.place
+invariant-loop-place l = IsStoring l.fn.part l.fn.into.items l.into.items l.fn.words l.fn.start l.place
