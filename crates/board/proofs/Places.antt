@@ -47,11 +47,6 @@ version_changed es fs p w h k s =
 drop_at : {A : Type 0} (xs : List A) (i : ℕ) (x : A) → x ≡ get_or xs i x → i < length xs → drop i xs ≡ x ∷ drop (i + 1) xs
 drop_at xs i x is lt = drop-cons xs i x lt ∙ (ap (λ y. y ∷ drop (suc i) xs) (sym is) ∙ rw add-one refl)
 
-pub entered_next : (ws : List (Key × Option (List ℕ))) (i j : ℕ) (x : Key × Option (List ℕ)) (k : Key) (there : Bool) (old now next : Option (Option (List ℕ))) → x ≡ get_or ws i x → i < length ws → j ≡ i + 1
-    → now ≡ (if there then option_or (lookup_key (drop j ws) k) old else old) → next ≡ (if key_eq x.0 k && there then Some x.1 else now)
-    → next ≡ (if there then option_or (lookup_key (drop i ws) k) old else old)
-entered_next ws i j x k there old now next is lt n before after = grind (arith, drop_at)
-
 pub forgotten_write : (ws : List (Key × Option (List ℕ))) (i : ℕ) (x : Key × Option (List ℕ)) (k : Key) (there : Bool) (now next : Option (Option (List ℕ))) → x ≡ get_or ws i x → i < length ws
     → next ≡ (if key_eq x.0 k && there then None else now)
     → (if is_some (lookup_key (drop (i + 1) ws) k) && there then None else next) ≡ (if is_some (lookup_key (drop i ws) k) && there then None else now)

@@ -1,7 +1,6 @@
 -- What the answers of one reader have to do with one another.
-use Rattle.std.proofs.Common.{◌≡◌, ◌⊎◌, inl, inr, ℕ, ◌≤◌, ◌<◌, Bool, true, false, nat_lt, if◌then◌else◌, List, Option, Result, Ok, Err, refl, sym, ap, ◌∙◌, ⊎_elim, arith}
+use Rattle.std.proofs.Common.{◌≡◌, ◌⊎◌, inl, inr, ℕ, ◌≤◌, ◌<◌, Bool, true, false, nat_lt, if◌then◌else◌, List, Option, Ok, Err, refl, sym, ap, ◌∙◌, ⊎_elim, arith}
 use Rattle.std.proofs.lemmas.Bool.Decides.{nat_tests}
-use Rattle.base.specs.declared.fault.Fault.{Fault}
 use Rattle.base.specs.declared.fault.Fault.TheVariants.{Shut, TooOld, NotYet}
 use Rattle.base.specs.declared.key.Key.{Key}
 use Rattle.base.specs.Published.{Published, last_stamp, row_at}
@@ -19,14 +18,6 @@ answers_agree before seen later last stamp key row other first on second =
     let a = answered seen stamp key row first.replied in
     let b = answered last stamp key other second.replied in
     b.1 ∙ (rows_stay seen last second.published (begins_on seen later last on second.begins) stamp key a.0 ∙ sym a.1)
-
-abbrev low_of : Result (ℕ × ℕ) Fault → ℕ
-low_of (Ok pair) = pair.0
-low_of (Err fault) = 0
-
-abbrev high_of : Result (ℕ × ℕ) Fault → ℕ
-high_of (Ok pair) = pair.1
-high_of (Err fault) = 0
 
 pub time_rises : TimeRises
 time_rises before seen later last low high floor top first on second = grind (arith, stamps_stay seen last second.published (begins_on seen later last on second.begins))

@@ -1,7 +1,6 @@
 -- From the parts of a life to the whole.
 use Rattle.std.proofs.Common.{◌≡◌, ℕ, ◌-◌, List, [], ◌∷◌, ◌++◌, refl, sym, ◌∙◌, ap, subst}
 use Rattle.std.specs.Prelude.{Option, Some, None, codes}
-use Rattle.base.specs.declared.gap.Gap.{Gap}
 use Rattle.base.specs.Commits.{Commit}
 use Rattle.base.specs.Images.{Image, layout_of}
 use Rattle.base.specs.Layout.{Layout, opened_layout}
@@ -14,7 +13,7 @@ use Rattle.room.specs.Room.{Shows, device_of}
 use Rattle.room.specs.declared.room.Room.{Room}
 use Rattle.command_line.specs.ImageFile.{HoldsWords, IsFileOf}
 use Rattle.command_line.specs.Numbers.{Text}
-use Rattle.command_line.specs.Texts.{opened_line, closed_line, survivor_text}
+use Rattle.command_line.specs.Texts.{closed_line, survivor_text}
 use Rattle.command_line.specs.declared.command.Survivor.{Survivor}
 use Rattle.console.specs.Kept.{Extends, HasClosed, IsFileWith, KeepsHistories, Leads}
 use Rattle.console.specs.Lives.{Ends, IsBegun, IsLife, Lives, opened_text}
@@ -22,10 +21,6 @@ use Rattle.console.specs.Obeyed.{ObeysLines}
 use Rattle.console.proofs.Grown.{grows-lines}
 use Rattle.console.proofs.KeptHistory.{keeps-at, keeps-closed}
 use Rattle.console.proofs.Files.{one_image}
-
-pub opened-so : (q : State) (gate persisted dirty next : ℕ) (gaps : List Gap) → gate ≡ q.ruling.gate → persisted ≡ q.ruling.persisted → dirty ≡ q.ruling.dirty → next ≡ q.next → gaps ≡ q.ruling.gaps
-    → opened_line gate persisted dirty next gaps ++ 10 ∷ [] ≡ opened_text q ++ 10 ∷ []
-opened-so q gate persisted dirty next gaps a b c d e = rw (a, b, c, d, e) refl
 
 pub ends-stopped : {D : Type 0} {G : Ghosts D} (state : D → Device) (room : Room D G) (device : Device) (image : Image) (file : List ℕ) (keeps : Survivor) (q : State)
     → device ≡ device_of state room → MayLeave device image → IsFileOf image file → Shows state room q

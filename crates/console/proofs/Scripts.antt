@@ -1,8 +1,8 @@
 -- How a script ends that is none, and how the lines of lives add up.
-use Rattle.std.proofs.Common.{◌≡◌, ◌≤◌, ◌<◌, ◌+◌, ℕ, List, [], ◌∷◌, ◌++◌, length, drop, get_or, refl, sym, ap, subst, ◌∙◌, arith, append_assoc, append-nil}
+use Rattle.std.proofs.Common.{◌≡◌, ◌<◌, ◌+◌, ℕ, List, ◌∷◌, ◌++◌, length, drop, get_or, sym, ap, ◌∙◌, arith, append_assoc}
 use Rattle.std.specs.Prelude.{Option, Result, OnOk}
 use Rattle.std.specs.Io.KnownBytes.{Appends}
-use Rattle.std.proofs.lemmas.List.{drop_more, length-drop}
+use Rattle.std.proofs.lemmas.List.{drop_more}
 use Rattle.command_line.specs.Numbers.{Text}
 use Rattle.lives.specs.declared.life.LifeReport.{LifeReport}
 use Rattle.console.specs.Scripts.{life_text, lives_text}
@@ -18,18 +18,6 @@ lives-go-on said i n reports report all more is whole =
     let left : drop i reports ≡ report ∷ drop (i + 1) reports = drop_more reports i report more ∙ ap (λ r. r ∷ drop (i + 1) reports) (sym is) in
     append_assoc said (life_text n report) (lives_text (n + 1) (drop (i + 1) reports))
     ∙ (ap (λ l. said ++ l) (sym (ap (λ r. lives_text n r) left)) ∙ whole)
-
-lives-none : (n : ℕ) (reports : List LifeReport) → length reports ≤ 0 → lives_text n reports ≡ []
-lives-none n [] h = refl
-lives-none n (report ∷ reports) h = absurd (omega (arith, h))
-
--- all lives are printed
-pub lives-end : (said : Text) (i n : ℕ) (reports : List LifeReport) (all : Text) (old new : Option Text)
-    → length reports ≤ i → said ++ lives_text n (drop i reports) ≡ all → Appends old new said → Appends old new all
-lives-end said i n reports all old new done whole says =
-    let left = length-drop i reports in
-    let none : lives_text n (drop i reports) ≡ [] = lives-none n (drop i reports) (omega (arith, left, done)) in
-    subst (Appends old new) (sym (append-nil said) ∙ (ap (λ l. said ++ l) (sym none) ∙ whole)) says
 
 -- ---- what a last call prints
 

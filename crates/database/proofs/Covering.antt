@@ -14,7 +14,7 @@ use Rattle.machine.specs.Machine.{State, Session, Stepped, polled, state_drawn, 
 use Rattle.pmem.specs.Device.{Device, IsOrderly}
 use Rattle.pmem.specs.declared.device.Pmem.{Ghosts}
 use Rattle.room.specs.declared.room.Room.{Room}
-use Rattle.room.specs.Room.{Shows, RunsTo, Leads}
+use Rattle.room.specs.Room.{RunsTo, Leads}
 use Rattle.room.proofs.Runs.{run-none, run-then}
 use Rattle.database.specs.Replies.{committed_of, drawn_of, stamped_of}
 use Rattle.database.specs.declared.opened.OpenedRoom.{OpenedRoom}
@@ -93,17 +93,6 @@ stamps-as state old new n result other stamps is = subst (λ r. StampsAll state 
 
 -- ---- a poll
 
--- whether a timestamp is reported, and which
-abbrev is_reported : Result (Option ℕ) Fault → Bool
-is_reported (Ok (Some t)) = true
-is_reported (Ok None) = false
-is_reported (Err fault) = false
-
-abbrev reported_time : Result (Option ℕ) Fault → ℕ
-reported_time (Ok (Some t)) = t
-reported_time (Ok None) = 0
-reported_time (Err fault) = 0
-
 no_time : {A : Type 0} → true ≡ false → A
 no_time e = grind (arith)
 
@@ -116,14 +105,6 @@ polled_covered q a t is = grind (arith, no_time)
 -- a poll that reports a timestamp finds it covered
 covered_by_poll : (q q' : State) (n t : ℕ) (reply : Reply) → Stepped q (Poll n) reply q' → told t ≡ committed_of reply → has_timestamp q'.history t ≡ true
 covered_by_poll q q' n t reply a tells = grind (arith, no_time, polled_covered)
-
--- a poll changes nothing
-same_by_poll : (q q' : State) (n : ℕ) (reply : Reply) → Stepped q (Poll n) reply q' → q' ≡ q
-same_by_poll q q' n reply a = grind (arith, no_time)
-
-pub stays-polled : {D A : Type 0} → {G : Ghosts D} → (state : D → Device) (old new : Room D G) (n : ℕ) (read : Reply → Result A Fault) (result : Result A Fault)
-    → Obeys state old new (Poll n) read result → (q : State) → Shows state old q → Shows state new q
-stays-polled state old new n read result obeys q shows = grind (arith, same_by_poll q (obeys.1 q shows).0 n obeys.0 (obeys.1 q shows).1.stepped)
 
 -- an end leaves the history and what is drawn as they are
 history_by_end : (q q' : State) (n : ℕ) (reply : Reply) → Stepped q (End n) reply q' → q'.history ≡ q.history

@@ -10,10 +10,7 @@ use Rattle.board.specs.declared.history.Naming.{Ghosts as Names}
 use Rattle.engine.specs.declared.origin.Origin.{Ghosts as Origins}
 use Rattle.audited.specs.declared.receipt.Receipt.{Receipt}
 use Rattle.engine.specs.declared.session.Session.{Session}
-use Rattle.base.specs.declared.step.Step.{Step}
-use Rattle.base.specs.declared.step.Note.{Note}
-use Rattle.std.proofs.lemmas.Bool.Decides.{nat_tests}
-use Rattle.engine.specs.Agreement.{count_at, receipts_in, AreOnce, IsOnceAt}
+use Rattle.engine.specs.Agreement.{count_at, receipts_in}
 
 pub receipts_more : {D J B : Type 0} {G : Ghosts D} {N : Origins J} {M : Names J} (sessions : List (Session D J B G N M)) (i : ℕ) (s : Session D J B G N M) → i < length sessions → s ≡ slice_index_or sessions i s
     → receipts_in (take (i + 1) sessions) ≡ receipts_in (take i sessions) ++ s.receipts.items
@@ -53,7 +50,3 @@ All-session {D} {J} {B} {G} {N} {M} P sessions i s less at all =
   where
     parts : receipts_in sessions ≡ receipts_in (take (i + 1) sessions) ++ receipts_in (drop (i + 1) sessions)
     parts = ap receipts_in (sym (take-append-drop (i + 1) sessions)) ∙ flat_map-append (λ (x : Session D J B G N M). x.receipts.items) (take (i + 1) sessions) (drop (i + 1) sessions)
-
--- the places go on by one
-pub Once-more : (entries : List (Step × Note)) (first place : ℕ) (receipts : List Receipt) → AreOnce entries first place receipts → IsOnceAt entries receipts place → AreOnce entries first (place + 1) receipts
-Once-more entries first place receipts before here at from to = grind (arith, nat_tests)

@@ -3,11 +3,10 @@ use Rattle.std.proofs.Common.{◌≡◌, ◌∙◌, refl, sym, ap, subst, arith}
 use Rattle.std.proofs.Math.Logic.{∥∥₁_map}
 use Rattle.std.specs.Option.{ForSome}
 use Rattle.std.specs.Prelude.{Option, Some, None}
-use Rattle.base.specs.declared.fault.Fault.TheVariants.{OutOfMemory}
 use Rattle.base.specs.declared.step.Step.{Step}
 use Rattle.base.specs.declared.step.Note.{Note}
 use Rattle.base.specs.declared.step.Reply.{Reply}
-use Rattle.base.specs.declared.step.Reply.TheVariants.{Covered, Refused}
+use Rattle.base.specs.declared.step.Reply.TheVariants.{Covered}
 use Rattle.base.specs.Published.{Published}
 use Rattle.base.specs.Batches.{Batch}
 use Rattle.base.specs.Images.{Image}
@@ -39,10 +38,6 @@ covered-by state image lent old new step reply from is leads batch covers =
             (r.start, r.now, s.0, r.opens, r.run, subst (λ (told : Reply). Stepped r.now step told s.0) covers s.1.stepped);
       },
     ))
-
--- a step that wanted memory covered none
-pub memory-covers : (image : Image) (reply : Reply) → reply ≡ Refused OutOfMemory → (batch : Batch) → reply ≡ Covered batch → HasCovered image batch
-memory-covers image reply is batch covers = grind (arith)
 
 note-kept : (image : Image) (made : Option (Reply × Option Receipt)) (reply : Reply) (kept : Option Receipt) (receipt : Receipt) → ForSome made (IsTurn image) → made ≡ Some (reply, kept) → kept ≡ Some receipt → receipt.note ≡ note_of reply
 note-kept image made reply kept receipt turn is has = some_is (λ (r : Receipt). r.note ≡ note_of reply) kept receipt (turn (reply, kept) is).note has

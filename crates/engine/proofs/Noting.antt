@@ -1,5 +1,5 @@
 -- What is due once a reply was noted.
-use Rattle.std.proofs.Common.{◌≡◌, ℕ, Bool, true, false, not, ◌&&◌, ◌||◌, if◌then◌else◌, List, refl, sym, subst, arith}
+use Rattle.std.proofs.Common.{◌≡◌, ℕ, Bool, true, false, not, ◌&&◌, ◌||◌, if◌then◌else◌, List, sym, subst, arith}
 use Rattle.std.specs.Prelude.{MatchOption, Option, Some}
 use Rattle.base.specs.declared.gap.Gap.{Gap}
 use Rattle.base.specs.declared.step.Reply.{Reply}
@@ -7,7 +7,7 @@ use Rattle.machine.specs.Machine.{State}
 use Rattle.room.specs.declared.status.Status.{Status}
 use Rattle.room.specs.Room.{ShowsStatus}
 use Rattle.engine.specs.declared.due.Due.{Due}
-use Rattle.engine.specs.Due.{covered_after, due_after, goes_on, has_reason, tick_after, wakes_waiting, wanted_after, wants_record, wants_record_of}
+use Rattle.engine.specs.Due.{covered_after, due_after, goes_on, tick_after, wakes_waiting, wanted_after, wants_record, wants_record_of}
 
 -- what was taken in of the reply
 pub record IsTakenIn (old mid : Due) (reply : Reply) : Type 0 where
@@ -27,14 +27,6 @@ pub record IsWanted (mid new : Due) : Type 0 where
   pub tick : new.tick ≡ mid.tick
   pub covered : new.covered ≡ if mid.visit then mid.covered else 0
   pub wanted : new.is_slot_wanted ≡ if mid.visit then mid.is_slot_wanted else false
-
--- where there is reason for a round
-pub round-due : (old mid new : Due) (reply : Reply) (enough : ℕ) → IsTakenIn old mid reply → IsWanted mid new → has_reason enough old reply ≡ true → new ≡ due_after old reply false enough
-round-due old mid new reply enough taken wanted reason = by (goes_on old reply) refl
-  where
-    by : (b : Bool) → goes_on old reply ≡ b → new ≡ due_after old reply false enough
-    by true is = grind (arith, taken.tick, taken.visit, taken.covered, taken.wanted, taken.committer, taken.collector, taken.waiting, wanted.visit, wanted.collector, wanted.others, wanted.tick, wanted.covered, wanted.wanted)
-    by false is = grind (arith, taken.tick, taken.visit, taken.covered, taken.wanted, taken.committer, taken.collector, taken.waiting, wanted.visit, wanted.collector, wanted.others, wanted.tick, wanted.covered, wanted.wanted)
 
 -- a reply that makes a record due leaves a tick due or not, as it was
 wants-same : (reply : Reply) (dirty : ℕ) (gaps : List Gap) (next window : ℕ) → wants_record_of reply dirty gaps next window ≡ true → (due : Bool) → tick_after due reply ≡ due

@@ -1,6 +1,6 @@
 -- Places that rise.
 use Rattle.std.proofs.Common.{◌≡◌, ℕ, ◌+◌, ◌≤◌, List, [], ◌∷◌, ◌++◌, refl, subst, arith}
-use Rattle.std.specs.Prelude.{true, nat_le, Option, Some, None, IfSome, IfNone}
+use Rattle.std.specs.Prelude.{true, nat_le, Option, Some, IfSome}
 use Rattle.std.proofs.lemmas.Bool.Decides.{nat_tests}
 use Rattle.std.proofs.lemmas.Bool.{and_from, and_parts}
 use Rattle.audited.specs.declared.receipt.Receipt.{Receipt}
@@ -18,6 +18,3 @@ rises-append least (x ∷ rs) r h le =
 
 pub some_is : {A : Type 0} (P : A → Type 0) (o : Option A) (x : A) → IfSome o P → o ≡ Some x → P x
 some_is {A} P o x p is = subst (λ (a : Option A). IfSome a P) is p
-
-pub none_is : {A : Type 0} {Q : Type 0} (o : Option A) → IfNone o Q → o ≡ None → Q
-none_is {A} {Q} o q is = subst (λ (a : Option A). IfNone a Q) is q

@@ -7,12 +7,9 @@ use Rattle.base.specs.Images.{Image}
 use Rattle.pmem.specs.Device.{Device}
 use Rattle.pmem.specs.declared.device.Pmem.{Ghosts}
 use Rattle.audited.specs.Audit.{IsAudited}
-use Rattle.base.specs.declared.step.Step.{Step}
-use Rattle.base.specs.declared.step.Reply.{Reply}
 use Rattle.audited.specs.declared.audited.Audited.{Audited}
-use Rattle.audited.specs.declared.receipt.Receipt.{Receipt}
 use Rattle.engine.specs.Origins.{IsFrom}
-use Rattle.engine.specs.Lending.{HasMade, Makes, MakesOnly}
+use Rattle.engine.specs.Lending.{HasMade}
 
 pub from-stepped : {D : Type 0} {G : Ghosts D} (state : D → Device) (image : Image) (lent : Option (Audited D G)) (old new : Audited D G)
     → ForSome lent (IsFrom state image) → lent ≡ Some old
@@ -25,9 +22,3 @@ from-stepped {D = D} {G = G} state image lent old new from is steps x same =
 pub made-here : {D : Type 0} {G : Ghosts D} (steps : ℕ) (lent seen : Option (Audited D G)) (audited : Audited D G) → HasMade steps lent → seen ≡ lent → seen ≡ Some audited
     → steps ≤ length audited.entries.items
 made-here {D = D} {G = G} steps lent seen audited has same is = let P : Option (Audited D G) → Type 0 = λ o. HasMade steps o in subst P (sym same ∙ is) has
-
--- what was made of the room that was there
-pub makes-only : {D : Type 0} {G : Ghosts D} (state : D → Device) (lent : Option (Audited D G)) (old new : Audited D G) (step : Step) (reply : Reply) (receipt told : Option Receipt)
-    → lent ≡ Some old → receipt ≡ told → Makes state old new step reply receipt → MakesOnly state lent (Some new) step reply told
-makes-only {D = D} {G = G} state lent old new step reply receipt told is same made =
-    subst (λ (o : Option (Audited D G)). MakesOnly state o (Some new) step reply told) (sym is) (subst (λ (r : Option Receipt). Makes state old new step reply r) same made)

@@ -11,8 +11,8 @@ use Rattle.journal.specs.Several.{journal}
 use Rattle.journal.specs.LinePayloads.{payloads_of_lines, IsLine}
 use Rattle.journal.specs.InPlace.{put_over}
 use Rattle.journal.specs.Opened.{lines_found, all_lines, journal_of, AreLines}
-use Rattle.journal.specs.Files.{magic, pass_word, pass_of, journal_in, is_on, lines_in, Opens, FoundOpens, FoundEither, IsStoodFor, StandsAmong}
-use Rattle.journal.specs.States.{Knows, Rests}
+use Rattle.journal.specs.Files.{magic, pass_word, pass_of, journal_in, is_on, lines_in, FoundOpens, FoundEither, IsStoodFor, StandsAmong}
+use Rattle.journal.specs.States.{Rests}
 use Rattle.journal.proofs.Several.{none_left}
 use Rattle.journal.proofs.Opened.{file_states}
 use Rattle.journal.proofs.Pointwise.{by_places}
@@ -290,7 +290,3 @@ stands-among before now room durable all image stood = inl (equal_out image dura
 
 two : (v : ℕ) → v < 2 → v ≡ pass_word (pass_of v)
 two a lt = grind (arith)
-
-pub found-knows : (may_hold : ℕ → ℕ → Type 0) (words room : ℕ) (file durable : List ℕ) (pass : Bool) → length file ≡ words + room + 8 → HoldsOnly may_hold (length file) file → Opens words room file durable
-    → get_or file (words + room + 3) 0 < 2 → pass ≡ pass_of (get_or file (words + room + 3) 0) → Knows may_hold words room pass durable
-found-knows may_hold words room file durable pass size holds opens in_pass is = grind (arith)

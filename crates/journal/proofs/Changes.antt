@@ -1,5 +1,5 @@
 -- Lines that put what differs.
-use Rattle.std.proofs.Common.{◌≡◌, ◌⊎◌, inl, inr, ℕ, ◌+◌, ◌*◌, ◌/◌, ◌%◌, ◌<◌, ◌≤◌, ◌^◌, Bool, true, false, List, [], ◌∷◌, ◌++◌, length, get_or, refl, sym, ◌∙◌, ap, arith}
+use Rattle.std.proofs.Common.{◌≡◌, ◌⊎◌, inl, inr, ℕ, ◌+◌, ◌*◌, ◌/◌, ◌%◌, ◌<◌, ◌≤◌, Bool, true, false, List, [], ◌∷◌, ◌++◌, length, get_or, refl, sym, ◌∙◌, ap, arith}
 use Rattle.std.specs.Prelude.{All}
 use Rattle.std.proofs.lemmas.List.{length-map, ext_get_or}
 use Rattle.std.proofs.lemmas.List.Elements.{All-append, All-cons}
@@ -27,9 +27,6 @@ found-changed lines durable words numbers found differs = grind (arith, over_put
 listed-cases : (numbers : List ℕ) (last number : ℕ) → is_listed (numbers ++ last ∷ []) number ≡ true → (is_listed numbers number ≡ true) ⊎ (last ≡ number)
 listed-cases [] last number is = grind (arith)
 listed-cases (first ∷ numbers) last number is = grind (arith, listed-cases numbers last number)
-
-pub found-none : (durable words : List ℕ) → AreFound [] durable words []
-found-none durable words = grind (arith)
 
 -- of a line that is durable, or is none of theirs, nothing is added
 pub found-stood : (lines : List Line) (durable words numbers : List ℕ) (number : ℕ) → AreFound lines durable words numbers
@@ -62,9 +59,6 @@ pub unchanged : (durable words : List ℕ) → AreChanged [] durable words → l
 unchanged durable words changed same = ext_get_or 0 words durable same (λ word lt. sym (changed.makes word lt))
 
 -- ---- as an entry
-
-pub numbers-below : (lines : List Line) (words : List ℕ) → All (λ line. 8 * line.number + 8 ≤ length words) lines → length words < 2 ^ 58 → All (λ line. line.number < 2 ^ 55) lines
-numbers-below lines words all fits k d lt = omega (arith, all k d lt, fits)
 
 pub entry_size : (pass : Bool) (lines : List Line) → AreLines lines → length (entry pass (payloads_of_lines lines)) ≡ 1 + 9 * length lines
 entry_size pass lines are = omega (arith, length-map (length (payloads_of_lines lines) ∷ payloads_of_lines lines) (marked pass), size lines are)

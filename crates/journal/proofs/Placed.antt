@@ -12,9 +12,6 @@ pub record IsPlacing (old now : List ℕ) (line : Line) (place : ℕ) : Type 0 w
   pub own : (word : ℕ) → word / 8 ≡ line.number → word % 8 < place → get_or now word 0 ≡ get_or line.words (word % 8) 0
   pub others : (word : ℕ) → (word / 8 ≡ line.number → place ≤ word % 8) → get_or now word 0 ≡ get_or old word 0
 
-pub placing-none : (old : List ℕ) (line : Line) → IsPlacing old old line 0
-placing-none old line = record { size = refl; own = λ word e lt. absurd (omega (arith, lt)); others = λ word not_yet. refl }
-
 -- ---- several
 
 lines-more : (n : ℕ) (payloads : List ℕ) → lines_of (suc n) payloads ≡ lines_of n payloads ++ line_of (drop (9 * n) payloads) ∷ []
@@ -29,9 +26,6 @@ over-more (first ∷ lines) line word v = over-more lines line word _
 pub record ArePlaced (old now : List ℕ) (lines : List Line) : Type 0 where
   pub size : length now ≡ length old
   pub each : (word : ℕ) → word < length old → get_or now word 0 ≡ put_over lines word (get_or old word 0)
-
-pub placed-none : (old : List ℕ) → ArePlaced old old []
-placed-none old = record { size = refl; each = λ word lt. refl }
 
 pub placed-more : (old mid now : List ℕ) (lines : List Line) (line : Line) → ArePlaced old mid lines → length now ≡ length mid
     → ((word : ℕ) → word < length mid → get_or now word 0 ≡ put_over (line ∷ []) word (get_or mid word 0)) → ArePlaced old now (lines ++ line ∷ [])

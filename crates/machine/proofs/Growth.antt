@@ -1,8 +1,7 @@
 -- What only grows from step to step: the history, and the timestamps that were drawn.
-use Rattle.std.proofs.Common.{◌≡◌, ℕ, ◌+◌, Bool, true, ◌||◌, nat_eq, List, [], ◌∷◌, ◌++◌, refl, sym, ◌∙◌, ap, subst, append-nil, append_assoc, arith, ◌⊎◌, inl, inr}
+use Rattle.std.proofs.Common.{◌≡◌, ℕ, ◌+◌, Bool, true, ◌||◌, nat_eq, List, [], ◌∷◌, ◌++◌, refl, sym, ◌∙◌, ap, subst, append-nil, append_assoc, arith}
 use Rattle.std.specs.Prelude.{Option, Some, None, IsTrue, if◌then◌else◌}
 use Rattle.base.specs.declared.fault.Fault.{Fault}
-use Rattle.base.specs.declared.fault.Fault.TheVariants.{Device}
 use Rattle.base.specs.declared.step.Step.{Step}
 use Rattle.base.specs.declared.step.Step.TheVariants.{Begin, Get, Scan, Put, Delete, Draw, Stamp, Poll, Abort, End, Commit as CommitTick, Collect}
 use Rattle.base.specs.declared.step.Stage.{Stage}
@@ -14,19 +13,12 @@ use Rattle.base.specs.Lists.{is_nil}
 use Rattle.machine.specs.Machine.{State, Hand, Stepped, refused, answered, memory_refused, device_failed, Answers, Run, final, next_state, state_ticked, state_ticked_on, state_drawn, next_stage, is_idle, writes_of, ticked}
 use Rattle.machine.specs.Laws.{drawn_by, drawn_in, RiseBetween}
 use Rattle.machine.specs.Collecting.{visited}
-use Rattle.machine.proofs.Runs.{Answers-answer}
 use Rattle.machine.proofs.collector.Visits.{visit-changes}
 
 -- Refusals
 
 same_fault : (fault other : Fault) → Refused fault ≡ Refused other → fault ≡ other
 same_fault fault other e = cc
-
-pub refused-keeps : (q : State) (step : Step) (fault : Fault) (q' : State) → Stepped q step (Refused fault) q' → (q' ≡ q) ⊎ ((fault ≡ Device) × (q' ≡ record q { failed = true }))
-refused-keeps q step fault q' (refused other e r s) = inl s
-refused-keeps q step fault q' (answered e a s) = absurd (Answers-answer q step (Refused fault) a)
-refused-keeps q step fault q' (memory_refused e m r s) = inl s
-refused-keeps q step fault q' (device_failed e m r s) = inr (same_fault fault Device r, s)
 
 -- The history
 

@@ -1,13 +1,16 @@
 -- Which shape the words of a file have.
-use Rattle.std.proofs.Common.{◌≡◌, ◌≢◌, inl, inr, ℕ, ◌+◌, ◌-◌, ◌^◌, ◌<◌, ◌≤◌, true, List, length, take, drop, replicate, get_or, refl, sym, ◌∙◌, ap, arith}
+use Rattle.std.proofs.Common.{◌≡◌, ◌≢◌, ◌⊎◌, inl, inr, ℕ, ◌+◌, ◌-◌, ◌^◌, ◌<◌, ◌≤◌, true, List, Option, Result, Ok, Err, None, Some, IfOk, IfNone, IfSome, IsTrue, OnSome, length, take, drop, replicate, get_or, refl, sym, ◌∙◌, ap, subst, arith}
 use Rattle.std.proofs.lemmas.Bool.{and_parts, eqb-true}
-use Rattle.std.proofs.lemmas.List.{append-nil, length-drop, length-take, length-replicate, get_or-drop, get_or-take, get_or-replicate, get_or_append_left, get_or-append_right}
+use Rattle.std.proofs.lemmas.List.{append-nil, length-drop, length-take, length-replicate, get_or-drop, get_or-take, get_or-replicate, get_or_append_left, get_or-append_right, take_all}
+use Rattle.std.specs.Option.{unwrap_or}
+use Rattle.std.specs.declared.io.Error.{Error}
 use Rattle.base.specs.Images.{layout_of, has_good_geometry}
-use Rattle.base.specs.Layout.{Layout, slot_start, total_words}
-use Rattle.journal.specs.Files.{magic, Opens}
+use Rattle.base.specs.Layout.{Layout, is_in_limits, slot_start, total_words}
+use Rattle.journal.specs.Files.{magic, HasTail, IsFile, Opens}
 use Rattle.journal.proofs.Files.{lines-off, opens-off, opens-one}
+use Rattle.log_area.specs.Rulings.{IsLaidOut}
 use Rattle.pmem_file.specs.declared.shape.Shape.{Shape}
-use Rattle.pmem_file.specs.Shapes.{IsBlank, IsImageOf, HasItsPlaces, HasShape, IsMadeFor, whole, padded}
+use Rattle.pmem_file.specs.Shapes.{IsBlank, IsImageOf, HasItsPlaces, HasShape, IsMadeFor, IsGrowing, IsNothingBehind, IsOurs, least_room, room_made, room_older, whole, padded}
 
 zero-magic : 0 ≢ magic
 zero-magic e = omega (arith, e)
@@ -93,6 +96,118 @@ blank a image start size first is zeros = record {
       ap (λ (n : ℕ). get_or image n 0) here ∙ sym (get_or-drop start image (word - start) 0) ∙ sym (get_or-take (length image - start) (drop start image) (word - start) 0 below)
       ∙ zeros (word - start) (omega (arith, length-take (length image - start) (drop start image), length-drop start image, below));
 }
+
+pub blank-zeros : (a : Layout) (image : List ℕ) (start : ℕ) → IsBlank a image → start ≡ slot_start a 0 → (word : ℕ) → word < length (take (length image - start) (drop start image))
+    → get_or (take (length image - start) (drop start image)) word 0 ≡ 0
+blank-zeros a image start is at word lt = grind (arith, get_or-drop, get_or-take, length-take, length-drop)
+
+-- ---- behind an image
+
+pub behind-drop : (room : ℕ) (behind : List ℕ) → length behind ≡ room + 8 → take (length behind - room) (drop room behind) ≡ drop room behind
+behind-drop room behind size = grind (arith, take_all, length-drop)
+
+-- ---- which words are of no file of ours
+
+-- a file has one tail
+one-tail : (words : List ℕ) (size room size' room' : ℕ) → IsFile size room (length words) → IsFile size' room' (length words) → HasTail size room words → HasTail size' room' words → (size ≡ size') × (room ≡ room')
+one-tail words size room size' room' file file' tail tail' =
+    let end : size + room ≡ size' + room' = omega (arith, file.size, file'.size) in
+    (sym tail.words_named ∙ ap (λ (n : ℕ). get_or words (n + 1) 0) end ∙ tail'.words_named, sym tail.room_named ∙ ap (λ (n : ℕ). get_or words (n + 2) 0) end ∙ tail'.room_named)
+
+-- a word of the tail of a file that was being made longer
+tail-word : (words : List ℕ) (size room word : ℕ) → get_or (drop room (drop size words)) word 0 ≡ get_or words (size + room + word) 0
+tail-word words size room word = get_or-drop room (drop size words) word 0 ∙ get_or-drop size words (room + word) 0 ∙ ap (λ (n : ℕ). get_or words n 0) (omega arith)
+
+of-two : (size room size' room' : ℕ) → size + room ≡ size' + room' → 8 ≤ size' → (size ≡ 0) ⊎ (size ≡ size') → (room ≡ 0) ⊎ (room ≡ room') → (size ≡ size') × (room ≡ room')
+of-two size room size' room' sum some (inl a) (inl b) = absurd (omega (arith, sum, some, a, b))
+of-two size room size' room' sum some (inl a) (inr b) = absurd (omega (arith, sum, some, a, b))
+of-two size room size' room' sum some (inr a) (inl b) = (a, omega (arith, sum, a, b))
+of-two size room size' room' sum some (inr a) (inr b) = (a, b)
+
+-- where a file that was being made longer ends with a tail already, it is that of its shape
+growing-tail : (asked : Layout) (words : List ℕ) (size room : ℕ) → IsFile size room (length words) → HasTail size room words → (g : IsGrowing asked words) → (size ≡ total_words g.layout) × (room ≡ g.room)
+growing-tail asked words size room file tail g =
+    let end : size + room ≡ total_words g.layout + g.room = omega (arith, file.size, g.size) in
+    let eight : length (drop g.room (drop (total_words g.layout) words)) ≡ 8 = grind (arith, length-drop, g.size) in
+    of-two size room (total_words g.layout) g.room end (omega arith)
+    (named size 1 (tail-word words (total_words g.layout) g.room 1 ∙ sym (ap (λ (n : ℕ). get_or words (n + 1) 0) end) ∙ tail.words_named) (g.behind.tail.names 1 (omega (arith, eight))))
+    (named room 2 (tail-word words (total_words g.layout) g.room 2 ∙ sym (ap (λ (n : ℕ). get_or words (n + 2) 0) end) ∙ tail.room_named) (g.behind.tail.names 2 (omega (arith, eight))))
+  where
+    named : (x word : ℕ) {name : ℕ} → get_or (drop g.room (drop (total_words g.layout) words)) word 0 ≡ x → (get_or (drop g.room (drop (total_words g.layout) words)) word 0 ≡ 0) ⊎ (get_or (drop g.room (drop (total_words g.layout) words)) word 0 ≡ name)
+        → (x ≡ 0) ⊎ (x ≡ name)
+    named x word is (inl zero) = inl (sym is ∙ zero)
+    named x word is (inr name) = inr (sym is ∙ name)
+
+-- a journal has room for an entry of all lines, however it was made
+made-entry : (words room : ℕ) → (room ≡ room_made words) ⊎ (room ≡ room_older words) → least_room words ≤ room
+made-entry words room (inl now) = grind (arith, now)
+made-entry words room (inr older) = grind (arith, older)
+
+pub no-ours-tail : (asked : Layout) (words : List ℕ) (size room : ℕ) → ((own : Layout) → ¬ IsImageOf asked own words) → IsFile size room (length words) → HasTail size room words
+    → ((image : List ℕ) (own : Layout) → least_room size ≤ room → Opens size room words image → ¬ IsImageOf asked own image) → ¬ IsOurs asked words
+no-ours-tail asked words size room whole_not file tail none ours = elim ours [
+  | inl one ↦ whole_not one.0 one.1
+  | inr (inl j) ↦ (let same = one-tail words size room j.size j.room file j.is_file tail j.tail in moved j.size j.room same.0 same.1 j.image j.layout j.entry j.opens j.image_is)
+  | inr (inr g) ↦ (let same = growing-tail asked words size room file tail g in
+      moved (total_words g.layout) g.room same.0 same.1 (take (total_words g.layout) words) g.layout (made-entry (total_words g.layout) g.room g.made) (grown-opens g) g.image_is)
+]
+  where
+    None : ℕ → ℕ → Type 0
+    None size room = (image : List ℕ) (own : Layout) → least_room size ≤ room → Opens size room words image → ¬ IsImageOf asked own image
+
+    moved : (size' room' : ℕ) → size ≡ size' → room ≡ room' → None size' room'
+    moved size' room' s r = subst (λ (n : ℕ). None n room') s (subst (λ (n : ℕ). None size n) r none)
+
+    grown-opens : (g : IsGrowing asked words) → Opens (total_words g.layout) g.room words (take (total_words g.layout) words)
+    grown-opens g =
+        let T = total_words g.layout in
+        opens-off T g.room words (take T words) (grind (arith, length-take, g.size)) (λ word lt. sym (get_or-take T words word 0 lt))
+        (lines-off T g.room words (λ e. zero-magic (sym (sym (tail-word words T g.room 0) ∙ g.behind.tail.first) ∙ ap (λ (n : ℕ). get_or words n 0) (omega arith) ∙ e)))
+
+pub no-ours : (asked : Layout) (words : List ℕ) → ((own : Layout) → ¬ IsImageOf asked own words) → ((size room : ℕ) → IsFile size room (length words) → HasTail size room words → ⊥) → ¬ IsGrowing asked words
+    → ¬ IsOurs asked words
+no-ours asked words whole_not untailed growing (inl (own, is)) = whole_not own is
+no-ours asked words whole_not untailed growing (inr (inl j)) = untailed j.size j.room j.is_file j.tail
+no-ours asked words whole_not untailed growing (inr (inr g)) = growing g
+
+head-layout : (n : ℕ) (words : List ℕ) → 8 ≤ n → layout_of (take n words) ≡ layout_of words
+head-layout n words some = grind (arith, get_or-take)
+
+-- where its image is laid out, its words name a layout
+growing-limits : (a : Layout) (words : List ℕ) → total_words a ≤ length words → IsLaidOut a (take (total_words a) words) → (5 ≤ length words) × (is_in_limits (layout_of words) ≡ true)
+growing-limits a words le laid =
+    (omega (arith, le), subst (λ (l : Layout). is_in_limits l ≡ true) (head-layout (total_words a) words (omega arith)) (grind (arith, and_parts, laid.geometry)))
+
+-- no shape is found that these words, with this journal, have
+abbrev NoneOf : Layout → List ℕ → ℕ → ℕ → Type 0
+NoneOf asked words size room = (own : Layout) → length words ≡ size + room + 8 → IsNothingBehind size room (drop size words) → ¬ IsImageOf asked own (take size words)
+
+pub no-growing : (asked own : Layout) (words : List ℕ) (new older : Shape) → ((g : IsGrowing asked words) → own ≡ g.layout) → IsMadeFor own new → new.room ≡ room_made new.words → IsMadeFor own older
+    → older.room ≡ room_older older.words → NoneOf asked words new.words new.room → NoneOf asked words older.words older.room → ¬ IsGrowing asked words
+no-growing asked own words new older is made room made' room' none none' g =
+    let size : total_words own ≡ total_words g.layout = ap total_words (is g) in
+    elim g.made [
+      | inl now ↦ against new (made.words_are ∙ size) (room ∙ ap room_made (made.words_are ∙ size) ∙ sym now) none
+      | inr before ↦ against older (made'.words_are ∙ size) (room' ∙ ap room_older (made'.words_are ∙ size) ∙ sym before) none'
+    ]
+  where
+    against : (shape : Shape) → shape.words ≡ total_words g.layout → shape.room ≡ g.room → NoneOf asked words shape.words shape.room → ⊥
+    against shape w r none =
+        subst (λ (n : ℕ). NoneOf asked words n g.room) w (subst (λ (n : ℕ). NoneOf asked words shape.words n) r none) g.layout g.size g.behind g.image_is
+
+-- the layout for which a shape is looked for is that of the image
+pub own-of : (asked : Layout) (found : Option Layout) (words : List ℕ) → IfSome found (λ own. own ≡ layout_of words) → OnSome found (IsTrue (is_in_limits (layout_of words)))
+    → IfNone found (5 ≤ length words → ¬ IsTrue (is_in_limits (layout_of words))) → (g : IsGrowing asked words) → unwrap_or found asked ≡ g.layout
+own-of asked (Some own) words some limits none g = some ∙ g.named limits
+own-of asked None words some limits none g = elim g.image_is [
+  | inl laid ↦ (let named = growing-limits g.layout words (omega (arith, g.size)) laid in absurd (none named.0 named.1))
+  | inr one ↦ sym one.0
+]
+
+pub none-of : {P Q : Type 0} (found : Result (Option Shape) Error) → (P → Q) → IfOk found (λ o. IfNone o P) → IfOk found (λ o. IfNone o Q)
+none-of (Ok (Some shape)) to none = tt
+none-of (Ok None) to none = to none
+none-of (Err error) to none = tt
 
 -- ---- a device that begins with such words
 

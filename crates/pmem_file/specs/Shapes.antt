@@ -1,8 +1,13 @@
 -- What the words of a file hold that is opened as a device.
-use Rattle.std.specs.Prelude.{◌≡◌, ◌⊎◌, ℕ, ◌+◌, ◌-◌, ◌*◌, ◌/◌, ◌<◌, ◌≤◌, ◌^◌, List, ◌++◌, length, replicate, slice_index}
-use Rattle.base.specs.Layout.{Layout, slot_start, total_words}
-use Rattle.journal.specs.Files.{Opens}
+use Rattle.std.specs.Prelude.{◌≡◌, ◌⊎◌, ℕ, ◌+◌, ◌-◌, ◌*◌, ◌/◌, ◌<◌, ◌≤◌, ◌^◌, List, ◌++◌, drop, length, max, min, replicate, slice_index, take, true, IsTrue}
+use Rattle.std.specs.IoError.{error_kind}
+use Rattle.std.specs.declared.io.ErrorKind.TheVariants.{OutOfMemory}
+use Rattle.base.specs.Images.{layout_of}
+use Rattle.base.specs.Layout.{Layout, is_in_limits, slot_start, total_words}
+use Rattle.journal.specs.Files.{HasTail, IsFile, Opens, tail_of}
 use Rattle.log_area.specs.Rulings.{IsLaidOut}
+use Rattle.pmem_file.specs.declared.opening.OpenError.{OpenError}
+use Rattle.pmem_file.specs.declared.opening.OpenError.TheVariants.{Io}
 use Rattle.pmem_file.specs.declared.shape.Shape.{Shape}
 
 -- nothing was ever kept in these words: they are as many as an image of the layout has, and word 0 and those of all slots are 0
@@ -37,9 +42,65 @@ pub record HasShape (asked : Layout) (words : List ℕ) (shape : Shape) : Type 0
   pub opens : Opens shape.words shape.room (padded shape words) image
   pub has_places : HasItsPlaces asked image shape.places
 
+-- how many words a journal has room for at least: for an entry of all lines of an image of so many, in whole lines
+abbrev pub least_room : ℕ → ℕ
+least_room words = (9 * (words / 8) + 23) / 8 * 8
+
+-- each of these words is 0, or the one that the first tail of a file has there, behind an image of so many words and a journal of so
+-- much room; its first is 0, so it doesn't count yet
+pub record IsFirstTail (size room : ℕ) (tail : List ℕ) : Type 0 where
+  pub first : slice_index tail 0 ≡ 0
+  pub names : (word : ℕ) → word < length tail → (slice_index tail word ≡ 0) ⊎ (slice_index tail word ≡ slice_index (tail_of 0 size room true) word)
+
+-- behind an image there is nothing yet but some words of the first tail: the file was being made longer
+pub record IsNothingBehind (size room : ℕ) (behind : List ℕ) : Type 0 where
+  pub zeros : (word : ℕ) → word < room → slice_index behind word ≡ 0
+  pub tail : IsFirstTail size room (drop room behind)
+
 -- a shape that is made for an image of the layout: its journal has room for an entry of all lines
 pub record IsMadeFor (a : Layout) (shape : Shape) : Type 0 where
   pub words_are : shape.words ≡ total_words a
   pub places_are : shape.places ≡ a.places
   pub entry : 1 + 9 * (shape.words / 8) ≤ shape.room
   pub fits : whole shape < 2 ^ 58
+
+-- ---- what a file of ours holds, however it was left
+
+-- the room with which a journal is made: for three entries of all lines, if an ample one has as much, and for one at least
+abbrev pub room_made : ℕ → ℕ
+room_made words = max (max (least_room words) (min (3 * least_room words) 524288)) 131072
+
+-- the room with which older programs made it
+abbrev pub room_older : ℕ → ℕ
+room_older words = max (least_room words) 131072
+
+-- an image with a journal behind it, which has room for an entry of all lines
+pub record IsJournaled (asked : Layout) (words : List ℕ) : Type 0 where
+  pub size : ℕ
+  pub room : ℕ
+  pub layout : Layout
+  pub image : List ℕ
+  pub is_file : IsFile size room (length words)
+  pub tail : HasTail size room words
+  pub entry : least_room size ≤ room
+  pub opens : Opens size room words image
+  pub image_is : IsImageOf asked layout image
+
+-- an image behind which a journal was being made: nothing counts there yet, and no other layout is named
+pub record IsGrowing (asked : Layout) (words : List ℕ) : Type 0 where
+  pub layout : Layout
+  pub room : ℕ
+  pub made : (room ≡ room_made (total_words layout)) ⊎ (room ≡ room_older (total_words layout))
+  pub size : length words ≡ total_words layout + room + 8
+  pub image_is : IsImageOf asked layout (take (total_words layout) words)
+  pub named : IsTrue (is_in_limits (layout_of words)) → layout_of words ≡ layout
+  pub behind : IsNothingBehind (total_words layout) room (drop (total_words layout) words)
+
+-- one of these, or an image alone, as a close leaves it
+abbrev pub IsOurs : Layout → List ℕ → Type 0
+IsOurs asked words = ((layout : Layout) × IsImageOf asked layout words) ⊎ (IsJournaled asked words ⊎ IsGrowing asked words)
+
+-- no memory for it
+unfoldable pub IsForMemory : OpenError → Type 0
+IsForMemory (Io error) = error_kind error ≡ OutOfMemory
+IsForMemory _ = ⊥

@@ -1,7 +1,11 @@
-ghost use Rattle.std.specs.Prelude.{◌≡◌, ◌+◌, ◌*◌, ◌/◌, ◌<◌, ◌≤◌, ◌^◌, ℕ, length, slice_index, IfOk, IfSome, IsTrue};
-ghost use Rattle.journal.specs.Files.{IsFile};
-ghost use Rattle.log_area.specs.Rulings.{IsLaidOut};
-ghost use Rattle.pmem_file.specs.Shapes.{HasShape, IsBlank, IsImageOf, whole};
+ghost use Rattle.std.specs.Prelude.{◌≡◌, ◌↔◌, ◌+◌, ◌*◌, ◌/◌, ◌<◌, ◌≤◌, ◌^◌, ℕ, List, drop, length, slice_index, take, IfErr, IfNone, IfOk, IfSome, IsTrue, None, OnSome, Some};
+ghost use Rattle.std.specs.IoError.{error_kind};
+ghost use Rattle.std.specs.declared.io.ErrorKind.TheVariants.{OutOfMemory};
+ghost use Rattle.base.specs.Layout.{Layout, is_in_limits};
+ghost use Rattle.base.specs.Images.{layout_of};
+ghost use Rattle.journal.specs.Files.{HasTail, IsFile, Opens};
+ghost use Rattle.log_area.specs.Rulings.{IsLaidOut, layout_damage};
+ghost use Rattle.pmem_file.specs.Shapes.{HasShape, IsBlank, IsFirstTail, IsGrowing, IsImageOf, IsNothingBehind, IsOurs, least_room, room_made, whole};
 
 use crate::journaled::JournaledPmem;
 use crate::opening::OpenError;
@@ -35,11 +39,12 @@ pub(crate) struct Shape {
 
 impl Shape {
     ghost use Rattle.std.specs.Prelude.{◌≡◌, ◌<◌, ◌^◌};
-    ghost use Rattle.pmem_file.specs.Shapes.{IsMadeFor, whole};
+    ghost use Rattle.pmem_file.specs.Shapes.{IsMadeFor, room_made, room_older, whole};
 
     // Of an image of this geometry, with a journal as it is made.
     fn new(geometry: Geometry) -> Shape
-        ensures { IsMadeFor geometry result }
+        ensures made { IsMadeFor geometry result }
+        ensures room { result.room ≡ room_made result.words }
     {
         let words = geometry.words() as usize;
         Shape {
@@ -51,7 +56,8 @@ impl Shape {
 
     // The same, with a journal as older programs made it.
     fn older(geometry: Geometry) -> Shape
-        ensures { IsMadeFor geometry result }
+        ensures made { IsMadeFor geometry result }
+        ensures room { result.room ≡ room_older result.words }
     {
         let shape = Shape::new(geometry);
         Shape {
@@ -73,8 +79,7 @@ impl Shape {
 // of entries, if an ample one has as much; and at least for one.
 fn room_behind(words: usize) -> usize
     requires { words < 2 ^ 32 }
-    ensures entry { 1 + 9 * (words / 8) ≤ result }
-    ensures few { result < 2 ^ 40 }
+    ensures { result ≡ room_made words }
 {
     let least = least_room(words);
     let several = least.saturating_mul(3).min(AMPLE_ROOM);
@@ -83,8 +88,8 @@ fn room_behind(words: usize) -> usize
 
 // For an entry of all lines: a word that begins it, and of each line its number and its words.
 fn least_room(words: usize) -> usize
-    ensures entry { words < 2 ^ 32 → 1 + 9 * (words / 8) ≤ result }
-    ensures few { words < 2 ^ 32 → result < 2 ^ 40 }
+    requires { words < 2 ^ 58 }
+    ensures { result ≡ least_room words }
 {
     let lines = words / 8;
     lines.saturating_mul(9).saturating_add(23) / 8 * 8
@@ -101,8 +106,8 @@ pub(crate) struct Found {
 }
 
 impl Found {
-    ghost use Rattle.std.specs.Prelude.{◌≡◌, ◌<◌, ◌≤◌, ◌^◌, length, IfOk, IsTrue};
-    ghost use Rattle.pmem_file.specs.Shapes.{HasShape, padded, whole};
+    ghost use Rattle.std.specs.Prelude.{◌≡◌, ◌↔◌, ◌*◌, ◌<◌, ◌≤◌, ◌^◌, length, IfErr, IfOk, IsOk, IsTrue};
+    ghost use Rattle.pmem_file.specs.Shapes.{HasShape, IsForMemory, IsOurs, padded, whole};
 
     pub(crate) fn read(alloc: Global, file: &File) -> io::Result<Found> {
         let length = file.metadata()?.len();
@@ -115,7 +120,7 @@ impl Found {
     }
 
     pub(crate) fn is_empty(&self) -> bool
-        ensures { IsTrue result → length self.now.words.items ≡ 0 }
+        ensures { IsTrue result ↔ (self.now.length ≡ 0) × (length self.now.words.items ≡ 0) }
     {
         self.length == 0 && self.words.is_empty()
     }
@@ -129,7 +134,8 @@ impl Found {
     pub(crate) fn into_words(self, shape: Shape) -> io::Result<Vec<u64>>
         requires fits { whole shape < 2 ^ 58 }
         requires within { length self.words.items ≤ whole shape }
-        ensures { IfOk result (λ words. words.items ≡ padded shape self.words.items) }
+        ensures words { IfOk result (λ words. words.items ≡ padded shape self.words.items) }
+        ensures memory { IfErr result (λ error. error_kind error ≡ OutOfMemory) }
     {
         let mut words = self.words;
         words.resize(shape.whole(), 0)?;
@@ -140,16 +146,20 @@ impl Found {
     /// refused that is no image of ours, or has more or less than one.
     #[tactic(auto, using(crate::proofs::Shapes::nothing))]
     pub(crate) fn shape(&self, alloc: Global, geometry: Geometry) -> Result<Shape, OpenError>
-        ensures { IfOk result (HasShape geometry self.now.words.items) }
+        ensures ok { IfOk result (HasShape geometry self.now.words.items) }
+        ensures empty { self.now.length ≡ 0 → length self.now.words.items ≡ 0 → IsOk result }
+        ensures ours { self.now.length ≡ 8 * length self.now.words.items → length self.now.words.items < 2 ^ 61 → IsOurs geometry self.now.words.items → IfErr result IsForMemory }
     {
         if self.is_empty() {
             return Ok(Shape::new(geometry));
         }
         let file = self.words.as_slice();
-        if self.length == bytes_of(file.len())
-            && let Some(shape) = shape_in(alloc, file, geometry)?
-        {
-            return Ok(shape);
+        if self.length == bytes_of(file.len()) {
+            match shape_in(alloc, file, geometry) {
+                Ok(Some(shape)) => return Ok(shape),
+                Ok(None) => {}
+                Err(error) => return Err(OpenError::Io(error)),
+            }
         }
         Err(self.refusal(alloc)?)
     }
@@ -218,15 +228,17 @@ fn begins_entry(file: &[u64], words: usize) -> bool {
 
 // What the file of these words holds, if it is one of ours: an image alone, as a close leaves it, one with a journal, or one
 // that was being made longer.
-fn shape_in(alloc: Global, file: &[u64], geometry: Geometry) -> Result<Option<Shape>, OpenError>
-    ensures { IfOk result (λ found. IfSome found (HasShape geometry file.now)) }
+fn shape_in(alloc: Global, file: &[u64], geometry: Geometry) -> io::Result<Option<Shape>>
+    ensures some { IfOk result (λ found. IfSome found (HasShape geometry file.now)) }
+    ensures none { IfOk result (λ found. IfNone found (¬ IsOurs geometry file.now)) }
+    ensures memory { IfErr result (λ error. error_kind error ≡ OutOfMemory) }
 {
-    if let Some(own) = layout_of(alloc, file, geometry)? {
-        return Ok(Some(Shape::new(own)));
-    }
-    match extent_of(file) {
-        Some((words, room)) => journaled_shape(alloc, file, words, room, geometry),
-        None => growing_shape(alloc, file, geometry),
+    match layout_of(alloc, file, geometry)? {
+        Some(own) => Ok(Some(Shape::new(own))),
+        None => match extent_of(file) {
+            Some((words, room)) => journaled_shape(alloc, file, words, room, geometry),
+            None => growing_shape(alloc, file, geometry),
+        },
     }
 }
 
@@ -238,9 +250,12 @@ fn journaled_shape(
     words: usize,
     room: usize,
     geometry: Geometry,
-) -> Result<Option<Shape>, OpenError>
-    requires { IsFile words room (length file.now) }
-    ensures { IfOk result (λ found. IfSome found (HasShape geometry file.now)) }
+) -> io::Result<Option<Shape>>
+    requires file { IsFile words room (length file.now) }
+    requires tail { HasTail words room file.now }
+    ensures some { IfOk result (λ found. IfSome found (HasShape geometry file.now)) }
+    ensures none { IfOk result (λ found. IfNone found ((image : List ℕ) (own : Layout) → least_room words ≤ room → Opens words room file.now image → ¬ IsImageOf geometry own image)) }
+    ensures memory { IfErr result (λ error. error_kind error ≡ OutOfMemory) }
 {
     if room < least_room(words) {
         return Ok(None);
@@ -257,12 +272,10 @@ fn journaled_shape(
 }
 
 // The shape of a file that was being made longer, by a program of now or an older one.
-fn growing_shape(
-    alloc: Global,
-    file: &[u64],
-    geometry: Geometry,
-) -> Result<Option<Shape>, OpenError>
-    ensures { IfOk result (λ found. IfSome found (HasShape geometry file.now)) }
+fn growing_shape(alloc: Global, file: &[u64], geometry: Geometry) -> io::Result<Option<Shape>>
+    ensures some { IfOk result (λ found. IfSome found (HasShape geometry file.now)) }
+    ensures none { IfOk result (λ found. IfNone found (¬ IsGrowing geometry file.now)) }
+    ensures memory { IfErr result (λ error. error_kind error ≡ OutOfMemory) }
 {
     let own = own_geometry(file).unwrap_or(geometry);
     match grown_shape(alloc, file, geometry, Shape::new(own))? {
@@ -278,9 +291,11 @@ fn grown_shape(
     file: &[u64],
     geometry: Geometry,
     shape: Shape,
-) -> Result<Option<Shape>, OpenError>
+) -> io::Result<Option<Shape>>
     requires { whole shape < 2 ^ 58 }
-    ensures { IfOk result (λ found. IfSome found (HasShape geometry file.now)) }
+    ensures some { IfOk result (λ found. IfSome found (HasShape geometry file.now)) }
+    ensures none { IfOk result (λ found. IfNone found ((own : Layout) → length file.now ≡ whole shape → IsNothingBehind shape.words shape.room (drop shape.words file.now) → ¬ IsImageOf geometry own (take shape.words file.now))) }
+    ensures memory { IfErr result (λ error. error_kind error ≡ OutOfMemory) }
 {
     if file.len() != shape.whole() || !is_first_behind(&file[shape.words..], shape) {
         return Ok(None);
@@ -297,23 +312,24 @@ fn grown_shape(
 
 // Whether there is nothing behind an image but some words of a tail that doesn't count.
 fn is_first_behind(behind: &[u64], shape: Shape) -> bool
-    requires { shape.room + 8 ≤ length behind.now }
-    ensures { IsTrue result → slice_index behind.now shape.room ≡ 0 }
+    requires { length behind.now ≡ shape.room + 8 }
+    ensures { IsTrue result ↔ IsNothingBehind shape.words shape.room behind.now }
 {
     are_zero(&behind[..shape.room]) && is_first_tail(&behind[shape.room..], shape)
 }
 
 fn are_zero(words: &[u64]) -> bool
-    ensures { IsTrue result → (word : ℕ) → word < length words.now → slice_index words.now word ≡ 0 }
+    ensures { IsTrue result ↔ ((word : ℕ) → word < length words.now → slice_index words.now word ≡ 0) }
 {
     words.iter().all(|word| *word == 0)
 }
 
 // Whether some of these words are those of a tail that doesn't count, and the others 0.
 fn is_first_tail(tail: &[u64], shape: Shape) -> bool
-    ensures { IsTrue result → slice_index tail.now 0 ≡ 0 }
+    requires { length tail.now ≡ 8 }
+    ensures { IsTrue result ↔ IsFirstTail shape.words shape.room tail.now }
 {
-    if tail.is_empty() || tail[0] != 0 {
+    if tail[0] != 0 {
         return false;
     }
     let names = [0, shape.words as u64, shape.room as u64, 0, 0, 0, 0, 0];
@@ -324,7 +340,9 @@ fn is_first_tail(tail: &[u64], shape: Shape) -> bool
 
 // The layout of an image of these words. Where nothing was ever kept in it that is the one that is asked for.
 fn layout_of(alloc: Global, image: &[u64], geometry: Geometry) -> io::Result<Option<Geometry>>
-    ensures { IfOk result (λ found. IfSome found (λ own. IsImageOf geometry own image.now)) }
+    ensures some { IfOk result (λ found. IfSome found (λ own. IsImageOf geometry own image.now)) }
+    ensures none { IfOk result (λ found. IfNone found ((own : Layout) → ¬ IsImageOf geometry own image.now)) }
+    ensures memory { IfErr result (λ error. error_kind error ≡ OutOfMemory) }
 {
     if is_blank(image, geometry) {
         return Ok(Some(geometry));
@@ -337,7 +355,9 @@ fn layout_of(alloc: Global, image: &[u64], geometry: Geometry) -> io::Result<Opt
 
 // What the superblock of these words says.
 fn geometry_in(alloc: Global, image: &[u64]) -> io::Result<Result<Geometry, Fault>>
-    ensures { IfOk result (λ found. IfOk found (λ own. IsLaidOut own image.now)) }
+    ensures ok { IfOk result (λ found. IfOk found (λ own. IsLaidOut own image.now)) }
+    ensures fault { IfOk result (λ found. IfErr found (λ fault. layout_damage image.now ≡ Some fault)) }
+    ensures memory { IfErr result (λ error. error_kind error ≡ OutOfMemory) }
 {
     let words = Vec::from_slice(alloc, image)?;
     match JournaledPmem::new(alloc, words, Nowhere, 0) {
@@ -348,7 +368,7 @@ fn geometry_in(alloc: Global, image: &[u64]) -> io::Result<Result<Geometry, Faul
 
 // Whether nothing was ever kept: it has the length of a new image, and word 0 and those of all slots are 0.
 fn is_blank(image: &[u64], geometry: Geometry) -> bool
-    ensures { IsTrue result → IsBlank geometry image.now }
+    ensures { IsTrue result ↔ IsBlank geometry image.now }
 {
     if image.len() as u64 != geometry.words() || geometry.slots() == 0 || image[0] != 0 {
         return false;
@@ -357,12 +377,18 @@ fn is_blank(image: &[u64], geometry: Geometry) -> bool
 }
 
 // The geometry that a superblock names.
-fn own_geometry(file: &[u64]) -> Option<Geometry> {
+fn own_geometry(file: &[u64]) -> Option<Geometry>
+    ensures some { IfSome result (λ own. own ≡ layout_of file.now) }
+    ensures limits { OnSome result (IsTrue (is_in_limits (layout_of file.now))) }
+    ensures none { IfNone result (5 ≤ length file.now → ¬ IsTrue (is_in_limits (layout_of file.now))) }
+{
     let [_, version, slots, places, window] = *file.first_chunk::<5>()?;
     Geometry::of_version(version, slots, places, window).ok()
 }
 
 /// The bytes of so many words.
-pub(crate) fn bytes_of(words: usize) -> u64 {
+pub(crate) fn bytes_of(words: usize) -> u64
+    ensures { words < 2 ^ 61 → result ≡ 8 * words }
+{
     (words as u64).saturating_mul(8)
 }

@@ -171,10 +171,6 @@ put {T} slab places n key x table at =
 
 -- ---- below which number each is taken
 
--- a number with a place has a value
-pub listed-taken : {T : Type 0} (slab : Slab T) (places : List (Option ℕ)) (first : ℕ) → IsTable slab places → AreTaken first places → (k : ℕ) → 2 ≤ k → k < first → is_none (entry_at (listed slab places) k) ≡ false
-listed-taken slab places first table taken k lo lt = grind (arith, entry_at-listed slab places k)
-
 -- and one with a value a place
 has-place : {T : Type 0} (slab : Slab T) (places : List (Option ℕ)) (k : ℕ) → is_none (entry_at (listed slab places) k) ≡ false → is_none (entry_at places k) ≡ false
 has-place slab places k taken = grind (arith, entry_at-listed slab places k)

@@ -8,7 +8,7 @@ use Rattle.base.specs.Images.{TablesOf, ruling}
 use Rattle.base.specs.Stands.{Stands}
 use Rattle.machine.specs.Openings.{IsOpenedGaps}
 use Rattle.base.proofs.Keys.{key_eq-true}
-use Rattle.worked.specs.Images.{formatted_image, covered_image, commit_1, FirstRunImages, DamagedImages, NinthGap, ReadImages, LongCommits}
+use Rattle.worked.specs.Images.{formatted_image, covered_image, commit_1, FirstRunImages, DamagedImages, ReadImages, LongCommits}
 
 -- one slot of the four shows the row
 forth : (key : Key) (row : List ℕ) → TablesOf covered_image key row → after (commit_1 ∷ []) key ≡ Some row
@@ -66,9 +66,6 @@ first_run = record {
 
 pub damaged : DamagedImages
 damaged = record { format = refl; row = refl; opening = refl; cut_short = refl }
-
-pub ninth : NinthGap
-ninth = record { opens = refl; sweeps = refl; swept = refl; words = refl; lines = refl; kept = refl; gaps = refl }
 
 pub read : ReadImages
 read = record { ended = refl; half_written = (refl, refl, refl); largest = (refl, refl, refl) }

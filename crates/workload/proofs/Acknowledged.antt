@@ -1,6 +1,6 @@
 -- What calls of a session add to what was acknowledged and drawn, and why a thread gives up.
 use Rattle.std.proofs.Common.{◌≡◌, ◌⊎◌, ℕ, ◌+◌, ◌≤◌, Bool, true, false, List, [], ◌∷◌, ◌++◌, Option, Some, None, inl, inr, refl, sym, ap, ◌∙◌, subst, append_assoc, arith}
-use Rattle.std.specs.Prelude.{◌≢◌, All, Err, IfErr, IfOk, Ok, OnOk, Result, if◌then◌else◌, is_some, slice_index_or, ⊤}
+use Rattle.std.specs.Prelude.{◌≢◌, All, Err, IfErr, IfOk, Ok, Result, if◌then◌else◌, is_some, slice_index_or, ⊤}
 use Rattle.std.proofs.Math.Seq.{drop-append_seam}
 use Rattle.std.proofs.lemmas.Bool.{false≢true}
 use Rattle.std.proofs.lemmas.List.Elements.{All-append, All-head, All-tail}
@@ -18,7 +18,7 @@ use Rattle.engine.specs.Calls.{ArePolls, AreUnended, AskCommit, AskPrepare, Call
 use Rattle.engine.specs.Phases.{added_since, number_of, phase_after, phase_after_step}
 use Rattle.engine.specs.Receipts.{Answers, Asks, Declines, Refuses}
 use Rattle.engine.proofs.Phasing.{phase_after-append}
-use Rattle.workload.specs.Load.{EndsInPut, GivesUp, IsRefusedWith, Makes, MakesNone, MakesOne, ReportsNothing, acknowledged, draws, ended_of, has_drawn, may_pass, pending, reported_to}
+use Rattle.workload.specs.Load.{GivesUp, IsRefusedWith, Makes, MakesNone, MakesOne, ReportsNothing, acknowledged, draws, ended_of, has_drawn, may_pass, pending, reported_to}
 use Rattle.workload.proofs.Counted.{acknowledged-none, acknowledged-one, count-one, draws-append, draws-cons, ends, ends-append, ends-cons, ends-short, none-counted}
 
 -- ---- one after the other
@@ -98,11 +98,6 @@ pub put-none : (p q : Phase) (old new : List Receipt) (n : ℕ) (key : Key) (row
     → IfOk result (λ done. Answers p old new (Put n key row) Done) → IfErr result (λ fault. Declines p old new (Put n key row) fault) → MakesNone p old q new
 put-none p q old new n key row (Ok done) is ok err = leaves-none p q old new (same-pending p q is) (asked-plain old new (Put n key row) Done (put-plain n key row) ok.1)
 put-none p q old new n key row (Err fault) is ok err = leaves-none p q old new (same-pending p q is) (declined-plain p old new (Put n key row) fault (put-plain n key row) err)
-
--- which is the last step where it was done
-pub put-last : (p : Phase) (old new : List Receipt) (n : ℕ) (key : Key) (row : List ℕ) (result : Result ⊤ Fault) → IfOk result (λ done. Answers p old new (Put n key row) Done) → OnOk result (EndsInPut key row new)
-put-last p old new n key row (Ok done) ok = (n, old, ok.1.receipt, ok.1.added, ok.1.asked, ok.1.noted)
-put-last p old new n key row (Err fault) ok = tt
 
 -- an abort
 pub aborted-none : (p q : Phase) (old new : List Receipt) (n : ℕ) → pending p ≡ 0 → Answers p old new (Abort n) Done → MakesNone p old q new

@@ -1,5 +1,5 @@
 -- How many ticks a cycle takes.
-use Rattle.std.proofs.Common.{◌≡◌, ℕ, suc, ◌+◌, Bool, true, false, cond, List, [], ◌∷◌, ◌++◌, length, map, replicate, refl, sym, ◌∙◌, ap, append-nil, append_assoc, arith}
+use Rattle.std.proofs.Common.{◌≡◌, ℕ, suc, ◌+◌, Bool, true, false, List, [], ◌∷◌, ◌++◌, length, map, replicate, refl, sym, ◌∙◌, ap, append-nil, append_assoc, arith}
 use Rattle.std.specs.Prelude.{Option, Some, None, slice_get, is_none, IsTrue, not}
 use Rattle.std.specs.List.{range_with_len}
 use Rattle.std.proofs.Math.ListN.{length-append}
@@ -10,9 +10,8 @@ use Rattle.std.proofs.lemmas.Option.{slice_get-get_or, slice_get_past}
 use Rattle.base.specs.declared.step.Step.TheVariants.{Commit as CommitTick}
 use Rattle.base.specs.declared.step.Stage.{Stage}
 use Rattle.base.specs.declared.step.Stage.TheVariants.{Chosen, LineFlushed, LinesFenced, BodyStored, BodyFlushed, BodyFenced, GateStored, GateFlushed}
-use Rattle.base.specs.declared.step.Reply.{Reply}
 use Rattle.base.specs.declared.step.Reply.TheVariants.{Ticked, Covered}
-use Rattle.machine.specs.Machine.{State, Hand, refusal, chooses, chosen, is_idle, stages, lines_of, next_stage, batch_of, taken_in_hand, state_covered, ticked_on, state_ticked_on, ticked, state_ticked}
+use Rattle.machine.specs.Machine.{State, Hand, refusal, chooses, chosen, is_idle, stages, lines_of, next_stage, batch_of, taken_in_hand, state_covered, ticked_on, state_ticked_on}
 use Rattle.machine.specs.Replay.{reply_on, state_on, reply_of, state_of, replies, end}
 use Rattle.machine.specs.Laws.{CycleIsWhole}
 
@@ -46,15 +45,6 @@ IsRest q hand k rest =
 rest-of : (q : State) (hand : Hand) (done rest : List Stage) → q.failed ≡ false → stages (lines_of q hand.commits) ≡ done ++ rest → IsRest q hand (length done) rest
 rest-of q hand done [] works e = grind (arith, append-nil, slice_get_past, tick-reply, tick-state)
 rest-of q hand done (stage ∷ rest) works e = grind (arith, seam done stage rest, rest-of q hand (done ++ stage ∷ []) rest works (e ∙ sym (append_assoc done (stage ∷ []) rest)), length-append done (stage ∷ []))
-
--- the first tick chooses
-first-reply : (q : State) → q.hand ≡ None → is_idle q ≡ false → refusal q CommitTick ≡ None → reply_of q CommitTick ≡ Ticked Chosen
-first-reply q none busy ok =
-    ap (reply_on q CommitTick) ok ∙ ap (ticked q) none ∙ ap (λ (b : Bool). cond b Rattle.base.specs.declared.step.Reply.TheVariants.Idle (Ticked Chosen)) busy
-
-first-state : (q : State) → q.hand ≡ None → is_idle q ≡ false → refusal q CommitTick ≡ None → state_of q CommitTick ≡ at q (taken_in_hand q) 1
-first-state q none busy ok =
-    ap (state_on q CommitTick) ok ∙ ap (state_ticked q) none ∙ ap (λ (b : Bool). cond b q (record q { hand = Some (taken_in_hand q) })) busy
 
 -- the stages after the first
 abbrev later : ℕ → List Stage

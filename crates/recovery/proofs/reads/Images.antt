@@ -22,9 +22,6 @@ pub refusal-log : (image : Image) (fault : Fault) → IsLogRefusal image fault �
 refusal-log image fault (inl is) = inl (log-first image fault is)
 refusal-log image fault (inr memory) = inr memory
 
-pub tells-read : (image : Image) (fault : Fault) → IsLogRefusal image fault → ReportsLogFault image fault
-tells-read image fault a = grind (arith, is)
-
 module _ (layout : Layout) (r : Record) (image : Image) (rules : IsRuledBy layout r image) where
   -- the same, with what stands at the end of the list
   first-is : (rest : Option Fault) → option_or (some_if (not (is_formatted image)) NotFormatted)

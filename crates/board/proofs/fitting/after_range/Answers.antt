@@ -15,6 +15,3 @@ returns-in-None-clause-none c met meets all =
 
 pub loop-timestamp-preserved : goal.loop-timestamp-preserved
 loop-timestamp-preserved c = grind (arith, range_one)
-
-pub returns-clause-some : goal.returns-clause-some
-returns-clause-some c = grind (arith)

@@ -1,10 +1,7 @@
-use Rattle.std.proofs.Common.{ℕ, List, Option, arith, le_refl}
+use Rattle.std.proofs.Common.{ℕ, List, Option}
 use Rattle.board.specs.declared.versions.Place.{Place}
-use Rattle.board.proofs.Places.{in_range, latest_none, latest_some}
+use Rattle.board.proofs.Places.{latest_none, latest_some}
 use Rattle.board.proofs.versions.latest.Goals as goal
-
-pub range-requires : goal.range-requires
-range-requires c = let key = c.args.key.now in rw (c.new.ensures.start, c.new.ensures.end) ((in_range key 0 c.args.stamp c.args.stamp (omega arith) (le_refl c.args.stamp)).0)
 
 pub returns-in_err-row : goal.returns-in_err-row
 returns-in_err-row c =

@@ -1,5 +1,5 @@
 use Rattle.console.proofs.BadLine.{told-so}
-use Rattle.console.proofs.Refusals.{refused-last, refused-so}
+use Rattle.console.proofs.Refusals.{refused-so}
 use Rattle.console.proofs.execute.execute.Goals as goal
 
 pub returns-in-Err-clause-bad_line : goal.returns-in-Err-clause-bad_line
@@ -11,7 +11,3 @@ pub returns-in-Err-clause-refused : goal.returns-in-Err-clause-refused
 returns-in-Err-clause-refused g c =
     refused-so c.args.order.now c.in-Err.stop c.args.file.now (g.R.Read.remaining c.args.input.now) (g.W.Write.contents c.args.output.now) (g.W.Write.contents c.obey.new.output) (g.W.Write.contents c.report_stop.new.output)
     c.report_stop.result.stopped c.in-Err.ensures.refused c.report_stop.ensures.refused
-
-pub returns-in-Err-clause-last : goal.returns-in-Err-clause-last
-returns-in-Err-clause-last g c known =
-    refused-last c.in-Err.stop (g.W.Write.contents c.obey.new.output) (g.W.Write.contents c.report_stop.new.output) c.report_stop.result.stopped (known c.obey.new.output) c.report_stop.ensures.refused

@@ -9,8 +9,8 @@ use Rattle.command_line.specs.declared.command.Survivor.{Survivor}
 use Rattle.console.specs.BadLine.{IsPassed}
 use Rattle.console.specs.Kept.{Leads}
 use Rattle.console.specs.Obeyed.{ObeysLine}
-use Rattle.console.proofs.BadLine.{meets, passed-so, passed_on, unblamed}
-use Rattle.console.proofs.Input.{reading-begins, reading-goes-on, all-read, read-so-far, read-to-crash}
+use Rattle.console.proofs.BadLine.{meets, passed-so, passed_on}
+use Rattle.console.proofs.Input.{reading-begins, reading-goes-on, read-so-far, read-to-crash}
 use Rattle.console.proofs.Obeyed.{no-lines, more-lines, appends-none, appends-more}
 use Rattle.console.proofs.lines.obey_lines.Goals as goal
 
@@ -60,22 +60,6 @@ returns-then-is_some-clause-obeys g c =
       appends-more (g.W.Write.contents c.args.output.now) (g.W.Write.contents c.loop-line.output) (g.W.Write.contents c.obey_line.new.output) before.3 made.0 before.4 made.1,
       more-lines g.D.Pmem.state c.args.room.now c.loop-line.room c.obey_line.new.room before.1 c.as_slice.result.now before.3 made.0 c.in_ok-kept.kept before.5 made.2,
     )
-
-pub returns-clause-obeys : goal.returns-clause-obeys
-returns-clause-obeys g c =
-    let before = c.loop-line.invariant in (
-      before.1,
-      all-read (g.R.Read.remaining c.args.input.now) (split_known_bytes (reader_remaining (λ r. g.R.Read.remaining r.now)) c.loop-line.line-iterator) before.1 before.2 c.in-None.ensures.steps.2,
-      before.3,
-      before.4,
-      before.5,
-    )
-
-pub returns-in_err-new-clause-bad_line : goal.returns-in_err-new-clause-bad_line
-returns-in_err-new-clause-bad_line g c = unblamed c.from_residual.result _ _ c.from_residual.ensures.1 tt
-
-pub returns-in_err-line-clause-bad_line : goal.returns-in_err-line-clause-bad_line
-returns-in_err-line-clause-bad_line g c = unblamed c.from_residual-in_err-line.result _ _ c.from_residual-in_err-line.ensures.1 tt
 
 pub returns-in_err-kept-clause-bad_line : goal.returns-in_err-kept-clause-bad_line
 returns-in_err-kept-clause-bad_line g c =

@@ -1,12 +1,9 @@
-use Rattle.std.proofs.Common.{subst, refl}
-use Rattle.base.specs.declared.fault.Fault.TheVariants.{TooLong}
+use Rattle.std.proofs.Common.{subst}
 use Rattle.base.specs.declared.step.Step.{Step}
-use Rattle.base.specs.declared.step.Reply.TheVariants as reply
 use Rattle.machine.specs.Machine.{State, Stepped}
 use Rattle.command_line.specs.declared.command.Command.TheVariants as asks
 use Rattle.console.specs.Kept.{Leads}
-use Rattle.console.specs.Obeyed.{Answers}
-use Rattle.console.proofs.KeptHistory.{leads-nowhere, leads-step}
+use Rattle.console.proofs.KeptHistory.{leads-step}
 use Rattle.console.proofs.Obeyed.{comes-as}
 use Rattle.console.proofs.lines.perform.Goals as goal
 
@@ -14,10 +11,6 @@ pub returns-in-Step-clause-comes : goal.returns-in-Step-clause-comes
 returns-in-Step-clause-comes g c = comes-as g.D.Pmem.state c.args.room.now c.step.new.self c.args.command.now (asks.Step c.in-Step.asked) c.step.result c.in-Step.is
     (subst (λ (own : Step). Leads g.D.Pmem.state c.args.room.now c.step.new.self (λ (q q' : State). Stepped q own c.step.result q')) c.from.ensures
     (leads-step g.D.Pmem.state c.args.room.now c.step.new.self _ c.step.result c.step.ensures.step))
-
-pub returns-in-LongRow-clause-comes : goal.returns-in-LongRow-clause-comes
-returns-in-LongRow-clause-comes g c = comes-as g.D.Pmem.state c.args.room.now c.args.room.now c.args.command.now asks.LongRow (reply.Refused TooLong) c.in-LongRow.is
-    (leads-nowhere g.D.Pmem.state c.args.room.now (λ (q q' : State). Answers q asks.LongRow (reply.Refused TooLong) q') (λ q. (refl, refl)))
 
 pub returns-in-Commit-clause-comes : goal.returns-in-Commit-clause-comes
 returns-in-Commit-clause-comes g c = comes-as g.D.Pmem.state c.args.room.now c.tick.new.room c.args.command.now (asks.Commit c.in-Commit.ticks) c.tick.result c.in-Commit.is c.tick.ensures

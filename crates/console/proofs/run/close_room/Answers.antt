@@ -3,9 +3,6 @@ use Rattle.room.specs.Room.{device_of as device_in}
 use Rattle.console.proofs.Refusals.{closing-fault}
 use Rattle.console.proofs.run.close_room.Goals as goal
 
-pub returns-in-Ok-clause-closed : goal.returns-in-Ok-clause-closed
-returns-in-Ok-clause-closed c = record { each = c.in-Ok.ensures.ok; may_close = c.in-Ok.ensures.may_close }
-
 pub returns-in-Err-clause-fault : goal.returns-in-Err-clause-fault
 returns-in-Err-clause-fault c =
     closing-fault device_of c.args.room (device_in device_of c.args.room) (device_of c.in-Err._device) c.in-Err.fault c.without_fuse.result c.without_fuse.ensures.device c.without_fuse.ensures.other c.in-Err.ensures.fault

@@ -8,14 +8,11 @@ use Rattle.base.specs.Images.{Image, opening_fault}
 use Rattle.machine.specs.Machine.{State}
 use Rattle.machine.specs.Openings.{OpensAs}
 use Rattle.base.specs.Stands.{Stands}
-use Rattle.pmem.specs.Words.{IsAtRest, image_of}
-use Rattle.pmem.proofs.Restarted.{restarted-rests, image-restarted}
+use Rattle.pmem.specs.Words.{image_of}
+use Rattle.pmem.proofs.Restarted.{image-restarted}
 use Rattle.pmem_model.specs.Sim.{device_of}
 use Rattle.room.specs.Room.{Shows}
 use Rattle.console.proofs.run.open.Goals as goal
-
-pub open-requires-clause-at_rest : goal.open-requires-clause-at_rest
-open-requires-clause-at_rest g c κs within = subst IsAtRest (sym c.in_ok-device.ensures.device) (restarted-rests c.args.words.now)
 
 pub returns-in-Ok-clause-shows : goal.returns-in-Ok-clause-shows
 returns-in-Ok-clause-shows g c = λ history drawn next stands.

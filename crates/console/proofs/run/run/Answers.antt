@@ -51,12 +51,6 @@ pub returns-clause-keeps : goal.returns-clause-keeps
 returns-clause-keeps g c =
     lives-keep c.args.file.now (g.R.Read.remaining c.args.input.now) (g.W.Write.contents c.args.output.now) (g.W.Write.contents c.end.new.output) c.in_ok-left.left.items (returns-clause-lives g c)
 
-pub returns-in_err-words-clause-bad_line : goal.returns-in_err-words-clause-bad_line
-returns-in_err-words-clause-bad_line g c = unblamed c.from_residual.result _ _ c.from_residual.ensures.1 tt
-
-pub returns-in_err-room-clause-bad_line : goal.returns-in_err-room-clause-bad_line
-returns-in_err-room-clause-bad_line g c = unblamed c.from_residual-in_err-room.result _ _ c.from_residual-in_err-room.ensures.1 tt
-
 pub returns-in_err-show_opened-clause-bad_line : goal.returns-in_err-show_opened-clause-bad_line
 returns-in_err-show_opened-clause-bad_line g c =
     unblamed c.from_residual-in_err-show_opened.result _ _ c.from_residual-in_err-show_opened.ensures.1 c.in_err-show_opened.ensures.blames
@@ -71,9 +65,6 @@ returns-in_err-keeps-clause-bad_line g c =
     c.as_slice.ensures.value c.in_ok-room.ensures.shows)
     told.1 told.2 met)
     c.in_err-keeps.ensures.bad_line
-
-pub returns-in_err-left-clause-bad_line : goal.returns-in_err-left-clause-bad_line
-returns-in_err-left-clause-bad_line g c = unblamed c.from_residual-in_err-left.result _ _ c.from_residual-in_err-left.ensures.1 c.in_err-left.ensures.blames
 
 pub returns-in_err-room-clause-refused : goal.returns-in_err-room-clause-refused
 returns-in_err-room-clause-refused g c =

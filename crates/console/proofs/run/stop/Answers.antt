@@ -1,11 +1,8 @@
-use Rattle.std.proofs.Common.{◌∷◌, ◌++◌, [], subst}
+use Rattle.std.proofs.Common.{◌∷◌, ◌++◌, []}
 use Rattle.std.specs.Prelude.{codes}
-use Rattle.pmem.specs.Device.{Device}
 use Rattle.pmem.specs.Words.{image_of}
-use Rattle.pmem_model.specs.Chosen.{IsChosen}
 use Rattle.pmem_model.specs.Sim.{device_of}
 use Rattle.command_line.specs.Texts.{survivor_text}
-use Rattle.console.specs.Crash.{choice_of}
 use Rattle.console.proofs.Lives.{ends-stopped}
 use Rattle.console.proofs.run.stop.Goals as goal
 
@@ -16,10 +13,3 @@ returns-clause-ends g c = (
   λ q shows. ends-stopped device_of c.args.room (device_of c.into_device-device.result) (image_of (device_of c.in_ok-left.left)) c.in_ok-file.file.items c.args.keeps q c.into_device-device.ensures
       c.in_ok-left.ensures.possible c.in_ok-file.ensures.file shows,
 )
-
-pub returns-clause-kept : goal.returns-clause-kept
-returns-clause-kept g c = record {
-  image = image_of (device_of c.in_ok-left.left);
-  of_image = c.in_ok-file.ensures.file;
-  chosen = subst (λ (device : Device). IsChosen (choice_of c.args.keeps) device (image_of (device_of c.in_ok-left.left))) c.into_device-device.ensures c.in_ok-left.ensures.chosen;
-}

@@ -1,14 +1,11 @@
-use Rattle.std.proofs.Common.{◌*◌, ◌∙◌, ap, subst, sym}
+use Rattle.std.proofs.Common.{◌*◌, ◌∙◌, ap, subst}
 use Rattle.base.specs.Images.{Image}
-use Rattle.pmem.specs.Words.{IsAtRest, image_of}
-use Rattle.pmem.proofs.Restarted.{restarted-rests, image-restarted}
+use Rattle.pmem.specs.Words.{image_of}
+use Rattle.pmem.proofs.Restarted.{image-restarted}
 use Rattle.pmem_model.specs.Sim.{device_of}
 use Rattle.workload.specs.Load.{HasFree, HasMadeFrom, HasNumbers, IsLoadFault, OpensTo}
 use Rattle.console.proofs.Working.{load-told}
 use Rattle.console.proofs.threads.worked_on.Goals as goal
-
-pub run_load-requires-clause-at_rest : goal.run_load-requires-clause-at_rest
-run_load-requires-clause-at_rest g c κs within = subst IsAtRest (sym c.in_ok-device.ensures.device) (restarted-rests c.args.words.now)
 
 pub returns-in-Ok-clause-made : goal.returns-in-Ok-clause-made
 returns-in-Ok-clause-made g c =

@@ -1,13 +1,10 @@
 use Rattle.std.proofs.Common.{◌≡◌, ℕ, ◌+◌, List, length, sym, ◌∙◌, subst, arith}
 use Rattle.std.proofs.Math.Logic.{∥∥₁_map}
 use Rattle.journal.specs.States.{Rests}
-use Rattle.journal.proofs.Changes.{numbers-below, entry_size}
+use Rattle.journal.proofs.Changes.{entry_size}
 use Rattle.journal.proofs.Within.{rests_within}
 use Rattle.journal.proofs.Appended.{rests-either, append-either, append-kept}
 use Rattle.journal.proofs.appending.append.Goals as goal
-
-pub entry_of-requires-clause-numbers : goal.entry_of-requires-clause-numbers
-entry_of-requires-clause-numbers g c = grind (arith, numbers-below)
 
 pub returns-in_err-entry-clause-either : goal.returns-in_err-entry-clause-either
 returns-in_err-entry-clause-either g c = grind (arith, rests-either)

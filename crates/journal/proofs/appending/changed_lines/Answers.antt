@@ -1,11 +1,8 @@
 use Rattle.std.proofs.Common.{◌≡◌, ℕ, suc, ◌+◌, List, length, take, sym, subst, arith}
 use Rattle.std.proofs.Math.Seq.{take-suc, take-length}
 use Rattle.journal.specs.Changes.{AreFound}
-use Rattle.journal.proofs.Changes.{found-none, found-changed}
+use Rattle.journal.proofs.Changes.{found-changed}
 use Rattle.journal.proofs.appending.changed_lines.Goals as goal
-
-pub loop-number-init : goal.loop-number-init
-loop-number-init c = grind (arith, found-none)
 
 pub loop-number-preserved : goal.loop-number-preserved
 loop-number-preserved c =

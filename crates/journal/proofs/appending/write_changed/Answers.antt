@@ -39,8 +39,5 @@ begin_pass-requires-clause-within g c =
     let over : position.words - room ≡ 0 = ∥∥₁_elim c.requires.known (ℕ_set _ _) (λ r. omega (arith, (rests-behind held (length durable) room position.pass position.words durable r).all_size)) in
     omega (arith, over)
 
-pub begin_pass-requires-clause-known : goal.begin_pass-requires-clause-known
-begin_pass-requires-clause-known g c = c.requires.known
-
 pub returns-in_err-begin_pass-clause-either : goal.returns-in_err-begin_pass-clause-either
 returns-in_err-begin_pass-clause-either g c = grind (arith, opens-either (g.S.Storage.may_hold c.begin_pass.new.storage) (length c.args.durable.now) c.args.room c.args.durable.now c.args.words.now c.begin_pass.ensures.opens, c.begin_pass.ensures.opens)

@@ -1,8 +1,5 @@
-use Rattle.journal.proofs.Placed.{placed-none, lines-placed}
+use Rattle.journal.proofs.Placed.{lines-placed}
 use Rattle.journal.proofs.file_image.put_each.Goals as goal
-
-pub loop-line-init : goal.loop-line-init
-loop-line-init c = placed-none c.args.image.now.items
 
 pub loop-line-preserved : goal.loop-line-preserved
 loop-line-preserved c =

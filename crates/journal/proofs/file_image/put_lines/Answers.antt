@@ -2,11 +2,8 @@ use Rattle.std.proofs.Common.{◌≡◌, ◌∙◌, ◌-◌, ◌*◌, ℕ, List,
 use Rattle.std.proofs.lemmas.List.{length-drop}
 use Rattle.std.proofs.Math.Seq.{take-length}
 use Rattle.journal.specs.LinePayloads.{line_of}
-use Rattle.journal.proofs.Placed.{placed-none, payloads-more}
+use Rattle.journal.proofs.Placed.{payloads-more}
 use Rattle.journal.proofs.file_image.put_lines.Goals as goal
-
-pub loop-at-init : goal.loop-at-init
-loop-at-init c = placed-none c.args.image.now.items
 
 pub loop-at-preserved : goal.loop-at-preserved
 loop-at-preserved c =

@@ -1,20 +1,15 @@
-use Rattle.std.proofs.Common.{◌∙◌, ap, sym, subst}
+use Rattle.std.proofs.Common.{◌∙◌, ap, sym}
 use Rattle.std.specs.Prelude.{List}
 use Rattle.std.proofs.lemmas.Result.{IfOk-weaker}
 use Rattle.base.specs.declared.step.Reply.{Reply}
 use Rattle.base.specs.Images.{Image}
 use Rattle.pmem.specs.Device.{limited, restarted}
-use Rattle.pmem.specs.Words.{IsAtRest, image_of}
-use Rattle.pmem.proofs.Restarted.{restarted-rests}
+use Rattle.pmem.specs.Words.{image_of}
 use Rattle.pmem_model.specs.Sim.{device_of}
 use Rattle.lives.specs.Parts.{HasLived}
 use Rattle.lives.specs.Stops.{IsStopped, LivesOn, ReportsDevice, StopsBy, WhereItStands}
 use Rattle.lives.proofs.Stops.{is-stopped}
 use Rattle.lives.proofs.beginning.live.Goals as goal
-
-pub live_under_fuse-requires-after_bounds : goal.live_under_fuse-requires-after_bounds
-live_under_fuse-requires-after_bounds g c κs within =
-    subst IsAtRest (sym (c.set_fuse.ensures.device ∙ ap (limited c.args.life.now.fuse) c.requires)) (restarted-rests (image_of (device_of c.args.device)))
 
 pub returns-clause-ok : goal.returns-clause-ok
 returns-clause-ok g c =

@@ -1,10 +1,10 @@
-use Rattle.std.proofs.Common.{List, ℕ, ◌≡◌, false, sym, ◌∙◌, ap, rules}
+use Rattle.std.proofs.Common.{List, ℕ, ◌≡◌, sym, ◌∙◌, ap}
 use Rattle.std.proofs.lemmas.Result.{IfOk-weaker}
 use Rattle.pmem.specs.Device.{MayLeave, restarted}
 use Rattle.pmem.specs.Words.{image_of}
 use Rattle.pmem.proofs.Restarted.{image-restarted, of-restarted}
 use Rattle.pmem_model.specs.Chosen.{IsChosen}
-use Rattle.pmem_model.specs.Sim.{device_of, IsWithinLimit}
+use Rattle.pmem_model.specs.Sim.{device_of}
 use Rattle.lives.specs.Stops.{IsRestarted}
 use Rattle.lives.proofs.ending.stop.Goals as goal
 
@@ -24,16 +24,6 @@ returns-clause-possible c =
     (λ left. (image : List ℕ) × MayLeave device image × (device_of left ≡ restarted image))
     (λ left. MayLeave device (image_of (device_of left)))
     (λ left made. of-restarted (MayLeave device) (device_of left) made)
-    c.crash.ensures.possible
-
-pub returns-clause-within : goal.returns-clause-within
-returns-clause-within c =
-    let device = device_of c.args.device.now in
-    let works : c.failed_otherwise.result ≡ false = search rules in
-    IfOk-weaker c.crash.result
-    (λ left. (image : List ℕ) × MayLeave device image × (device_of left ≡ restarted image))
-    (λ left. IsWithinLimit device)
-    (λ left made. c.failed_otherwise.ensures works)
     c.crash.ensures.possible
 
 pub returns-clause-rests : goal.returns-clause-rests

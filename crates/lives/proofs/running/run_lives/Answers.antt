@@ -19,9 +19,6 @@ loop-life-init g c = (
   subst (λ (i : Image). Stands i [] [] 1) c.in_ok-device.ensures.image c.in_ok-device.ensures.empty,
 )
 
-pub live-requires-after_bounds : goal.live-requires-after_bounds
-live-requires-after_bounds g c κs within = c.loop-life.invariant.1
-
 pub loop-life-preserved : goal.loop-life-preserved
 loop-life-preserved g c =
     let lives = c.args.lives.now in

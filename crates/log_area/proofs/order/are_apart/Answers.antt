@@ -1,9 +1,6 @@
 use Rattle.std.proofs.Common.{◌∙◌, sym, ◌-◌, arith}
-use Rattle.log_area.proofs.Codec.{apart_next, apart_end}
+use Rattle.log_area.proofs.Codec.{apart_end}
 use Rattle.log_area.proofs.order.are_apart.Goals as goal
-
-pub returns-then-not-ends_before : goal.returns-then-not-ends_before
-returns-then-not-ends_before c = grind (arith, apart_next)
 
 pub returns : goal.returns
 returns c = sym (apart_end c.args.gaps.now (c.loop-i.i - 1) (omega arith)) ∙ c.loop-i.invariant

@@ -1,11 +1,8 @@
 use Rattle.std.proofs.Common.{◌+◌, get_or, arith}
 use Rattle.pmem.specs.Trace.{store_op}
 use Rattle.pmem.proofs.Lists.{loop-more, loop-stops}
-use Rattle.pmem.proofs.Traces.{runs_none, words-run, words-stopped}
+use Rattle.pmem.proofs.Traces.{words-run, words-stopped}
 use Rattle.pmem.proofs.storing.store_all.Goals as goal
-
-pub loop-k-init : goal.loop-k-init
-loop-k-init g c = runs_none (g.D.Pmem.state c.args.device.now) (g.met.D.Pmem.orderly c.args.device.now)
 
 pub loop-k-preserved : goal.loop-k-preserved
 loop-k-preserved g c = loop-more (λ k. store_op (c.args.first + k) (get_or c.args.values.now k 0)) c.loop-k.k (g.met.D.Pmem.orderly c.store.new.self) c.in-Ok.ensures.ok c.loop-k.invariant

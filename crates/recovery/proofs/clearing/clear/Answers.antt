@@ -16,12 +16,6 @@ flushes words = flush_operations committer 1 (words / 8 - 1)
 pub flush_lines-requires-clause-within : goal.flush_lines-requires-clause-within
 flush_lines-requires-clause-within g c = omega (arith, c.requires, c.words-words.ensures, words-run c.in_ok-store_zeros.ensures.run)
 
-pub returns-in_err-store_zeros-clause-stopped : goal.returns-in_err-store_zeros-clause-stopped
-returns-in_err-store_zeros-clause-stopped g c =
-    let words : ℕ = c.words-words.result in
-    on_err c.from_residual.result (subst (λ (n : ℕ). StopsWithin (clear_operations n) (g.D.Pmem.state c.args.device.now) (g.D.Pmem.state c.store_zeros.new.device)) c.words-words.ensures
-    (stops-first {xs = stores words ++ flushes words} (fence_op committer ∷ []) (stops-first {xs = stores words} (flushes words) c.in_err-store_zeros.ensures.stopped)))
-
 pub returns-in_err-flush_lines-clause-stopped : goal.returns-in_err-flush_lines-clause-stopped
 returns-in_err-flush_lines-clause-stopped g c =
     let words : ℕ = c.words-words.result in

@@ -3,11 +3,8 @@ use Rattle.base.proofs.Results.{on_err}
 use Rattle.base.specs.Actors.{committer}
 use Rattle.pmem.specs.Trace.{flush_op}
 use Rattle.pmem.proofs.Lists.{loop-more, loop-stops}
-use Rattle.pmem.proofs.Traces.{runs_none, words-run}
+use Rattle.pmem.proofs.Traces.{words-run}
 use Rattle.recovery.proofs.clearing.flush_lines.Goals as goal
-
-pub loop-k-init : goal.loop-k-init
-loop-k-init g c = runs_none (g.D.Pmem.state c.args.device.now) (g.met.D.Pmem.orderly c.args.device.now)
 
 pub flush-requires : goal.flush-requires
 flush-requires g c = omega (arith, c.requires.within, words-run c.loop-k.invariant, c.loop-k-test.true)
@@ -18,6 +15,3 @@ loop-k-preserved g c = loop-more (λ k. flush_op committer (c.args.first + k)) c
 pub returns-in_err-flush-clause-stopped : goal.returns-in_err-flush-clause-stopped
 returns-in_err-flush-clause-stopped g c =
     on_err c.from_residual.result (loop-stops (λ k. flush_op committer (c.args.first + k)) c.loop-k.k c.args.count c.loop-k-test.true (g.met.D.Pmem.orderly c.flush.new.self) c.in_err-flush.ensures.err c.loop-k.invariant)
-
-pub returns-clause-run : goal.returns-clause-run
-returns-clause-run g c = grind (arith)

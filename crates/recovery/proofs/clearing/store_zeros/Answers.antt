@@ -2,11 +2,8 @@ use Rattle.std.proofs.Common.{◌+◌, arith}
 use Rattle.base.proofs.Results.{on_err}
 use Rattle.pmem.specs.Trace.{store_op}
 use Rattle.pmem.proofs.Lists.{loop-more, loop-stops}
-use Rattle.pmem.proofs.Traces.{runs_none, words-run}
+use Rattle.pmem.proofs.Traces.{words-run}
 use Rattle.recovery.proofs.clearing.store_zeros.Goals as goal
-
-pub loop-k-init : goal.loop-k-init
-loop-k-init g c = runs_none (g.D.Pmem.state c.args.device.now) (g.met.D.Pmem.orderly c.args.device.now)
 
 pub store-requires : goal.store-requires
 store-requires g c = omega (arith, c.requires.within, words-run c.loop-k.invariant, c.loop-k-test.true)
@@ -17,6 +14,3 @@ loop-k-preserved g c = loop-more (λ k. store_op (c.args.first + k) 0) c.loop-k.
 pub returns-in_err-store-clause-stopped : goal.returns-in_err-store-clause-stopped
 returns-in_err-store-clause-stopped g c =
     on_err c.from_residual.result (loop-stops (λ k. store_op (c.args.first + k) 0) c.loop-k.k c.args.count c.loop-k-test.true (g.met.D.Pmem.orderly c.store.new.self) c.in_err-store.ensures.err c.loop-k.invariant)
-
-pub returns-clause-run : goal.returns-clause-run
-returns-clause-run g c = grind (arith)

@@ -67,14 +67,8 @@ module _ (layout : Layout) (r : Record) {d0 d1 d2 : Device} (is : r ≡ first_re
       whole : {d5 : Device} → Runs (set_operations committer 0 superblock_word) d4 d5 → Runs (format_operations layout) d0 d5
       whole r5 = runs-then before_last r5
 
-pub set_word-requires : goal.set_word-requires
-set_word-requires g c = omega (arith, c.requires.size, log_within c.args.geometry)
-
 pub returns-in_err-set_word-clause-stopped : goal.returns-in_err-set_word-clause-stopped
 returns-in_err-set_word-clause-stopped g c = on_err c.from_residual.result (at-first c.args.geometry c.in_err-set_word.ensures.stopped)
-
-pub clear-requires : goal.clear-requires
-clear-requires g c = omega (arith, c.requires.size, words-run c.in_ok-set_word.ensures.run, log_within c.args.geometry)
 
 pub returns-in_err-clear-clause-stopped : goal.returns-in_err-clear-clause-stopped
 returns-in_err-clear-clause-stopped g c =

@@ -15,6 +15,3 @@ returns-in-Err-clause-fault c = λ image are.
 
 pub loop-slot-preserved : goal.loop-slot-preserved
 loop-slot-preserved c = grind (arith, found-at, bad-more, c.loop-slot-test.true, c.slots-slot-end.ensures.value, c.in-Ok.ensures.keys, c.loop-slot.invariant.keys, c.loop-slot.invariant.good, c.in-Ok.ensures.good)
-
-pub returns-clause-good : goal.returns-clause-good
-returns-clause-good c = grind (arith)

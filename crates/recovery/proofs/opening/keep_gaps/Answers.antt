@@ -1,9 +1,9 @@
-use Rattle.std.proofs.Common.{Bool, cond, [], sym, subst, arith}
+use Rattle.std.proofs.Common.{Bool, cond, [], sym, subst}
 use Rattle.pmem.specs.Trace.{Runs}
 use Rattle.pmem.specs.Words.{value_of, image_of}
 use Rattle.pmem.proofs.Traces.{runs_none}
 use Rattle.recovery.specs.Sweeping.{whole_sweep}
-use Rattle.recovery.proofs.sweeps.Slots.{few-enough, many-gaps}
+use Rattle.recovery.proofs.sweeps.Slots.{few-enough}
 use Rattle.recovery.proofs.sweeps.Hits.{where-many}
 use Rattle.recovery.proofs.opening.keep_gaps.Goals as goal
 
@@ -16,9 +16,3 @@ returns-in-Some-clause-run g c =
     let old = g.D.Pmem.state c.args.device.now in
     let few = few-enough (image_of old) c.args.geometry c.args.ruling c.args.gaps c.in-Some.few c.requires.rules c.requires.gaps c.in-Some.is in
     subst (λ (b : Bool). Runs (cond b (whole_sweep c.args.geometry c.args.ruling (value_of old)) []) old old) (sym few) (runs_none old (g.met.D.Pmem.orderly c.args.device.now))
-
-pub returns-in-Ok-clause-run : goal.returns-in-Ok-clause-run
-returns-in-Ok-clause-run g c = grind (arith, many-gaps)
-
-pub returns-in-Err-clause-stopped : goal.returns-in-Err-clause-stopped
-returns-in-Err-clause-stopped g c = grind (arith, many-gaps)

@@ -30,9 +30,6 @@ returns-in-Err-clause-images g c = images-refused (g.D.Pmem.state c.args.device.
 pub returns-in-Err-clause-version : goal.returns-in-Err-clause-version
 returns-in-Err-clause-version g c = version-refused (g.D.Pmem.state c.args.device.now) ((g.met.D.Pmem g.world.𝓛 g.world.𝓜 g.world.𝓡 ((λ s x. x), (λ x. x), (λ x. x), λ x. x)).orderly c.args.device.now) c.requires
 
-pub returns-in-Err-clause-log : goal.returns-in-Err-clause-log
-returns-in-Err-clause-log g c = c.in-Err.ensures.log
-
 refused-later : (old new : Device) (result : Result OpenedImage Fault) (layout : Layout) (r : Record) (gaps : Option (List Gap)) (free : List Bool) (live : List LiveSlot) → Examined (image_of old) layout r gaps free live
     → IfErr result (λ fault. fault ≡ DeviceFault) → OnErr result (IsCutShort old new) → IfErr result (IsRefusal (opening_fault (image_of old)) old new)
 refused-later old new (Ok life) layout r gaps free live ex is more = tt

@@ -1,7 +1,7 @@
 use Rattle.std.proofs.Common.{◌∙◌, arith}
 use Rattle.pmem.specs.Words.{image_of}
 use Rattle.recovery.proofs.sweeps.Slots.{ruled-size}
-use Rattle.recovery.proofs.reads.Images.{refusal-log, refusal-slots, refusal-memory, is-read}
+use Rattle.recovery.proofs.reads.Images.{refusal-log, refusal-slots, is-read}
 use Rattle.recovery.proofs.reads.Slots.{readings-size}
 use Rattle.recovery.proofs.reading.read_device.Goals as goal
 
@@ -22,9 +22,6 @@ live_rows-requires-clause-size g c = ruled-size (g.D.Pmem.state c.args.device.no
 pub live_rows-requires-clause-live : goal.live_rows-requires-clause-live
 live_rows-requires-clause-live g c = grind (arith)
 
-pub live_rows-requires-clause-laid_out : goal.live_rows-requires-clause-laid_out
-live_rows-requires-clause-laid_out g c = c.in-Ok.ensures.ok.rules.laid_out
-
 pub live_rows-requires-clause-good : goal.live_rows-requires-clause-good
 live_rows-requires-clause-good g c = grind (arith)
 
@@ -34,6 +31,3 @@ returns-in-Ok-live_rows-clause-ok g c =
     let readings = c.in-Ok.readings in
     let held = c.in-Ok-held_slots.ensures.held image (c.as_slice-slots.ensures.value ∙ c.in-Ok.ensures.ok.slots_are) in
     is-read readings.geometry readings.ruling image c.in-Ok.ensures.ok.rules held.good c.in-Ok-live_rows.rows.items c.in-Ok-live_rows.ensures
-
-pub returns-clause-fault : goal.returns-clause-fault
-returns-clause-fault g c = refusal-memory c.in-Ok.readings.geometry c.in-Ok.readings.ruling (image_of (g.D.Pmem.state c.args.device.now)) c.in-Ok.ensures.ok.rules

@@ -1,5 +1,4 @@
 use Rattle.std.proofs.Common.{◌≡◌, ◌<◌, ◌+◌, Vec, Global, List, [], ◌∷◌, ◌++◌, refl, sym, ◌∙◌, ap, subst, length, map, take, arith}
-use Rattle.std.proofs.lemmas.List.{take_all}
 use Rattle.recovery.specs.declared.rows.LiveSlot.{LiveSlot}
 use Rattle.recovery.specs.Held.{HasEach, held_keys}
 use Rattle.recovery.proofs.reads.LiveRows.{live-none, live-live, live-free, good-at}
@@ -58,6 +57,3 @@ loop-slot-preserved c = record {
 
 pub returns-clause-each : goal.returns-clause-each
 returns-clause-each c = λ slot reading key lt. c.loop-slot.invariant.each slot reading key (omega (arith, lt, c.loop-slot-test.false))
-
-pub returns-clause-keys : goal.returns-clause-keys
-returns-clause-keys c = c.loop-slot.invariant.keys ∙ ap held_keys (take_all c.loop-slot.slot c.args.readings.now (omega (arith, c.loop-slot-test.false)))

@@ -3,7 +3,7 @@ use Rattle.base.specs.Actors.{committer}
 use Rattle.base.proofs.Results.{on_err}
 use Rattle.pmem.specs.Trace.{fence_op, Runs}
 use Rattle.pmem.specs.Words.{value_of, image_of}
-use Rattle.pmem.proofs.Traces.{runs_none, runs-more, stops-one, stops-then, words-run}
+use Rattle.pmem.proofs.Traces.{runs-more, stops-one, stops-then, words-run}
 use Rattle.recovery.specs.Sweeping.{sweep_below}
 use Rattle.recovery.proofs.sweeps.Slots.{ruled-size, hit-is, swept-hit, swept-unhit, stops-hit}
 use Rattle.recovery.proofs.openings.Devices.{may-rule}
@@ -16,9 +16,6 @@ sweep_slot-requires-clause-may_rule g c = may-rule c.args.geometry c.args.ruling
 
 pub sweep_slot-requires-clause-size : goal.sweep_slot-requires-clause-size
 sweep_slot-requires-clause-size g c = words-run c.loop-slot.invariant ∙ ruled-size (g.D.Pmem.state c.args.device.now) c.args.geometry c.args.ruling c.requires.rules
-
-pub loop-slot-init : goal.loop-slot-init
-loop-slot-init g c = runs_none (g.D.Pmem.state c.args.device.now) (g.met.D.Pmem.orderly c.args.device.now)
 
 pub bounds-hits-slot : goal.bounds-hits-slot
 bounds-hits-slot g c = omega (arith, c.loop-slot-test.true, c.slots-slot-end.ensures.value, ap length c.requires.hits, hits-size (image_of (g.D.Pmem.state c.args.device.now)) c.args.geometry.slots)

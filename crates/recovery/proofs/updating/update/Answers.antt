@@ -39,8 +39,5 @@ returns-then-version-clause-run g c =
 pub update_version-requires : goal.update_version-requires
 update_version-requires g c = opened-size (g.D.Pmem.state c.args.device.now) c.requires.opens
 
-pub returns-in-Ok-clause-run : goal.returns-in-Ok-clause-run
-returns-in-Ok-clause-run g c = grind (arith, set-done)
-
 pub returns-in-Err-clause-stopped : goal.returns-in-Err-clause-stopped
 returns-in-Err-clause-stopped g c = grind (arith, set-done)

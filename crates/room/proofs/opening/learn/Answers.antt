@@ -10,7 +10,6 @@ use Rattle.recovery.specs.declared.examining.Examined.{Examined}
 use Rattle.recovery.specs.Opened.{HasExamined, Refuses}
 use Rattle.recovery.specs.Read.{AreOf}
 use Rattle.recovery.proofs.openings.Devices.{refuses-read, refuses-memory}
-use Rattle.recovery.proofs.reads.Images.{tells-read, tells-later}
 use Rattle.room.specs.Opening.{HasEntries}
 use Rattle.room.proofs.openings.LiveIndex.{entries-are}
 use Rattle.room.proofs.opening.learn.Goals as goal
@@ -18,19 +17,10 @@ use Rattle.room.proofs.opening.learn.Goals as goal
 pub returns-in-Err-clause-fault : goal.returns-in-Err-clause-fault
 returns-in-Err-clause-fault g c = refuses-read (image_of (g.D.Pmem.state c.args.device.now)) c.in-Err.fault c.in-Err.ensures.fault
 
-pub returns-in-Err-clause-log : goal.returns-in-Err-clause-log
-returns-in-Err-clause-log g c = tells-read (image_of (g.D.Pmem.state c.args.device.now)) c.in-Err.fault c.in-Err.ensures.fault
-
-pub side_by_side-entries-requires-clause-read : goal.side_by_side-entries-requires-clause-read
-side_by_side-entries-requires-clause-read g c κs within = (image_of (g.D.Pmem.state c.args.device.now), c.in-Ok.ensures.ok)
-
 pub returns-in-Err-found-clause-fault : goal.returns-in-Err-found-clause-fault
 returns-in-Err-found-clause-fault g c =
     subst (λ (r : Result Examined Fault). IfErr r (λ fault. (image : Image) → AreOf image c.in-Ok.readings → Refuses image fault)) c.in-Err-found.is c.side_by_side-entries.ensures.fault
     (image_of (g.D.Pmem.state c.args.device.now)) c.in-Ok.ensures.ok
-
-pub returns-in-Err-found-clause-log : goal.returns-in-Err-found-clause-log
-returns-in-Err-found-clause-log g c = tells-later c.in-Ok.readings.geometry c.in-Ok.readings.ruling (image_of (g.D.Pmem.state c.args.device.now)) c.in-Ok.ensures.ok.rules c.in-Err-found.fault
 
 pub returns-in-Ok-entries-clause-ok : goal.returns-in-Ok-entries-clause-ok
 returns-in-Ok-entries-clause-ok g c =
@@ -46,6 +36,3 @@ returns-in-Ok-entries-clause-ok g c =
 
 pub returns-clause-fault : goal.returns-clause-fault
 returns-clause-fault g c = refuses-memory c.in-Ok.readings.geometry c.in-Ok.readings.ruling (image_of (g.D.Pmem.state c.args.device.now)) c.in-Ok.ensures.ok.rules
-
-pub returns-clause-log : goal.returns-clause-log
-returns-clause-log g c = tells-later c.in-Ok.readings.geometry c.in-Ok.readings.ruling (image_of (g.D.Pmem.state c.args.device.now)) c.in-Ok.ensures.ok.rules _

@@ -1,9 +1,6 @@
 use Rattle.engine.specs.Origins.{HasHalted}
-use Rattle.workload.proofs.Acknowledged.{gives-up, none-then}
+use Rattle.workload.proofs.Acknowledged.{gives-up}
 use Rattle.workload.proofs.committing.attempt.Goals as goal
-
-pub returns-in-Ok-step_back-clause-ok : goal.returns-in-Ok-step_back-clause-ok
-returns-in-Ok-step_back-clause-ok g c = none-then _ _ _ _ _ _ (c.in-Err.ensures.none c.in-Ok-step_back.ensures.ok.0) c.in-Ok-step_back.ensures.ok.1
 
 pub returns-in-Err-step_back-clause-err : goal.returns-in-Err-step_back-clause-err
 returns-in-Err-step_back-clause-err g c = gives-up (HasHalted g.J.Origin.image) _ _ c.in-Err.fault _ c.in-Err.ensures.err c.in-Err-step_back.ensures.err

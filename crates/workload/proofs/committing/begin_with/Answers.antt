@@ -1,4 +1,4 @@
-use Rattle.workload.proofs.Acknowledged.{begun-none, none-then, not-begun-none, put-last, put-none}
+use Rattle.workload.proofs.Acknowledged.{begun-none, none-then, not-begun-none, put-none}
 use Rattle.workload.proofs.committing.begin_with.Goals as goal
 
 pub returns-in-Ok-clause-none : goal.returns-in-Ok-clause-none
@@ -8,6 +8,3 @@ returns-in-Ok-clause-none g c =
 
 pub returns-in-Err-clause-none : goal.returns-in-Err-clause-none
 returns-in-Err-clause-none g c = not-begun-none _ _ _ _ c.in-Err.fault c.in-Err.ensures.phase c.in-Err.ensures.err
-
-pub returns-in-Ok-clause-put : goal.returns-in-Ok-clause-put
-returns-in-Ok-clause-put g c = put-last _ _ _ _ c.args.key c.args.row c.put.result c.put.ensures.ok

@@ -1,11 +1,7 @@
-use Rattle.std.proofs.Common.{refl}
 use Rattle.base.specs.declared.step.Step.TheVariants.{Abort}
 use Rattle.database.specs.Replies.{done_of}
 use Rattle.database.proofs.Runs.{answers-step}
 use Rattle.database.proofs.desk.Desk.abort.Goals as goal
-
-pub returns-clause-step : goal.returns-clause-step
-returns-clause-step g c = (c.in-Some.room, c.abort.new.room, c.in-Some.is, refl, c.abort.ensures.step)
 
 pub returns-clause-made : goal.returns-clause-made
 returns-clause-made g c =

@@ -1,15 +1,9 @@
-use Rattle.std.proofs.Common.{rules, ◌<◌, ◌/◌, ℕ, List, Bool, ◌||◌, nat_eq, length, get_or, refl, sym, ◌∙◌, ap, subst, arith}
+use Rattle.std.proofs.Common.{rules, ◌/◌, ℕ, List, Bool, ◌||◌, nat_eq, length, get_or, refl, ◌∙◌, ap}
 use Rattle.std.proofs.lemmas.Bool.{eq-eqb}
 use Rattle.std.proofs.lemmas.List.{with_items_is}
 use Rattle.dirty_table.specs.Bits.{is_in}
 use Rattle.dirty_table.proofs.Summaries.{summed-with, summed-same}
 use Rattle.dirty_table.proofs.line_set.LineSet.insert.Goals as goal
-
-pub insert-requires : goal.insert-requires
-insert-requires c = subst (λ (ws : List ℕ). c.args.line / 64 < length ws) (sym (c.as_mut_slice.ensures.value ∙ c.self.view_is)) c.requires
-
-pub insert-requires-2 : goal.insert-requires-2
-insert-requires-2 c = grind (arith)
 
 pub invariant_of-self : goal.invariant_of-self
 invariant_of-self c =
@@ -19,9 +13,3 @@ invariant_of-self c =
     (λ at apart. c.insert.ensures.others at apart ∙ ap (λ (ws : List ℕ). get_or ws at 0) c.as_mut_slice.ensures.value)
     (c.insert.ensures.is_in c.args.line ∙ ap (λ (b : Bool). b || is_in c.as_mut_slice.result.now c.args.line) (eq-eqb c.args.line c.args.line refl))
     (λ i. c.insert-2.ensures.is_in i ∙ ap (λ (ws : List ℕ). nat_eq i (c.args.line / 64) || is_in ws i) c.as_mut_slice-2.ensures.value))
-
-pub returns-clause-is_in : goal.returns-clause-is_in
-returns-clause-is_in c = grind (arith, with_items_is)
-
-pub returns-clause-size : goal.returns-clause-size
-returns-clause-size c = grind (arith, with_items_is)

@@ -1,11 +1,8 @@
 use Rattle.std.proofs.Common.{ℕ, subst, sym, ◌∙◌}
 use Rattle.std.specs.Prelude.{Option, IfNone}
 use Rattle.dirty_table.specs.Touches.{IsUntouchedFrom}
-use Rattle.dirty_table.proofs.Tables.{walks-first, walks-found, walks-on, walks-past, lines_touched-rising}
+use Rattle.dirty_table.proofs.Tables.{walks-found, walks-on, walks-past, lines_touched-rising}
 use Rattle.dirty_table.proofs.table.DirtyTable.next.Goals as goal
-
-pub loop-line-init : goal.loop-line-init
-loop-line-init c = walks-first c.args.sessions.now c.args.self.now c.args.from
 
 pub loop-line-preserved : goal.loop-line-preserved
 loop-line-preserved c = walks-on c.args.sessions.now c.args.self.now c.args.from c.loop-line.low c.loop-line.invariant c.in-Some.line c.in-Some.ensures.some (sym c.meets.ensures ∙ c.if-meets.false)

@@ -1,4 +1,4 @@
-use Rattle.std.proofs.Common.{◌≡◌, ℕ, List, Some, None, cond, sym, ◌∙◌, ap, subst, arith}
+use Rattle.std.proofs.Common.{◌≡◌, ℕ, List, Some, None, cond, sym, ◌∙◌, ap, subst}
 use Rattle.std.specs.BTreeMap.{get}
 use Rattle.std.specs.BTreeMap.Range.{entries_between}
 use Rattle.std.specs.Map.Iter.{deref_pair}
@@ -11,12 +11,9 @@ use Rattle.snapshot.specs.Walks.{IsLinked}
 use Rattle.index.specs.declared.entry.Entry.{Entry}
 use Rattle.index.specs.Entries.{key_cmp}
 use Rattle.index.specs.Reading.{bounds_of}
-use Rattle.index.proofs.Bounds.{HasUpTo, none-yet, passed-over, put-in, all-there, absent-none}
+use Rattle.index.proofs.Bounds.{HasUpTo, passed-over, put-in, all-there, absent-none}
 use Rattle.index.proofs.Changes.{none-at}
 use Rattle.index.proofs.map.Index.rows_by_key.Goals as goal
-
-pub loop-key-init : goal.loop-key-init
-loop-key-init g c = grind (arith, none-yet)
 
 pub loop-key-preserved-in-Ok-1 : goal.loop-key-preserved-in-Ok-1
 loop-key-preserved-in-Ok-1 g c = λ counts tables agree linked shows.

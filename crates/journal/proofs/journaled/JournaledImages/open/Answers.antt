@@ -1,11 +1,7 @@
-use Rattle.std.proofs.Common.{true, length, refl, arith}
-use Rattle.std.proofs.lemmas.Grind.{merely}
-use Rattle.journal.proofs.Appended.{found-knows, may-kept}
+use Rattle.std.proofs.Common.{true, length, refl}
+use Rattle.journal.proofs.Appended.{may-kept}
 use Rattle.journal.proofs.Files.{file-stands, opened-stands}
 use Rattle.journal.proofs.journaled.JournaledImages.open.Goals as goal
-
-pub rewrite-requires-clause-known : goal.rewrite-requires-clause-known
-rewrite-requires-clause-known g c = grind (arith, merely, found-knows)
 
 pub returns-in-Ok-rewrite-clause-found : goal.returns-in-Ok-rewrite-clause-found
 returns-in-Ok-rewrite-clause-found g c image may =

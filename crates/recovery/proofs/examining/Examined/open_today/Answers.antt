@@ -42,6 +42,3 @@ pub returns-in-Ok-write_record-clause-run : goal.returns-in-Ok-write_record-clau
 returns-in-Ok-write_record-clause-run g c =
     let same = target-is (image_of (g.D.Pmem.state c.args.device.now)) c.args.self.geometry c.args.self.ruling c.args.self.gaps c.args.self.free.items c.args.self.live.items c.requires.examined c.next_record-target.result c.in-Ok.gaps c.in-Ok.ensures.ok c.next_record-target.ensures in
     runs-then c.in-Ok.ensures.run (subst (λ (r : Record). Runs (record_operations c.args.self.geometry r) (g.D.Pmem.state c.keep_gaps.new.device) (g.D.Pmem.state c.write_record.new.device)) same c.in-Ok-write_record.ensures.run)
-
-pub returns-in-Ok-write_record-clause-ok : goal.returns-in-Ok-write_record-clause-ok
-returns-in-Ok-write_record-clause-ok g c = grind (arith, target-is)

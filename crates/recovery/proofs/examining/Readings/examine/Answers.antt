@@ -1,6 +1,6 @@
 use Rattle.std.proofs.Common.{length, ◌∙◌, ap, arith}
 use Rattle.log_area.proofs.AtRest.{fits_image}
-use Rattle.recovery.proofs.openings.Devices.{may-rule, formed-parts, window-small, refuses-slots, refuses-limit, refuses-memory, examined}
+use Rattle.recovery.proofs.openings.Devices.{may-rule, formed-parts, refuses-slots, refuses-limit, refuses-memory, examined}
 use Rattle.recovery.proofs.reads.Slots.{readings-size}
 use Rattle.recovery.proofs.sweeps.Hits.{are-hits}
 use Rattle.recovery.proofs.examining.Readings.examine.Goals as goal
@@ -12,9 +12,6 @@ pub returns-in-Err-clause-fault : goal.returns-in-Err-clause-fault
 returns-in-Err-clause-fault g c = grind (arith, refuses-slots)
 
 -- ---- the limit
-
-pub is_near_limit-requires-clause-window : goal.is_near_limit-requires-clause-window
-is_near_limit-requires-clause-window g c = window-small c.args.self.now.geometry c.args.self.now.ruling c.requires.read.0 c.requires.read.1.rules
 
 pub is_near_limit-requires-clause-dirty : goal.is_near_limit-requires-clause-dirty
 is_near_limit-requires-clause-dirty g c = (formed-parts c.args.self.now.geometry c.args.self.now.ruling c.requires.read.0 c.requires.read.1.rules).limit

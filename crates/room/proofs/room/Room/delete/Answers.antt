@@ -23,6 +23,3 @@ pub returns-clause-step : goal.returns-clause-step
 returns-clause-step g c =
     quiet-leads g.D.Pmem.state c.args.self.now _ (asked.Delete c.args.session c.args.key) (done c.delete.result) c.if-self.false refl refl refl c.args.self.now.shown
     (steps-quietly _ _ (g.D.Pmem.state c.args.self.now.device) (asked.Delete c.args.session c.args.key) (done c.delete.result) (g.met.D.Pmem.orderly _) refl c.delete.ensures.step)
-
-pub returns-clause-memory : goal.returns-clause-memory
-returns-clause-memory g c = c.delete.ensures.memory

@@ -23,6 +23,3 @@ pub returns-clause-step : goal.returns-clause-step
 returns-clause-step g c =
     call-leads g.D.Pmem.state c.args.self.now _ (asked.Put c.args.session c.args.key c.args.row) (done c.put-returned.result) c.if-self.false (c.reports_failure-self.ensures ∙ done-failure c.put-returned.result) refl
     (on-device _ _ (g.D.Pmem.state c.args.self.now.device) (g.D.Pmem.state c.put-returned.new.device) (asked.Put c.args.session c.args.key c.args.row) (done c.put-returned.result) c.put-returned.ensures.step)
-
-pub returns-clause-memory : goal.returns-clause-memory
-returns-clause-memory g c = c.put-returned.ensures.memory

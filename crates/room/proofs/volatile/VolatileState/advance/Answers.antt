@@ -1,5 +1,5 @@
 use Rattle.std.proofs.Common.{◌≡◌, ◌<◌, List, true, refl, sym, ◌∙◌, ap, subst}
-use Rattle.std.specs.Prelude.{Option, Some, Ok, IsSome}
+use Rattle.std.specs.Prelude.{Option, Some, Ok}
 use Rattle.std.proofs.Math.Bridge.{le_prop}
 use Rattle.std.proofs.Math.Nat.{ℕ_set}
 use Rattle.std.proofs.Math.Logic.{∥∥₁_elim, ∥∥₁_map}
@@ -58,12 +58,6 @@ returns-in-Ok-None-clause-step g c = λ q shows works.
     (sym c.in-Ok-None.field-0-is ∙ c.in-Ok-None.ensures.reached ∙ λ i. reached_in (lines_touched c.in-Some.cycle.sessions (c.dirty.ensures i)) c.in-Some.cycle) c.tick.new.self (c.in-Ok-None.ensures.ok ∙ λ i. ticked_in (lines_touched c.in-Some.cycle.sessions (c.dirty.ensures i)) c.in-Some.cycle) c.tick.new.self.batch c.tick.new.self.writing.target refl refl
     c.cover.new.self.sessions c.cover.new.self.cycle (as_reply (Ok Covered) c.cover.new.self.covered) (c.cover.ensures.shows c.tick.new.self refl) c.cover.ensures.cycle (ap (λ (b : Option Batch). as_reply (Ok Covered) b) (c.cover.ensures.batch c.tick.new.self refl))
 
-pub returns-in-Ok-None-clause-waits : goal.returns-in-Ok-None-clause-waits
-returns-in-Ok-None-clause-waits g c = subst (λ (b : Option Batch). IsSome b) (sym (c.cover.ensures.batch c.tick.new.self refl)) refl
-
 pub returns-in-Err-clause-step : goal.returns-in-Err-clause-step
 returns-in-Err-clause-step g c = λ q shows works.
     fails-on c.args.self.now.sessions c.in-Some.cycle (g.D.Pmem.state c.args.device.now) (g.met.D.Pmem.orderly _) q (subst (λ (o : Option Cycling). ShowsIn c.args.self.now.sessions o (g.D.Pmem.state c.args.device.now) q) c.in-Some.is shows) (g.D.Pmem.state c.tick.new.device) (g.met.D.Pmem.orderly _) works c.in-Err.ensures.failure c.tick.new.self c.in-Err.ensures.err c.in-Err.reason c.in-Err.ensures.fault
-
-pub returns-in-Err-clause-closer : goal.returns-in-Err-clause-closer
-returns-in-Err-clause-closer g c = λ un. absurd (un c.in-Err.reason refl)

@@ -68,12 +68,6 @@ returns-clause-may_close g c =
     let state = g.D.Pmem.state in
     on_ok-from c.cover_drawn.result (may-close c.args.self.now (state c.args.device.now) c.closing_gate.result c.closing_gate.ensures c.if-closing_gate-ge-NUMBER_LIMIT.false)
 
-pub returns-clause-no_failure : goal.returns-clause-no_failure
-returns-clause-no_failure g c =
-    let state = g.D.Pmem.state in
-    let two : ClosePhaseDone c.args.self.now c.stamp_rest.new.self (state c.args.device.now) (state c.stamp_rest.new.device) = part_trans c.args.self.now c.finish_cycle.new.self c.stamp_rest.new.self (state c.args.device.now) (state c.finish_cycle.new.device) (state c.stamp_rest.new.device) c.in_ok-finish_cycle.ensures.ok c.in_ok-stamp_rest.ensures.ok in
-    on_ok_weaker c.cover_drawn.result (λ last. (last_after c.args.self.now c.stamp_rest.new.self c.stamp_rest.new.self (state c.args.device.now) (state c.stamp_rest.new.device) (state c.cover_drawn.new.device) two last).no_failure) c.cover_drawn.ensures.ok
-
 pub returns-clause-fault : goal.returns-clause-fault
 returns-clause-fault g c =
     let state = g.D.Pmem.state in

@@ -1,4 +1,4 @@
-use Rattle.std.proofs.Common.{◌≡◌, ◌+◌, ◌^◌, ◌<◌, List, true, sym, ◌∙◌, ap, subst}
+use Rattle.std.proofs.Common.{◌≡◌, ◌+◌, List, true, sym, ◌∙◌, ap, subst}
 use Rattle.std.proofs.lemmas.Bool.{iff_false}
 use Rattle.std.specs.Prelude.{nat_eq}
 use Rattle.std.specs.List.{list_any}
@@ -11,16 +11,9 @@ use Rattle.dirty_table.specs.declared.sessions.SessionSet.{SessionSet}
 use Rattle.dirty_table.specs.Touches.{lines_touched}
 use Rattle.txn.specs.InFlight.{InFlight}
 use Rattle.group_commit.specs.Cycles.{line_from, operation_in, ticked_in}
-use Rattle.snapshot.specs.declared.numbers.Numbers.{Numbers}
 use Rattle.room.specs.Closing.{ClosePhaseFailed}
-use Rattle.room.proofs.closes.Whole.{some-below}
 use Rattle.room.proofs.closes.Cycle.{begins, sized, line-fits, ticks, comes-closer, fails-then, ends}
 use Rattle.room.proofs.volatile.VolatileState.cover_drawn.Goals as goal
-
-pub closing-cycle-requires : goal.closing-cycle-requires
-closing-cycle-requires g c = record {
-  numbered = subst (λ (n : Numbers). n.record.gate < 2 ^ 62) (sym c.numbers-numbers.ensures) (some-below c.args.self.now (g.D.Pmem.state c.args.device.now) c.requires.shown);
-}
 
 pub loop-cycle-init : goal.loop-cycle-init
 loop-cycle-init g c =
@@ -28,9 +21,6 @@ loop-cycle-init g c =
     (λ n. c.closing-cycle.ensures.sessions n ∙ ap (λ (f : InFlight). list_any (λ d. nat_eq d.session n) f.commits) c.drawn.ensures)
     (c.closing-cycle.ensures.writing ∙ λ i. begun (c.numbers-numbers.ensures i).geometry (closing_record ((c.numbers-numbers.ensures i).record.gate + 1) (c.numbers-numbers.ensures i).record (c.numbers-numbers.ensures i).next (c.has_swept.ensures i)))
     c.closing-cycle.ensures.stage
-
-pub tick-requires-clause-unfinished : goal.tick-requires-clause-unfinished
-tick-requires-clause-unfinished g c = iff_false c.is_done.ensures c.loop-cycle-test.true
 
 pub tick-requires-clause-size : goal.tick-requires-clause-size
 tick-requires-clause-size g c =

@@ -2,7 +2,7 @@ use Rattle.std.proofs.Common.{sym, ◌∙◌, ap}
 use Rattle.room.specs.Closing.{ClosePhaseDone}
 use Rattle.room.specs.Ticks.{as_reply}
 use Rattle.room.proofs.closes.Parts.{part_refl, part_trans, failed_after, shown_after}
-use Rattle.room.proofs.closes.Ticks.{rests, tick-done, tick-failed, unrefused-reply}
+use Rattle.room.proofs.closes.Ticks.{tick-done, tick-failed, unrefused-reply}
 use Rattle.room.proofs.volatile.VolatileState.finish_cycle.Goals as goal
 
 pub loop-self-init : goal.loop-self-init
@@ -21,9 +21,6 @@ returns-in-Err-clause-err g c =
     (shown_after c.args.self.now c.loop-self.self c.loop-self.self (state c.args.device.now) (state c.loop-self.device) (state c.loop-self.device) done c.requires.shown)
     c.advance.ensures.step c.in-Err.fault (ap (λ r. as_reply r c.advance.new.self.covered) c.in-Err.is))
 
-pub loop-self-smaller : goal.loop-self-smaller
-loop-self-smaller g c = c.advance.ensures.closer c.in_default.not-Err
-
 pub loop-self-preserved : goal.loop-self-preserved
 loop-self-preserved g c =
     let state = g.D.Pmem.state in
@@ -32,6 +29,3 @@ loop-self-preserved g c =
     (tick-done c.loop-self.self c.advance.new.self (state c.loop-self.device) (state c.advance.new.device) (as_reply c.advance.result c.advance.new.self.covered) (sym c.is_some.ensures ∙ c.loop-self-test.true)
     (shown_after c.args.self.now c.loop-self.self c.loop-self.self (state c.args.device.now) (state c.loop-self.device) (state c.loop-self.device) done c.requires.shown)
     c.advance.ensures.step (unrefused-reply c.advance.result c.advance.new.self.covered c.in_default.not-Err))
-
-pub returns-clause-rests : goal.returns-clause-rests
-returns-clause-rests g c = rests c.loop-self.self.cycle (sym c.is_some.ensures ∙ c.loop-self-test.false)

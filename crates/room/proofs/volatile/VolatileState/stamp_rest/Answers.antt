@@ -39,11 +39,5 @@ loop-session-preserved g c =
     (sym c.unstamped.ensures ∙ c.in-Some.is) (on-device c.loop-session.self.sessions c.stamp.new.self (state c.loop-session.device) (state c.stamp.new.device) _ _ c.stamp.ensures.step) (λ fault told. c.in_default-stamp.not-Err fault (stamped-told c.stamp.result fault told)) in
     (part_trans c.args.self.now c.loop-session.self _ (state c.args.device.now) (state c.loop-session.device) (state c.stamp.new.device) c.loop-session.invariant.0 done, c.loop-session.invariant.1)
 
-pub returns-clause-ok : goal.returns-clause-ok
-returns-clause-ok g c = c.loop-session.invariant.0
-
-pub returns-clause-rests : goal.returns-clause-rests
-returns-clause-rests g c = c.loop-session.invariant.1
-
 pub returns-clause-stamped : goal.returns-clause-stamped
 returns-clause-stamped g c = none-left c.loop-session.self.sessions.drawn.commits (sym c.unstamped.ensures ∙ c.in_default.is)

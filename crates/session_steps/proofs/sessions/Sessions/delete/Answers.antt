@@ -1,17 +1,12 @@
 use Rattle.std.proofs.Math.Bool.{Bool-set}
 use Rattle.std.proofs.Math.Logic.{∥∥₁_elim}
-use Rattle.std.proofs.Common.{refl, sym, ◌∙◌, true, ap, subst, ℕ, Bool, length}
-use Rattle.std.specs.Bool.{OnFalse}
-use Rattle.txn.specs.WriteSets.{HasRoomFor}
+use Rattle.std.proofs.Common.{refl, sym, ◌∙◌, true, ap, ℕ, length}
 use Rattle.std.specs.Prelude.{Option}
 use Rattle.session_steps.specs.Giving.{fits_slot, given}
 use Rattle.base.specs.declared.fault.Fault.TheVariants.{WriteSetFull}
 use Rattle.base.specs.declared.step.SessionStep.TheVariants.{Delete}
 use Rattle.session_steps.proofs.slots.Freeing.{deletes, delete-asks, fits-own_of}
 use Rattle.session_steps.proofs.transactions.Steps.{inactive, refuses}
-use Rattle.txn.specs.Transactions.{transaction_at}
-use Rattle.session_steps.specs.Steps.{is_active}
-use Rattle.session_steps.proofs.Memory.{barred-memory}
 use Rattle.session_steps.proofs.sessions.Sessions.delete.Goals as goal
 
 pub returns-in-Err-clause-step : goal.returns-in-Err-clause-step
@@ -23,13 +18,7 @@ returns-then-own-clause-step c = λ h holds. refuses c.args.self.now (Delete c.a
 pub give-requires : goal.give-requires
 give-requires c = ap (fits_slot (length c.args.self.now.slots)) c.own_key-own.ensures.slot ∙ ∥∥₁_elim c.requires.shown (Bool-set _ _) (λ shown. fits-own_of c.args.self.now c.args.session c.args.key _ _ shown.0 c.in-Ok.ensures.ok shown.1)
 
-pub write-requires : goal.write-requires
-write-requires c = (_, _, c.in-Ok.ensures.ok, subst (λ (b : Bool). OnFalse b (HasRoomFor c.args.key c.in-Ok.active.writes.now)) c.if-own.false c.own_key-own.ensures.room)
-
 pub returns-clause-step : goal.returns-clause-step
 returns-clause-step c = λ h holds.
     deletes c.args.self.now c.write.new.self c.give.new.slots c.args.session c.args.key c.place.result _ _ h c.in-Ok.ensures.ok (sym c.own_key-own.ensures.full ∙ c.if-own.false)
     (c.give.ensures ∙ ap (λ (o : Option ℕ). given o c.args.self.now.slots) c.own_key-own.ensures.slot) (c.write.ensures _ _ c.in-Ok.ensures.ok) holds
-
-pub returns-in-Err-clause-memory : goal.returns-in-Err-clause-memory
-returns-in-Err-clause-memory c = barred-memory is_active (transaction_at c.args.self.now.transactions c.args.session) c.in-Err.fault c.in-Err.ensures.fault

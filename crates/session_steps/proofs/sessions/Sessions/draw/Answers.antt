@@ -1,18 +1,15 @@
 use Rattle.std.proofs.Math.Bridge.{le_prop}
 use Rattle.std.proofs.Math.Logic.{∥∥₁_elim}
 use Rattle.session_steps.proofs.Limits.{next-below}
-use Rattle.std.proofs.Common.{◌≡◌, true, false, List, refl, sym, subst, ◌∙◌}
-use Rattle.std.specs.Prelude.{Some, None, All}
+use Rattle.std.proofs.Common.{true, false, refl, sym, ◌∙◌}
+use Rattle.std.specs.Prelude.{Some, None}
 use Rattle.base.specs.declared.fault.Fault.TheVariants.{Conflict, WindowFull, TimestampsOut}
 use Rattle.base.specs.declared.step.SessionStep.TheVariants.{Draw}
-use Rattle.index.specs.Entries.{has_room}
-use Rattle.txn.specs.declared.write.Write.{Write}
-use Rattle.session_steps.specs.Drawing.{conflict_in}
 use Rattle.session_steps.proofs.draws.Steps.{draw-asks, draws-nothing}
 use Rattle.session_steps.proofs.transactions.Steps.{inactive, refuses}
 use Rattle.txn.specs.Transactions.{transaction_at}
 use Rattle.session_steps.specs.Steps.{is_active}
-use Rattle.session_steps.proofs.CodeTests.{nothing-is, some-is, one-active, barred}
+use Rattle.session_steps.proofs.CodeTests.{nothing-is, some-is, barred}
 use Rattle.session_steps.proofs.sessions.Sessions.draw.Goals as goal
 
 pub returns-in-Err : goal.returns-in-Err
@@ -46,12 +43,3 @@ returns-then-is_near_limit c = record {
 
 pub is_near_limit-requires : goal.is_near_limit-requires
 is_near_limit-requires c = ∥∥₁_elim c.requires.shown le_prop (λ shown. next-below c.args.self.now shown.0 shown.1)
-
-pub draw_next-requires-clause-active : goal.draw_next-requires-clause-active
-draw_next-requires-clause-active c snapshot writes at =
-    let same = one-active _ _ _ _ _ c.in-Ok.ensures.ok at in
-    (λ none. some-is _ _ c.is_empty.ensures c.if-is_empty.false (same.1 ∙ none), (λ i. conflict_in c.args.self.now.index (sym same.0 i) (sym same.1 i)) ∙ sym (sym c.in_default.is ∙ c.ask-asked.ensures.conflict))
-
-pub draw_next-requires-clause-there : goal.draw_next-requires-clause-there
-draw_next-requires-clause-there c snapshot writes at there =
-    subst (λ (ws : List Write). All (λ w. has_room c.args.self.now.index w.key ≡ true) ws) (one-active _ _ _ _ _ c.in-Ok.ensures.ok at).1 (c.ask-asked.ensures.room there)

@@ -11,9 +11,6 @@ use Rattle.session_steps.proofs.draws.Notes.{fits-lines}
 use Rattle.session_steps.proofs.CodeTests.{one-active}
 use Rattle.session_steps.proofs.sessions.Sessions.draw_next.Goals as goal
 
-pub reserve_keys-requires : goal.reserve_keys-requires
-reserve_keys-requires c = record { there = c.requires.there _ _ c.in-Ok.ensures.ok }
-
 pub draw_writes-requires-clause-fits : goal.draw_writes-requires-clause-fits
 draw_writes-requires-clause-fits c = ∥∥₁_elim c.requires.shown (Bool-set _ _) (λ shown. fits-lines c.args.self.now shown.0 c.args.session _ _ c.reserve_keys.new.index shown.1 c.in-Ok.ensures.ok c.reserve_keys.ensures.entries)
 

@@ -6,7 +6,7 @@ use Rattle.std.specs.Prelude.{Option, Some}
 use Rattle.txn.specs.declared.transaction.Transaction.TheVariants.{Active}
 use Rattle.txn.specs.declared.write.Write.{Write}
 use Rattle.txn.specs.Transactions.{Sets}
-use Rattle.txn.specs.WriteSets.{HasRoomFor, with_write_at}
+use Rattle.txn.specs.WriteSets.{with_write_at}
 use Rattle.version_slot.specs.Words.{link_number}
 use Rattle.session_steps.proofs.puts.Steps.{own-within, link-fits, puts-own, puts-own-stopped}
 use Rattle.session_steps.proofs.reads.Rows.{words-are}
@@ -22,9 +22,6 @@ fill-requires-clause-previous g c =
 
 pub fill-requires-clause-device : goal.fill-requires-clause-device
 fill-requires-clause-device g c = ∥∥₁_elim c.requires.shown (ℕ_set _ _) (λ shown. words-are _ _ (g.D.Pmem.state c.args.device.now) (g.met.D.Pmem.orderly _) shown.1.upholds)
-
-pub write-requires : goal.write-requires
-write-requires g c = (_, _, c.requires.ready.active, subst (λ (w : Write). HasRoomFor w.key c.requires.ready.writes) (sym c.row_write.ensures) c.requires.ready.room)
 
 pub returns-in-Ok-clause-step : goal.returns-in-Ok-clause-step
 returns-in-Ok-clause-step g c = λ h holds.

@@ -7,7 +7,7 @@ use Rattle.pmem.proofs.Traces.{runs-then}
 use Rattle.txn.specs.declared.transaction.Transaction.TheVariants.{Active}
 use Rattle.txn.specs.declared.write.Write.{Write}
 use Rattle.txn.specs.Transactions.{Sets}
-use Rattle.txn.specs.WriteSets.{HasRoomFor, with_write_at}
+use Rattle.txn.specs.WriteSets.{with_write_at}
 use Rattle.slot_alloc.specs.Free.{lowest_free}
 use Rattle.pmem.specs.Trace.{Runs, StopsWithin}
 use Rattle.version_slot.specs.Operations.{clear_operations}
@@ -33,9 +33,6 @@ fill-requires-clause-previous g c =
 
 pub fill-requires-clause-device : goal.fill-requires-clause-device
 fill-requires-clause-device g c = c.take.ensures.size ∙ ∥∥₁_elim c.requires.shown (ℕ_set _ _) (λ shown. words-are _ _ (g.D.Pmem.state c.args.device.now) (g.met.D.Pmem.orderly _) shown.1.upholds)
-
-pub write-requires : goal.write-requires
-write-requires g c = (_, _, c.requires.ready.active, subst (λ (w : Write). HasRoomFor w.key c.requires.ready.writes) (sym c.row_write.ensures) c.requires.ready.room)
 
 pub returns-in-Err-clause-step : goal.returns-in-Err-clause-step
 returns-in-Err-clause-step g c = λ h holds.

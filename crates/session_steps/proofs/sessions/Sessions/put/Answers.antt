@@ -4,9 +4,6 @@ use Rattle.base.specs.declared.step.SessionStep.TheVariants.{Put}
 use Rattle.session_steps.proofs.puts.Steps.{full-refusal, long-refusal}
 use Rattle.session_steps.proofs.transactions.Steps.{inactive-refusal}
 use Rattle.session_steps.proofs.Stepping.{held-on, refused-on}
-use Rattle.txn.specs.Transactions.{transaction_at}
-use Rattle.session_steps.specs.Steps.{is_active}
-use Rattle.session_steps.proofs.Memory.{barred-memory}
 use Rattle.session_steps.proofs.sessions.Sessions.put.Goals as goal
 
 pub returns-in-Err-clause-step : goal.returns-in-Err-clause-step
@@ -23,6 +20,3 @@ pub returns-then-own-clause-step : goal.returns-then-own-clause-step
 returns-then-own-clause-step g c = λ h holds.
     refused-on c.args.self.now (g.D.Pmem.state c.args.device.now) (Put c.args.session c.args.key c.args.row) WriteSetFull h (g.met.D.Pmem.orderly _) holds
     (full-refusal c.args.self.now h c.args.session c.args.key c.args.row _ _ (held-on c.args.self.now h _ holds) c.in-Ok.ensures.ok (omega (arith, c.if-as_bytes-row_limit.false, c.row_limit.ensures.value, ap length c.as_bytes.ensures.value)) (sym c.own_key-own.ensures.full ∙ c.if-own.true))
-
-pub returns-in-Err-clause-memory : goal.returns-in-Err-clause-memory
-returns-in-Err-clause-memory g c = barred-memory is_active (transaction_at c.args.self.now.transactions c.args.session) c.in-Err.fault c.in-Err.ensures.fault

@@ -1,8 +1,7 @@
-use Rattle.std.proofs.Common.{◌≡◌, ◌∙◌, ap, arith}
+use Rattle.std.proofs.Common.{◌≡◌, arith}
 use Rattle.std.specs.List.{filter}
 use Rattle.std.proofs.lemmas.List.{with_items_is}
 use Rattle.base.proofs.Lists.{all-filter}
-use Rattle.txn.specs.InFlight.{InFlight}
 use Rattle.txn.specs.DrawnCommits.{is_uncovered}
 use Rattle.txn.proofs.InOrder.{order-filtered}
 use Rattle.txn.proofs.drawn.DrawnCommits.cover.Goals as goal
@@ -12,6 +11,3 @@ left c = grind (arith, with_items_is)
 
 pub invariant_of-self : goal.invariant_of-self
 invariant_of-self c = grind (arith, left, all-filter, order-filtered)
-
-pub returns-clause-commits : goal.returns-clause-commits
-returns-clause-commits c = left c ∙ ap (λ (v : InFlight). filter (is_uncovered c.args.snapshot.now) v.commits) c.self.view_is

@@ -6,9 +6,6 @@ use Rattle.txn.proofs.InOrder.{order-stamped}
 use Rattle.txn.proofs.Numbered.{numbered-stamped}
 use Rattle.txn.proofs.drawn.DrawnCommits.stamp.Goals as goal
 
-pub stamp_in-requires : goal.stamp_in-requires
-stamp_in-requires c = subst (λ (ds : List DrawnCommit). are_in_order ds ≡ true) (sym c.as_mut_slice.ensures.value) c.self.invariant.1
-
 pub invariant_of-self : goal.invariant_of-self
 invariant_of-self c =
     let same : c.stamp_in.new.commits ≡ map (with_stamp c.args.timestamp) c.self.inside.commits.items = c.stamp_in.ensures ∙ ap (map (with_stamp c.args.timestamp)) c.as_mut_slice.ensures.value in
