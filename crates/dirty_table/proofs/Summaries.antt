@@ -1,8 +1,8 @@
 -- A summary of words: which of them aren't 0.
-use Rattle.std.proofs.Common.{◌≡◌, ◌≢◌, ℕ, ◌+◌, ◌*◌, ◌/◌, ◌%◌, ◌^◌, ◌<◌, ◌≤◌, true, false, ◌||◌, ◌&&◌, not, nat_eq, List, length, get_or, replicate, sym, ◌∙◌, ap, subst, arith}
+use Rattle.std.proofs.Common.{◌≡◌, ◌≢◌, ℕ, ◌+◌, ◌*◌, ◌/◌, ◌<◌, ◌≤◌, true, false, ◌||◌, ◌&&◌, not, nat_eq, List, length, get_or, sym, ◌∙◌, ap, subst, arith}
 use Rattle.std.specs.Int.{bit_at}
 use Rattle.std.proofs.lemmas.Bool.{cases_eq, eqb-true, eqb-false}
-use Rattle.std.proofs.lemmas.List.{get_or_past, get_or-replicate, length-replicate}
+use Rattle.std.proofs.lemmas.List.{get_or_past}
 use Rattle.std.proofs.lemmas.Nat.Bits.{same_from_bits, bit_at-zero, bit_at-lt}
 use Rattle.dirty_table.specs.Bits.{has_bit, is_in, IsLowestBit, IsLowest, IsSummed}
 use Rattle.dirty_table.proofs.Words.{zero-bit}
@@ -42,15 +42,6 @@ pub summed-same : (words summary words' summary' : List ℕ) → words' ≡ word
 summed-same words summary words' summary' same same' summed = subst (λ (ws : List ℕ). IsSummed ws summary') (sym same) (subst (λ (ss : List ℕ). IsSummed words ss) (sym same') summed)
 
 -- ---- words of 0
-
-zeros-word : (count at : ℕ) → ◌≡◌ {A = ℕ} (get_or (replicate count 0) at 0) 0
-zeros-word count at = grind (arith, get_or-replicate, get_or_past, length-replicate)
-
-pub zeros-clear : (count : ℕ) (words : List ℕ) → words ≡ replicate count 0 → (i : ℕ) → is_in words i ≡ false
-zeros-clear count words is i = zero-bit (get_or words (i / 64) 0) (i % 64) (ap (λ (ws : List ℕ). get_or ws (i / 64) 0) is ∙ zeros-word count (i / 64))
-
-pub summed-zeros : (count count' : ℕ) (words summary : List ℕ) → words ≡ replicate count 0 → summary ≡ replicate count' 0 → count ≤ 64 * count' → count < 2 ^ 57 → count' < 2 ^ 57 → IsSummed words summary
-summed-zeros count count' words summary is is' le few few' = grind (arith, length-replicate, zeros-word)
 
 -- ---- the lowest line
 

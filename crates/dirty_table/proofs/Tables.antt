@@ -135,9 +135,6 @@ pub record Walks (sessions : SessionSet) (table : List SessionSet) (from low : �
   pub above : from ≤ low
   pub none : (k : ℕ) → from ≤ k → k < low → meets sessions (sessions_at table k) ≡ false
 
-pub walks-first : (sessions : SessionSet) (table : List SessionSet) (from : ℕ) → Walks sessions table from from
-walks-first sessions table from = record { above = omega arith; none = λ k ge lt. absurd (omega (arith, ge, lt)) }
-
 module _ (sessions : SessionSet) (table : List SessionSet) (from low : ℕ) (walks : Walks sessions table from low) where
   nobody : (line : ℕ) → ((n : ℕ) → is_touched table n line ≡ false) → meets sessions (sessions_at table line) ≡ false
   nobody line none = meets-apart sessions (sessions_at table line) (λ n here. none n)

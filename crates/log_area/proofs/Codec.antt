@@ -1,6 +1,6 @@
 -- What the words of a place say of the record in it.
-use Rattle.std.proofs.Common.{◌≡◌, ◌⊎◌, inl, inr, ℕ, ◌+◌, ◌*◌, ◌/◌, ◌%◌, ◌^◌, ◌<◌, ◌≤◌, Bool, true, ◌&&◌, List, [], ◌∷◌, length, get_or, drop, refl, sym, ◌∙◌, ap, arith, lit<, nat_lt}
-use Rattle.std.proofs.lemmas.List.{ext_get_or, length-drop, drop_more}
+use Rattle.std.proofs.Common.{◌≡◌, ◌⊎◌, inl, inr, ℕ, ◌+◌, ◌*◌, ◌/◌, ◌%◌, ◌^◌, ◌<◌, ◌≤◌, true, List, [], ◌∷◌, length, get_or, drop, refl, sym, ◌∙◌, ap, arith, lit<}
+use Rattle.std.proofs.lemmas.List.{ext_get_or, length-drop}
 use Rattle.base.specs.declared.gap.Gap.{Gap}
 use Rattle.base.specs.Records.{Record, IsRecord, no_gap, are_apart, are_rising}
 use Rattle.base.proofs.Spelling.{record_word-first, record_word-last, same_gap, record_word-long, same_record, few_gaps}
@@ -9,23 +9,7 @@ use Rattle.log_area.specs.Codec.{IsReadFrom}
 
 -- ---- the order of gaps
 
-apart_step : (gaps : List Gap) (i j : ℕ) → i ≡ j + 1 → i < length gaps
-    → are_apart (drop j gaps) ≡ (nat_lt ((get_or gaps j no_gap).last + 1) (get_or gaps i no_gap).first && are_apart (drop i gaps))
-apart_step gaps i j is h = grind (arith, drop_more)
-
--- a test between two gaps decides, or leaves the rest to
-pub apart_next : (gaps : List Gap) (i j : ℕ) (test : Bool) → i ≡ j + 1 → i < length gaps → test ≡ nat_lt ((get_or gaps j no_gap).last + 1) (get_or gaps i no_gap).first
-    → are_apart (drop j gaps) ≡ (test && are_apart (drop i gaps))
-apart_next gaps i j test is h t = apart_step gaps i j is h ∙ ap (λ (b : Bool). b && are_apart (drop i gaps)) (sym t)
-
 -- ---- the order of long commits
-
-rising_step : (ts : List ℕ) (i j : ℕ) → i ≡ j + 1 → i < length ts → are_rising (drop j ts) ≡ (nat_lt (get_or ts j 0) (get_or ts i 0) && are_rising (drop i ts))
-rising_step ts i j is h = grind (arith, drop_more)
-
--- a test between two decides, or leaves the rest to
-pub rising_next : (ts : List ℕ) (i j : ℕ) (test : Bool) → i ≡ j + 1 → i < length ts → test ≡ nat_lt (get_or ts j 0) (get_or ts i 0) → are_rising (drop j ts) ≡ (test && are_rising (drop i ts))
-rising_next ts i j test is h t = rising_step ts i j is h ∙ ap (λ (b : Bool). b && are_rising (drop i ts)) (sym t)
 
 -- with at most one left there is nothing to test
 pub rising_end : (ts : List ℕ) (i : ℕ) → length ts ≤ i + 1 → are_rising (drop i ts) ≡ true

@@ -18,4 +18,3 @@ pub mod stamps
 pub mod reads
 pub mod AnyHand
 pub mod Counted
-pub mod Memory

@@ -1,4 +1,3 @@
-pub mod Slots
 pub mod Counted
 pub mod Acknowledged
 pub mod Agreed

@@ -1,1 +1,0 @@
--- Steps that are no ticks of the committer keep the batch in hand.

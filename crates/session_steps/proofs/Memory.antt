@@ -1,1 +1,0 @@
--- Which refusals aren't for want of memory.

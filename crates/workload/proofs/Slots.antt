@@ -1,1 +1,0 @@
--- Whether the slots suffice, and the numbers.
