@@ -100,7 +100,7 @@ pub record IsGrowing (asked : Layout) (words : List ℕ) : Type 0 where
 abbrev pub IsOurs : Layout → List ℕ → Type 0
 IsOurs asked words = ((layout : Layout) × IsImageOf asked layout words) ⊎ (IsJournaled asked words ⊎ IsGrowing asked words)
 
--- no memory for it
+-- what is reported where memory is refused
 unfoldable pub IsForMemory : OpenError → Type 0
 IsForMemory (Io error) = error_kind error ≡ OutOfMemory
 IsForMemory _ = ⊥
