@@ -1,4 +1,4 @@
-ghost use Rattle.std.specs.Prelude.{◌≡◌, ◌⊎◌};
+ghost use Rattle.std.specs.Prelude.{◌≡◌, ◌≢◌, ◌⊎◌};
 ghost use Rattle.std.specs.IoError.{error_kind};
 ghost use Rattle.base.specs.declared.fault.Fault.TheVariants.{Device as DeviceFault, OutOfMemory};
 ghost use Rattle.console.specs.declared.stop.Stop.TheVariants.{Refused, Broken};
@@ -21,6 +21,7 @@ pub enum Stop {
 /// The fault, on a device without a fuse: an operation fails there only where a store takes memory and there is none.
 pub(crate) fn without_fuse(fault: Fault) -> Fault
     ensures device { fault ≡ DeviceFault → result ≡ OutOfMemory }
+    ensures same { fault ≢ DeviceFault → result ≡ fault }
     ensures other { (result ≡ OutOfMemory) ⊎ (result ≡ fault) }
 {
     match fault {
