@@ -3,11 +3,19 @@
 
     ./picture                  the picture as text; docs/crash.txt is made so
     ./picture --svg FILE       the same as an SVG, written into FILE; docs/crash.svg is made so
+    ./picture --page FILE      a page that one can play with, written into FILE; docs/crash.html is made so
     ./picture --program WBL    by this program, in place of one that is built now without proofs, in minutes
 
 An update that replaces the row `old` by `new` makes 54 operations on the device. It is stopped after each number of them, from none
 to all, once with the oldest and once with the newest survivor of each word; then the store is opened again and the row is read.
 These are 110 scripts for `wbl lives`, and each cell of the picture is what one of them prints.
+
+The page shows another update, of a row of four words, whose new version takes the slot of an older one. After each number of its
+54 operations the reader chooses the survivor of each word, and sees what the next opening finds. `wbl` has opened the image of each
+choice, 261 different ones, and what the page shows is what it printed: 723 runs with those that hold the images to the program.
+
+How far it is stands on standard error: the build takes a minute or two of an idle machine, and each run of such a program half a
+second, so the page takes ten minutes, or half a minute by --program.
 """
 import argparse
 import pathlib
@@ -15,6 +23,10 @@ import re
 import subprocess
 import sys
 import tempfile
+import time
+
+import instants
+import page
 
 ROOT = pathlib.Path(__file__).resolve().parent.parent.parent
 OPENING = 39
@@ -38,38 +50,91 @@ def script(stop, survivor):
 
 
 def scripts():
-    """Returns the scripts by name."""
+    """Returns the scripts by name, as runs: the words of the program, and the lines."""
     stops = range(len(OPERATIONS) + 1)
-    return {f"{stop:02}-{survivor}": script(stop, survivor) for stop in stops for survivor in SURVIVORS}
+    return {f"{stop:02}-{survivor}": (["lives", "{}"], script(stop, survivor).splitlines()) for stop in stops for survivor in SURVIVORS}
 
 
-def write_cases(folder):
-    """Writes the scripts as cases for `rt try --cases`."""
-    for name, text in scripts().items():
-        (folder / name).write_text(text, encoding="utf-8")
-        (folder / f"{name}.args").write_text("lives\n{}\n", encoding="utf-8")
+class Progress:
+    """How far it is, on standard error: a line that is written over at a terminal, else a line now and then."""
+
+    def __init__(self, seconds=10):
+        self.start, self.said, self.seconds, self.width = time.monotonic(), 0, seconds, 0
+        self.is_terminal = sys.stderr.isatty()
+
+    def say(self, text):
+        elapsed = time.monotonic() - self.start
+        line = f"{int(elapsed) // 60}:{int(elapsed) % 60:02} {text}"
+        if self.is_terminal:
+            print(f"\r{line:{self.width}}", end="", file=sys.stderr, flush=True)
+            self.width = len(line)
+        elif elapsed - self.said >= self.seconds:
+            print(line, file=sys.stderr, flush=True)
+            self.said = elapsed
+
+    def end(self):
+        if self.is_terminal and self.width:
+            print(f"\r{'':{self.width}}\r", end="", file=sys.stderr, flush=True)
 
 
-def played_by(program):
-    """Returns what the program prints for each script, by name."""
-    played = {}
+def write_cases(folder, cases):
+    """Writes the runs as cases for `rt try --cases`: the lines of standard input, and the words."""
+    for name, (words, lines) in cases.items():
+        (folder / name).write_text("".join(f"{line}\n" for line in lines), encoding="utf-8")
+        (folder / f"{name}.args").write_text("".join(f"{word}\n" for word in words), encoding="utf-8")
+
+
+def played_by(program, cases):
+    """Returns what the program prints in each run, by name. The word {} stands for a file of the run's lines."""
+    played, progress = {}, Progress()
     with tempfile.TemporaryDirectory() as folder:
-        for name, text in scripts().items():
-            path = pathlib.Path(folder, name)
+        for name, (words, lines) in cases.items():
+            path, text = pathlib.Path(folder, name), "".join(f"{line}\n" for line in lines)
             path.write_text(text, encoding="utf-8")
-            played[name] = subprocess.run([program, "lives", path], capture_output=True, text=True, check=True).stdout
+            command = [program, *(path if word == "{}" else word for word in words)]
+            played[name] = subprocess.run(command, input=text, capture_output=True, text=True, check=False).stdout
+            progress.say(f"{len(played)} of {len(cases)} runs")
+    progress.end()
     return played
 
 
-def played_unproved():
+def played_unproved(cases):
     """Returns the same by a program that is built now, without proofs."""
-    with tempfile.TemporaryDirectory() as folder:
-        write_cases(pathlib.Path(folder))
+    progress, ended, done = Progress(), 0, "building wbl without proofs, a minute or two on an idle machine"
+    with tempfile.TemporaryDirectory() as folder, tempfile.NamedTemporaryFile("w+") as out:
+        write_cases(pathlib.Path(folder), cases)
         command = ["rt", "try", "--cases", folder]
-        done = subprocess.run(
-            command, cwd=ROOT / "crates/wbl", stdout=subprocess.PIPE, stderr=subprocess.STDOUT, text=True, check=False
-        )
-    return parts_of(done.stdout)
+        with subprocess.Popen(command, cwd=ROOT / "crates/wbl", stdout=out, stderr=subprocess.STDOUT, text=True) as trying:
+            while trying.poll() is None:
+                ended = text_in(out.name).count("\ncase=")
+                progress.say(f"{ended} of {len(cases)} runs" if ended else done)
+                time.sleep(0.5)
+        progress.end()
+        text = text_in(out.name)
+    played = parts_of(text)
+    if not played:
+        raise SystemExit(f"picture: wbl wasn't built:\n{text[-2000:]}")
+    return played
+
+
+def text_in(path):
+    return pathlib.Path(path).read_text(encoding="utf-8", errors="replace")
+
+
+def played(program, cases):
+    return played_by(program, cases) if program else played_unproved(cases)
+
+
+def write_page(path, program):
+    """Makes the runs of the page, holds the images to the program, and writes the page."""
+    runs = instants.Runs()
+    with tempfile.TemporaryDirectory() as folder:
+        files = {name: pathlib.Path(folder, name) for name, it in runs.cases.items() if it.image}
+        for name, file in files.items():
+            file.write_bytes(instants.packed(runs.cases[name].image))
+        found = played(program, {name: ([*it.words, files.get(name, "{}")], it.lines) for name, it in runs.cases.items()})
+        runs.hold(found, {name: file.read_bytes() for name, file in files.items()})
+    path.write_text(page.html(runs, found, PARTS), encoding="utf-8")
 
 
 def parts_of(text):
@@ -174,9 +239,13 @@ def svg(picture):
 def main():
     parser = argparse.ArgumentParser(prog="./picture", description=__doc__, formatter_class=argparse.RawDescriptionHelpFormatter)
     parser.add_argument("--svg", metavar="FILE", type=pathlib.Path)
+    parser.add_argument("--page", metavar="FILE", type=pathlib.Path)
     parser.add_argument("--program", metavar="WBL")
     options = parser.parse_args()
-    picture = Picture(played_by(options.program) if options.program else played_unproved())
+    if options.page:
+        write_page(options.page, options.program)
+        return
+    picture = Picture(played(options.program, scripts()))
     if options.svg:
         options.svg.write_text(svg(picture), encoding="utf-8")
     else:
