@@ -18,23 +18,26 @@ import image
 import kill
 import power
 import shell
+import twice
 from store import Lost
 
 TOP = os.path.dirname(os.path.dirname(os.path.dirname(os.path.abspath(__file__))))
 
 
-def control(spoil, said):
+def control(run, spoil, said):
     """A device that does less than it should must be found out."""
     def test(kv, folder, rng, images):
         try:
-            power.run(kv, folder, rng, images, spoil=spoil)
+            run(kv, folder, rng, images, spoil=spoil)
         except Lost:
             return f"a device that leaves out {said} was found out"
         raise Lost(f"a device that leaves out {said} wasn't found out")
     return test
 
 
-CONTROLS = (("control_words", power.without_last_words, "the last word of each entry"), ("control_syncs", power.without_syncs, "every second sync"))
+CONTROLS = (("control_words", power.run, power.without_last_words, "the last word of each entry"),
+            ("control_syncs", power.run, power.without_syncs, "every second sync"),
+            ("control_write_back", twice.run, twice.without_write_back, "what an opening writes back"))
 
 
 def passes(name, test):
@@ -55,6 +58,7 @@ def main():
     parser.add_argument("--kills", type=int, default=200, help="kills at random instants")
     parser.add_argument("--fresh", type=int, default=100, help="kills of a first opening")
     parser.add_argument("--power", type=int, default=500, help="images of a power failure")
+    parser.add_argument("--twice", type=int, default=1200, help="images of a power failure within an opening after a kill or a failed sync")
     parser.add_argument("--fail", type=int, default=200, help="how many writes and how many syncs fail or stop kv at most, each in a run")
     parser.add_argument("--seed", type=int, default=1, help="the same seed kills at the same instants")
     parser.add_argument("--only", nargs="*", metavar="NAME", help="these tests alone, as closed_streams")
@@ -63,8 +67,8 @@ def main():
     part = 10 if words.short else 1
     tests = [("kill", kill.run, words.kills // part), ("fresh", fresh.run, words.fresh // part)]
     if shutil.which("strace"):
-        tests += [("power", power.run, words.power // part), ("fail", fail.run, words.fail // part), ("stops", fail.stops, words.fail // part)]
-        tests += [(name, control(spoil, said), 500) for name, spoil, said in CONTROLS]
+        tests += [("power", power.run, words.power // part), ("fail", fail.run, words.fail // part), ("stops", fail.stops, words.fail // part), ("twice", twice.run, words.twice // part)]
+        tests += [(name, control(run, spoil, said), 500) for name, run, spoil, said in CONTROLS]
     else:
         print("strace is missing: no power failures, and no failing writes")
     kv = os.path.abspath(words.kv)

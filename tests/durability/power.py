@@ -36,8 +36,8 @@ def calls_in(trace):
 
 
 def events_of(trace, file):
-    """('size', bytes), ('write', offset, bytes), ('sync', how many of those came before it began) and ('answer', how many were acknowledged
-    by then), in order. A sync may be made by a copy of the descriptor."""
+    """('size', bytes), ('write', offset, bytes), ('sync', how many of those came before it began), 'failed' for a sync that failed, and
+    ('answer', how many were acknowledged by then), in order. A sync may be made by a copy of the descriptor."""
     events, numbers, done, changes, begun = [], set(), 0, 0, {}
     for process, call, returned in calls_in(trace):
         if not returned:
@@ -55,8 +55,8 @@ def events_of(trace, file):
         elif call.startswith("pwrite64") and number in numbers:
             events.append(("write", int(re.search(r", (\d+)\)\s*=", call).group(1)), bytes_in(call)))
             changes += 1
-        elif call.startswith(("fdatasync", "fsync")) and number in numbers:
-            events.append(("sync", before))
+        elif call.startswith(("fdatasync", "fsync")) and number in numbers and not call.rstrip().endswith("= ?"):
+            events.append(("failed" if "= -1 " in call else "sync", before))
         elif call.startswith("write(1,"):
             more = acknowledged(bytes_in(call).decode())
             if more:

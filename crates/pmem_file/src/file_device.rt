@@ -12,7 +12,7 @@ use crate::opening::{
 use crate::shape::{Found, Shape};
 use crate::storage::FileStorage;
 use base::geometry::Geometry;
-use journal::JournaledImages;
+use journal::{JournaledImages, Storage};
 use pmem::Pmem;
 use std::alloc::Global;
 use std::fs::File;
@@ -85,6 +85,7 @@ fn open_found(
     let mut storage = FileStorage::new(alloc, file, held)?;
     storage.grow(found.count(), shape.whole())?;
     let words = found.into_words(shape)?;
+    write_back(&mut storage, shape.words, words.as_slice())?;
     let opened = JournaledPmem::over(
         alloc,
         storage,
@@ -97,4 +98,14 @@ fn open_found(
         Ok(device) => Ok(device),
         Err(unopened) => Err(unopened.error),
     }
+}
+
+// Writes back the journal and the tail as they were read, behind so many words of an image, and waits until they persist: what
+// is known of them is then what was read. A sync alone isn't enough, since after one that failed the system takes for written
+// what no disk has.
+fn write_back(storage: &mut FileStorage, words: usize, file: &[u64]) -> io::Result<()>
+    requires { words ≤ length file.now }
+{
+    storage.write(words, &file[words..])?;
+    storage.sync()
 }
