@@ -3,8 +3,8 @@
 
 usage: /usr/bin/python3 tests/picture/browser.py [--shots FOLDER]     with --shots it leaves a picture of each window in FOLDER
 
-It wants chromium, chromium-driver and python3-selenium of Debian, and is run by hand, outside the gate. It says nothing of the page
-where all is well but its last line.
+It needs Debian's chromium, chromium-driver and python3-selenium, and is run by hand, outside the gate. If all is well it prints one
+line, else the first difference.
 """
 import argparse
 import base64
@@ -15,6 +15,7 @@ from selenium.webdriver.common.by import By
 from selenium.webdriver.common.keys import Keys
 from selenium.webdriver.chrome.options import Options
 from selenium.webdriver.chrome.service import Service
+from selenium.webdriver.support.ui import WebDriverWait
 
 PAGE = pathlib.Path(__file__).resolve().parent.parent.parent / "docs/crash.html"
 WINDOWS = {"wide": (1280, 860), "middle": (820, 1100), "narrow": (360, 740)}
@@ -40,9 +41,9 @@ def started(size, is_dark):
     return browser
 
 
-def same(found, wanted, said):
-    if found != wanted:
-        raise SystemExit(f"{said}: {found!r} in place of {wanted!r}")
+def same(found, expected, said):
+    if found != expected:
+        raise SystemExit(f"{said}: {found!r}, and not {expected!r}")
 
 
 def text(browser, name):
@@ -61,7 +62,7 @@ def words(browser):
 
 
 def click(browser, element):
-    # A click at the middle of the element, as a reader's: what lies over it would get it in its place.
+    # A click at the middle of the element, as a reader clicks: anything that covers it would get the click.
     browser.execute_script("arguments[0].scrollIntoView({block: 'center'})", element)
     element.click()
 
@@ -137,16 +138,17 @@ def check_every_choice(browser, said):
     for at, many in enumerate(CHOICES):
         browser.execute_script(f"go({at}, [])")
         news = {52: [False, True], 53: [False, True], 54: [True]}.get(at, [False] * 2 ** many)
-        wanted = [f"the {'new' if it else 'old'} row, whole" for it in news]
-        same(browser.execute_script(draws), wanted, f"{said}, every choice after {at} operations")
+        expected = [f"the {'new' if it else 'old'} row, whole" for it in news]
+        same(browser.execute_script(draws), expected, f"{said}, every choice after {at} operations")
 
 
 def check_links(browser, said):
     """The address has the instant and the choice, and a page that is opened with it shows them."""
     click(browser, named(browser, "The same word, kept"))
+    WebDriverWait(browser, 5).until(lambda it: it.current_url.endswith("#53.1"))
     there = browser.current_url
-    same(there.endswith("#53.1"), True, f"{said}: {there}")
     click(browser, named(browser, "Tear the row"))
+    WebDriverWait(browser, 5).until(lambda it: it.current_url != there)
     browser.get(there)
     finds(browser, NEW, f"{said}, by its address")
     same("gate 7 p 3 d 12" in browser.find_element(By.ID, "texts").get_attribute("textContent"), True, f"{said}: what the program printed")

@@ -1,10 +1,10 @@
 """The instants of one update, what a power failure may leave of each word then, and what the next opening finds of each choice.
 
 The operations of the update, and what may survive of each word after each number of them, come from the device and the engine in
-Python of tests/simulate. What is found comes from the program `wbl` alone: it opens each image that any choice leaves. Beside these
-runs there are others, which hold the Python to the program: `wbl` makes the image that the update begins with, it stops by itself at
-each instant that a line of its can reach, with all words oldest and all newest, and its image has to be the one of Python, byte by
-byte; and it plays a script of lives for each instant, also for those within a put or a stamp, and has to open as it opened the image.
+Python of tests/simulate. What is found comes from the program `wbl` alone: it opens each image that any choice leaves. Further
+runs check the Python by the program. `wbl` makes the image that the update begins with. It stops by itself at each instant that the
+lines of a run can reach, with all words oldest and with all newest, and leaves the image of Python, byte by byte. And it runs a
+script of lives for each instant, also for those within a put or a stamp, and opens then as it opened the image.
 """
 import itertools
 import pathlib
@@ -12,7 +12,7 @@ import struct
 import sys
 
 ROOT = pathlib.Path(__file__).resolve().parent.parent.parent
-sys.path.insert(0, str(ROOT / "tests/simulate"))
+sys.path.append(str(ROOT / "tests/simulate"))
 
 from device import CHOICES, Device, Geometry  # noqa: E402
 from engine import Room, obeyed  # noqa: E402
@@ -70,7 +70,7 @@ class Tape(Device):
 
 
 def lived(words, lines):
-    """Lives these lines over an image. Returns the device and how many operations were made once each line was obeyed."""
+    """Lives these lines over an image. Returns the device and how many operations were made by the end of each line."""
     device, after = Tape(words), []
     room = Room(device)
     for line in lines:
@@ -111,7 +111,7 @@ def update():
     base = device.words()
     device, after = lived(base, UPDATE)
     if device.operations != OPENING + OPERATIONS:
-        raise SystemExit(f"picture: an opening and an update make {device.operations} operations")
+        raise SystemExit(f"picture: the opening and the update make {device.operations} operations")
     operations = [None, *device.done[OPENING:]]
     instants = [Instant(at, it, *device.may[OPENING + at - 1]) for at, it in enumerate(operations)]
     if instants[0].stored:
@@ -131,7 +131,7 @@ def packed(words):
 
 
 def stopping_lines(stop, choice):
-    """Returns the lines of the update up to so many operations, and a crash; or None, where that is within a line."""
+    """Returns the lines of the update up to this number of operations, and a crash; or None, if that is within a line."""
     reached = {0: UPDATE[:1], 10: UPDATE[:3], 12: UPDATE[:4]}
     if stop > 12:
         # The first tick chooses the batch, and makes no operation.
@@ -164,7 +164,7 @@ class Runs:
         return self.images.index(image)
 
     def hold(self, played, left):
-        """Stops unless the program says of the device what Python does. `left` has the image that each run left."""
+        """Stops unless the program says the same about the device as Python. `left` has the image that each run left."""
         if left["base"] != packed(self.base):
             raise SystemExit("picture: wbl makes another image of the rows before the update")
         for at, choice in itertools.product(self.instants, CHOICES):

@@ -3,8 +3,8 @@
 
     ./picture                  the picture as text; docs/crash.txt is made so
     ./picture --svg FILE       the same as an SVG, written into FILE; docs/crash.svg is made so
-    ./picture --page FILE      a page that one can play with, written into FILE; docs/crash.html is made so
-    ./picture --program WBL    by this program, in place of one that is built now without proofs, in minutes
+    ./picture --page [FILE]    a page that one can play with, written into FILE, by default docs/crash.html
+    ./picture --program WBL    by this program, and not by one that is built now without proofs, in minutes
 
 An update that replaces the row `old` by `new` makes 54 operations on the device. It is stopped after each number of them, from none
 to all, once with the oldest and once with the newest survivor of each word; then the store is opened again and the row is read.
@@ -14,8 +14,8 @@ The page shows another update, of a row of four words, whose new version takes t
 54 operations the reader chooses the survivor of each word, and sees what the next opening finds. `wbl` has opened the image of each
 choice, 261 different ones, and what the page shows is what it printed: 723 runs with those that hold the images to the program.
 
-How far it is stands on standard error: the build takes a minute or two of an idle machine, and each run of such a program half a
-second, so the page takes ten minutes, or half a minute by --program.
+How far it is appears on standard error. The build takes a minute or two on an idle machine, and each run of a program that was built
+so half a second, so the page takes ten minutes, or half a minute by --program.
 """
 import argparse
 import pathlib
@@ -239,7 +239,7 @@ def svg(picture):
 def main():
     parser = argparse.ArgumentParser(prog="./picture", description=__doc__, formatter_class=argparse.RawDescriptionHelpFormatter)
     parser.add_argument("--svg", metavar="FILE", type=pathlib.Path)
-    parser.add_argument("--page", metavar="FILE", type=pathlib.Path)
+    parser.add_argument("--page", metavar="FILE", type=pathlib.Path, nargs="?", const=ROOT / "docs/crash.html")
     parser.add_argument("--program", metavar="WBL")
     options = parser.parse_args()
     if options.page:

@@ -1,4 +1,4 @@
-"""The page that one can play with: what was run, put into the template beside this.
+"""The page that one can play with: what was run, put into the template page.html.
 
 What a choice of survivors gives is on the page only as a run of the program: the page computes nothing of it.
 """
