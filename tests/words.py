@@ -6,8 +6,8 @@
     tests/words.py --since REF     each of them in the lines that were added since this commit, in documents and in comments
 
 `tests/names` finds them in the documents that are free of them: CLEAN below. A document that has become free of them goes there.
-What is between backticks, in a block of code or in an indented line isn't looked at, since a program may print such a word; nor is the
-list itself.
+What is between backticks or quotation marks, in a block of code or in an indented line isn't looked at, since a program may print such
+a word; nor are headings.
 """
 import collections
 import pathlib
@@ -16,7 +16,7 @@ import subprocess
 import sys
 
 ROOT = pathlib.Path(__file__).resolve().parent.parent
-CLEAN = ("CONTRIBUTING.md", "docs/COSTS.md")
+CLEAN = ("CONTRIBUTING.md", "docs/ARCHITECTURE.md", "docs/COSTS.md", "docs/GLOSSARY.md")
 DOCUMENTS = ("README.md", "CONTRIBUTING.md", *sorted(f"docs/{path.name}" for path in (ROOT / "docs").glob("*.md")))
 HEADING = "| not | but | except |"
 
@@ -54,21 +54,25 @@ def rules():
     return rows
 
 
+def unquoted(line):
+    return re.sub(r'`[^`]*`|"[^"]*"', "`", line)
+
+
 def prose(lines):
-    """Yields each line that is prose, with its number, without what is between backticks."""
+    """Yields each line that is prose, with its number, without what it quotes."""
     is_code = False
     for number, line in enumerate(lines, 1):
         if line.startswith("```"):
             is_code = not is_code
-        elif not is_code and not line.startswith(("    ", '| "')):
-            yield number, re.sub(r"`[^`]*`", "`", line)
+        elif not is_code and not line.startswith(("    ", "#")):
+            yield number, unquoted(line)
 
 
 def comments(lines):
-    """Yields each comment of a source, with its number, without what is between backticks."""
+    """Yields each comment of a source, with its number, without what it quotes."""
     for number, line in enumerate(lines, 1):
         if found := re.match(r"\s*(?://[/!]?|--) (.*)", line):
-            yield number, re.sub(r"`[^`]*`", "`", found[1])
+            yield number, unquoted(found[1])
 
 
 def read(path, reader):
