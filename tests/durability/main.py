@@ -58,7 +58,7 @@ def main():
     parser.add_argument("--kills", type=int, default=200, help="kills at random instants")
     parser.add_argument("--fresh", type=int, default=100, help="kills of a first opening")
     parser.add_argument("--power", type=int, default=500, help="images of a power failure")
-    parser.add_argument("--twice", type=int, default=1200, help="images of a power failure within an opening after a kill or a failed sync")
+    parser.add_argument("--twice", type=int, default=3000, help="images of a power failure within an opening after a kill or a failed sync")
     parser.add_argument("--fail", type=int, default=200, help="how many writes and how many syncs fail or stop kv at most, each in a run")
     parser.add_argument("--seed", type=int, default=1, help="the same seed kills at the same instants")
     parser.add_argument("--only", nargs="*", metavar="NAME", help="these tests alone, as closed_streams")

@@ -18,7 +18,7 @@ KEYS = 10
 FIRST = {key: f"{key:02x}" for key in range(KEYS)}
 # What a store is made with, and whether its journal is the smallest.
 STORES = ((("--slots", "24"), True), (("--slots", "24"), False), ((), True))
-UNITS = (8, 512, 4096)
+UNITS = (8, 8, 512, 4096)
 FAULTS = ("signal=KILL", "error=EIO")
 MOST_SYNCS = 40
 
@@ -47,9 +47,9 @@ def some_units(held, event, rng, chance, unit):
 
 def some_changes(held, since, rng, unit):
     """Makes some of these changes, which are open; what lies past the length isn't there."""
-    if rng.random() < 0.5:
+    if rng.random() < 0.2:
         since = since[:rng.randint(0, len(since))]
-    chance, length = rng.choice([0.1, 0.5, 0.9, 1.0]), len(held)
+    chance, length = rng.choice([0.1, 0.3, 0.5, 0.7, 0.9]), len(held)
     for event in since:
         if event[0] == "write":
             some_units(held, event, rng, chance, unit)
@@ -92,8 +92,8 @@ def closed_store(kv, folder, options, is_short):
 
 
 def scenarios(kv, folder, rng, closed):
-    """For each sync of a run with one commit, killed there or failing: the rows that may be found, the lives up to then, and that of the
-    next opening. One of three is disturbed a second time, at any sync of an opening."""
+    """For each sync of a run with one commit, killed there or failing: whether the commit was in hand then, the rows that may be found, the
+    lives up to then, and that of the next opening. One of three is disturbed a second time, at any sync of an opening."""
     file = os.path.join(folder, "lives.img")
     for fault in FAULTS:
         for at in range(1, MOST_SYNCS):
@@ -109,7 +109,8 @@ def scenarios(kv, folder, rng, closed):
             last, run_after = life(kv, file, "")
             if run_after.returncode != 0:
                 raise Lost(f"sync {at} {fault}: the next run isn't opened: {run_after.stderr}")
-            yield may_be_found([FIRST, after(FIRST, writes)], acknowledged(run.stdout), IN_HAND), lives, last
+            done = acknowledged(run.stdout)
+            yield "ready" in run.stdout and not done, may_be_found([FIRST, after(FIRST, writes)], done, IN_HAND), lives, last
 
 
 def without_write_back(events):
@@ -124,12 +125,13 @@ def run(kv, folder, rng, images, spoil=None):
     for options, is_short in STORES:
         closed = closed_store(kv, folder, options, is_short)
         found += [(closed, *one) for one in scenarios(kv, folder, rng, closed)]
+    in_hand = [one for one in found if one[1]]
     left, lost, torn = os.path.join(folder, "left.img"), [], 0
     for number in range(images):
-        closed, rows, lives, last = found[number % len(found)]
+        closed, _, rows, lives, last = rng.choice(in_hand) if number % 3 else found[number // 3 % len(found)]
         last, unit = spoil(last) if spoil else last, rng.choice(UNITS)
         first = next((at for at, event in enumerate(last) if event[0] == "sync"), len(last))
-        stop = rng.choice((first, rng.randint(0, len(last))))
+        stop = rng.choice((first, first, first, rng.randint(0, len(last))))
         durable, since = after_lives(closed, [*lives, last[:stop]], rng, unit)
         torn += bool(since)
         some_changes(durable, since, rng, unit)
@@ -142,5 +144,5 @@ def run(kv, folder, rng, images, spoil=None):
             lost.append(f"image {number}, {unit} bytes, before event {stop}: {unopened}")
     if lost:
         raise Lost(f"{len(lost)} of {images} images; the first: {lost[0]}")
-    return (f"{len(found)} runs killed at a sync or with one that fails, and {images} power failures of the next opening, by words, sectors and pages, {torn} with "
-            f"changes not yet synced: none acknowledged was lost")
+    return (f"{len(found)} runs killed at a sync or with one that fails, {len(in_hand)} of them within a commit, and {images} power failures of the next opening, by "
+            f"words, sectors and pages, {torn} with changes not yet synced: none acknowledged was lost")
