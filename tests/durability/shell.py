@@ -461,5 +461,41 @@ def two_at_once(kv, folder):
     return "a second run on the file is refused, and the first one goes on"
 
 
+def unlinked(kv, folder):
+    """A store whose name is taken away while it is open isn't closed as if it were there; one that was moved is."""
+    for name, status, way in (("gone.img", 1, os.remove), ("moved.img", 0, lambda file: os.rename(file, file + ".moved"))):
+        file = os.path.join(folder, name)
+        with subprocess.Popen([kv, file], stdin=subprocess.PIPE, stdout=subprocess.PIPE, stderr=subprocess.PIPE, text=True) as run:
+            want(run.stdout.readline() == "ready\n", f"{name}: ready")
+            way(file)
+            output, told = run.communicate("put 1 3 c3\n", timeout=60)
+            want(run.returncode == status and ("closed" in output) == (status == 0), f"{name}: status {run.returncode}, {output} {told}")
+    want(rows_in(kv, os.path.join(folder, "moved.img.moved")) == {3: "c3"}, "the moved file has the row")
+    return "a store that was unlinked isn't closed, and one that was moved is"
+
+
+def unread_folder(kv, folder):
+    """A new store in a folder that may be written and not read isn't opened, and leaves nothing; an old one there is opened."""
+    place = os.path.join(folder, "unread")
+    os.mkdir(place)
+    for at in (folder, place):
+        os.chmod(at, 0o777)
+    nobody = {"user": 65534, "group": 65534, "extra_groups": []} if os.getuid() == 0 else {}
+    program = os.path.join(folder, "kv_there")
+    shutil.copy(kv, program)
+    os.chmod(program, 0o755)
+    new, old = os.path.join(place, "new.img"), os.path.join(place, "old.img")
+    subprocess.run([program, old], input="put 1 1 a1\n", capture_output=True, text=True, timeout=60, check=True, cwd=place, **nobody)
+    os.chmod(place, 0o333)
+    for _ in range(2):
+        ended = subprocess.run([program, new], input="put 1 1 a1\n", capture_output=True, text=True, timeout=60, check=False, cwd=place, **nobody)
+        want(ended.returncode == 1 and "ready" not in ended.stdout, f"a new one: {ended}")
+        want(not os.path.lexists(new), "an empty file is left")
+    ended = subprocess.run([program, old], input="get 1 1\n", capture_output=True, text=True, timeout=60, check=False, cwd=place, **nobody)
+    want(ended.returncode == 0 and "row a1" in ended.stdout, f"an old one: {ended}")
+    os.chmod(place, 0o777)
+    return "in a folder that may not be read a new store isn't opened and leaves nothing, and an old one is opened"
+
+
 CASES = (closed_streams, failing_output, full_disk, small_disk, foreign, odd_names, folders, lines, words, one_command, text_rows, loading, full_store, timed,
-         examples_of_help, examples_of_page, at_terminal, two_at_once)
+         examples_of_help, examples_of_page, at_terminal, two_at_once, unlinked, unread_folder)

@@ -10,7 +10,7 @@ use Rattle.journal.specs.Files.{magic, HasTail, IsFile, Opens}
 use Rattle.journal.proofs.Files.{lines-off, opens-off, opens-one}
 use Rattle.log_area.specs.Rulings.{IsLaidOut}
 use Rattle.pmem_file.specs.declared.shape.Shape.{Shape}
-use Rattle.pmem_file.specs.Shapes.{IsBlank, IsImageOf, HasItsPlaces, HasShape, IsMadeFor, IsGrowing, IsNothingBehind, IsOurs, least_room, room_made, room_older, whole, padded}
+use Rattle.pmem_file.specs.Shapes.{IsBlank, IsImageOf, HasItsPlaces, HasShape, IsMadeFor, IsGrown, IsGrowing, IsNothingBehind, IsOurs, least_room, room_made, room_older, whole, padded}
 
 zero-magic : 0 ≢ magic
 zero-magic e = omega (arith, e)
@@ -194,6 +194,36 @@ no-growing asked own words new older is made room made' room' none none' g =
     against : (shape : Shape) → shape.words ≡ total_words g.layout → shape.room ≡ g.room → NoneOf asked words shape.words shape.room → ⊥
     against shape w r none =
         subst (λ (n : ℕ). NoneOf asked words n g.room) w (subst (λ (n : ℕ). NoneOf asked words shape.words n) r none) g.layout g.size g.behind g.image_is
+
+-- behind the image that the superblock names a journal was being made
+pub grown : (words : List ℕ) (own : Layout) (shape : Shape) → own ≡ layout_of words → IsTrue (is_in_limits (layout_of words)) → IsMadeFor own shape
+    → (shape.room ≡ room_made shape.words) ⊎ (shape.room ≡ room_older shape.words) → length words ≡ whole shape → IsNothingBehind shape.words shape.room (drop shape.words words) → IsGrown shape.words words
+grown words own shape is limits made room size behind = record {
+  some = omega (arith, size);
+  limits = limits;
+  size_is = made.words_are ∙ ap total_words is;
+  room = shape.room;
+  made = room;
+  whole_is = size;
+  behind = behind;
+}
+
+-- behind the image that the superblock names nothing was being made
+pub ungrown : (words : List ℕ) (own : Layout) (new older : Shape) → own ≡ layout_of words → IsMadeFor own new → new.room ≡ room_made new.words → IsMadeFor own older → older.room ≡ room_older older.words
+    → ((length words ≡ whole new) × IsNothingBehind new.words new.room (drop new.words words) → ⊥) → ((length words ≡ whole older) × IsNothingBehind older.words older.room (drop older.words words) → ⊥)
+    → (size : ℕ) → ¬ IsGrown size words
+ungrown words own new older is made room made' room' none none' size g =
+    let size_is : total_words own ≡ size = ap total_words is ∙ sym g.size_is in
+    elim g.made [
+      | inl now ↦ against new (made.words_are ∙ size_is) (room ∙ ap room_made (made.words_are ∙ size_is) ∙ sym now) none
+      | inr before ↦ against older (made'.words_are ∙ size_is) (room' ∙ ap room_older (made'.words_are ∙ size_is) ∙ sym before) none'
+    ]
+  where
+    against : (shape : Shape) → shape.words ≡ size → shape.room ≡ g.room → ((length words ≡ whole shape) × IsNothingBehind shape.words shape.room (drop shape.words words) → ⊥) → ⊥
+    against shape w r none = none (
+      g.whole_is ∙ (λ i. sym w i + sym r i + 8),
+      subst (λ (n : ℕ). IsNothingBehind n shape.room (drop n words)) (sym w) (subst (λ (n : ℕ). IsNothingBehind size n (drop size words)) (sym r) g.behind),
+    )
 
 -- the layout for which a shape is looked for is that of the image
 pub own-of : (asked : Layout) (found : Option Layout) (words : List ℕ) → IfSome found (λ own. own ≡ layout_of words) → OnSome found (IsTrue (is_in_limits (layout_of words)))

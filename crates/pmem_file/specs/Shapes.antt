@@ -96,6 +96,16 @@ pub record IsGrowing (asked : Layout) (words : List ℕ) : Type 0 where
   pub named : IsTrue (is_in_limits (layout_of words)) → layout_of words ≡ layout
   pub behind : IsNothingBehind (total_words layout) room (drop (total_words layout) words)
 
+-- behind an image of so many words, which the superblock in place names, a journal was being made
+pub record IsGrown (size : ℕ) (words : List ℕ) : Type 0 where
+  pub some : 5 ≤ length words
+  pub limits : IsTrue (is_in_limits (layout_of words))
+  pub size_is : size ≡ total_words (layout_of words)
+  pub room : ℕ
+  pub made : (room ≡ room_made size) ⊎ (room ≡ room_older size)
+  pub whole_is : length words ≡ size + room + 8
+  pub behind : IsNothingBehind size room (drop size words)
+
 -- one of these, or an image alone, as a close leaves it
 abbrev pub IsOurs : Layout → List ℕ → Type 0
 IsOurs asked words = ((layout : Layout) × IsImageOf asked layout words) ⊎ (IsJournaled asked words ⊎ IsGrowing asked words)

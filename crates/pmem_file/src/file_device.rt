@@ -7,7 +7,7 @@ ghost use Rattle.pmem_file.specs.Shapes.{HasItsPlaces, padded, whole};
 
 use crate::journaled::JournaledPmem;
 use crate::opening::{
-    OpenError, hold_standard_streams, open_alone, sync_folder, sync_known_folder,
+    OpenError, hold_standard_streams, open_alone, sync_known_folder, sync_new_folder,
 };
 use crate::shape::{Found, Shape};
 use crate::storage::FileStorage;
@@ -41,12 +41,12 @@ impl JournaledPmem<JournaledImages<FileStorage>> {
         ensures layout { IfOk result (λ device. HasItsPlaces geometry (image_of (state_of device)) (places_of device)) }
     {
         let held = hold_standard_streams(rt, alloc)?;
-        let file = open_alone(rt, name)?;
+        let (file, is_made) = open_alone(rt, name)?;
         let found = Found::read(alloc, &file)?;
         let shape = found.shape(alloc, geometry)?;
         let is_new = found.is_empty();
         if is_new {
-            sync_folder(rt, alloc, name)?;
+            sync_new_folder(rt, alloc, name, is_made)?;
         }
         let device = open_found(alloc, file, held, found, shape)?;
         if !is_new {
@@ -56,11 +56,12 @@ impl JournaledPmem<JournaledImages<FileStorage>> {
     }
 
     /// Closes the file: it holds the image alone, without a journal. Fails where an image wasn't kept, and where a write
-    /// fails; the next opening reads the journal then.
+    /// fails; the next opening reads the journal then. Fails with `NotFound` where no name names the file any more: then what it
+    /// holds is gone.
     pub fn close(self) -> io::Result<()> {
         let words = self.words();
         match self.into_storage() {
-            Ok(storage) => storage.cut(words),
+            Ok(storage) => storage.close(words),
             Err(unclosed) => Err(unclosed.error),
         }
     }

@@ -1,6 +1,6 @@
 use base::fault::Fault;
 use std::alloc::Global;
-use std::fs::{File, OpenOptions, TryLockError};
+use std::fs::{File, OpenOptions, TryLockError, remove_file};
 use std::io;
 use std::io::ErrorKind;
 use std::os::fd::AsRawFd;
@@ -55,11 +55,19 @@ fn is_standard(file: &File) -> bool {
     file.as_raw_fd() <= 2
 }
 
-// Opens the file, which is made where it is missing, and locks it.
-pub(crate) fn open_alone<R: Files<File = File>>(rt: &R, name: &str) -> Result<File, OpenError> {
+// Opens the file, which is made where it is missing, and locks it. Whether it was made.
+pub(crate) fn open_alone<R: Files<File = File>>(
+    rt: &R,
+    name: &str,
+) -> Result<(File, bool), OpenError> {
     let mut options = OpenOptions::new();
-    options.read(true).write(true).create(true);
-    let file = options.open(rt, name)?;
+    options.read(true).write(true);
+    let (file, is_made) = match options.open(rt, name) {
+        Err(error) if error.kind() == ErrorKind::NotFound => {
+            (options.create(true).open(rt, name)?, true)
+        }
+        opened => (opened?, false),
+    };
     if is_standard(&file) {
         return Err(OpenError::StandardStream);
     }
@@ -72,7 +80,7 @@ pub(crate) fn open_alone<R: Files<File = File>>(rt: &R, name: &str) -> Result<Fi
     if named.ino() != metadata.ino() || named.dev() != metadata.dev() {
         return Err(OpenError::Replaced);
     }
-    Ok(file)
+    Ok((file, is_made))
 }
 
 fn lock(file: &File) -> Result<(), OpenError> {
@@ -83,12 +91,24 @@ fn lock(file: &File) -> Result<(), OpenError> {
     }
 }
 
-// A new name persists once its folder is synced: the one that the file lies in, wherever links lead.
-pub(crate) fn sync_folder<R: Files<File = File>>(
+// Syncs the folder of a new file. Where that fails, one that was made here is taken away again: it might not be found any more,
+// and while its folder may not be read it would meet the same for ever.
+pub(crate) fn sync_new_folder<R: Files<File = File>>(
     rt: &R,
     alloc: Global,
     name: &str,
+    is_made: bool,
 ) -> io::Result<()> {
+    let synced = sync_folder(rt, alloc, name);
+    if synced.is_err() && is_made {
+        let file = rt.canonicalize(alloc, name)?;
+        let _ = remove_file(rt, file.as_path());
+    }
+    synced
+}
+
+// A new name persists once its folder is synced: the one that the file lies in, wherever links lead.
+fn sync_folder<R: Files<File = File>>(rt: &R, alloc: Global, name: &str) -> io::Result<()> {
     let mut folder = rt.canonicalize(alloc, name)?;
     folder.pop();
     File::open(rt, folder.as_path())?.sync_all()

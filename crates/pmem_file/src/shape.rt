@@ -5,7 +5,7 @@ ghost use Rattle.base.specs.Layout.{Layout, is_in_limits};
 ghost use Rattle.base.specs.Images.{layout_of};
 ghost use Rattle.journal.specs.Files.{HasTail, IsFile, Opens};
 ghost use Rattle.log_area.specs.Rulings.{IsLaidOut, layout_damage};
-ghost use Rattle.pmem_file.specs.Shapes.{HasShape, IsBlank, IsFirstTail, IsGrowing, IsImageOf, IsNothingBehind, IsOurs, least_room, room_made, whole};
+ghost use Rattle.pmem_file.specs.Shapes.{HasShape, IsBlank, IsFirstTail, IsGrowing, IsGrown, IsImageOf, IsNothingBehind, IsOurs, least_room, room_made, whole};
 
 use crate::journaled::JournaledPmem;
 use crate::opening::OpenError;
@@ -284,6 +284,33 @@ fn growing_shape(alloc: Global, file: &[u64], geometry: Geometry) -> io::Result<
     }
 }
 
+/// How many words the image has of a file of these words that was being made longer, by a program of now or an older one: behind
+/// it there is nothing yet, but for words of a journal's first tail.
+#[tactic(auto, using(crate::proofs::Shapes::grown, crate::proofs::Shapes::ungrown))]
+pub fn grown_image(file: &[u64]) -> Option<usize>
+    ensures some { IfSome result (λ size. IsGrown size file.now) }
+    ensures none { IfNone result ((size : ℕ) → ¬ IsGrown size file.now) }
+{
+    let own = own_geometry(file)?;
+    let shape = Shape::new(own);
+    if is_grown(file, shape) {
+        return Some(shape.words);
+    }
+    let older = Shape::older(own);
+    if is_grown(file, older) {
+        return Some(older.words);
+    }
+    None
+}
+
+// Whether the file was being made as long as this shape: behind its image there is nothing yet, but for words of the first tail.
+fn is_grown(file: &[u64], shape: Shape) -> bool
+    requires { whole shape < 2 ^ 58 }
+    ensures { IsTrue result ↔ (length file.now ≡ whole shape) × IsNothingBehind shape.words shape.room (drop shape.words file.now) }
+{
+    file.len() == shape.whole() && is_first_behind(&file[shape.words..], shape)
+}
+
 // This shape, if the file was being made as long: behind its image there is nothing yet, but for words of the first tail.
 #[tactic(auto, using(crate::proofs::Shapes::growing))]
 fn grown_shape(
@@ -297,7 +324,7 @@ fn grown_shape(
     ensures none { IfOk result (λ found. IfNone found ((own : Layout) → length file.now ≡ whole shape → IsNothingBehind shape.words shape.room (drop shape.words file.now) → ¬ IsImageOf geometry own (take shape.words file.now))) }
     ensures memory { IfErr result (λ error. error_kind error ≡ OutOfMemory) }
 {
-    if file.len() != shape.whole() || !is_first_behind(&file[shape.words..], shape) {
+    if !is_grown(file, shape) {
         return Ok(None);
     }
     match layout_of(alloc, &file[..shape.words], geometry)? {

@@ -4,7 +4,7 @@ use std::alloc::Global;
 use std::fs::File;
 use std::io;
 use std::os::fd::AsRawFd;
-use std::os::unix::fs::FileExt;
+use std::os::unix::fs::{FileExt, MetadataExt};
 
 // The words that one write takes. A put of fewer is one write.
 const MOST_WORDS: usize = 8_192;
@@ -87,10 +87,15 @@ impl FileStorage {
         Ok(())
     }
 
-    /// Cuts off what stands behind so many words, and waits until that persists.
-    pub(crate) fn cut(&self, words: usize) -> io::Result<()> {
+    /// Cuts off what stands behind so many words, and waits until that persists. Fails with `NotFound` where no name names the
+    /// file any more.
+    pub(crate) fn close(&self, words: usize) -> io::Result<()> {
         self.file.set_len(byte_of(words)?)?;
-        self.file.sync_all()
+        self.file.sync_all()?;
+        if self.file.metadata()?.nlink() == 0 {
+            return Err(io::Error::from(io::ErrorKind::NotFound));
+        }
+        Ok(())
     }
 
     fn write_words(&mut self, start: usize, words: &[u64]) -> io::Result<()> {
