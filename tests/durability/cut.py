@@ -4,7 +4,7 @@ import re
 import signal
 import subprocess
 
-from journal import has_no_journal, tail_of
+from journal import bytes_of, has_no_journal, tail_of
 from store import Lost, rows_in
 
 ROWS = {at: f"{at:02x}" for at in range(1, 9)}
@@ -97,6 +97,31 @@ def journals_read(kv, wbl, folder):
     return "a file with a journal was checked and run as what it stands for"
 
 
+def growing_files(kv, wbl, folder):
+    """A closed store behind whose image a journal was being made, up to some words of its first tail, is one for kv and for wbl."""
+    file, grown = os.path.join(folder, "grown.img"), os.path.join(folder, "growing.img")
+    lines = "".join(f"put 1 {at} {row}\n" for at, row in ROWS.items())
+    subprocess.run([kv, file, "--slots", "24"], input=lines, capture_output=True, text=True, timeout=60, check=True)
+    image = contents(file)
+    words, room = len(image) // 8, 131_072
+    tails = (bytes(64), bytes_of([0, words, 0, 0, 0, 0, 0, 0]), bytes_of([0, 0, room, 0, 0, 0, 0, 0]), bytes_of([0, words, room, 0, 0, 0, 0, 0]))
+    for tail in tails:
+        held = image + bytes(8 * room) + tail
+        with open(grown, "wb") as out:
+            out.write(held)
+        checked = subprocess.run([wbl, "check", grown], capture_output=True, text=True, timeout=60, check=False)
+        want(checked.returncode == 0 and all(f"1 {at} {row}" in checked.stdout for at, row in ROWS.items()), f"wbl check: {checked}")
+        want(contents(grown) == held, "wbl check changed the file")
+        ran = subprocess.run([wbl, "run", grown], input="begin\nput 2 1 9 09\ndraw 2\nstamp 2\ncycle\npoll 2\n", capture_output=True, text=True, timeout=60, check=False)
+        want(ran.returncode == 0 and has_no_journal(contents(grown)), f"wbl run: {ran}")
+        rows = rows_in(kv, grown)
+        want(rows == {**ROWS, 9: "09"}, f"after wbl run: {rows}")
+        with open(grown, "wb") as out:
+            out.write(held)
+        want(rows_in(kv, grown) == ROWS, "kv finds other rows")
+    return f"{len(tails)} files that were being made longer were read by wbl and kv"
+
+
 def images_of_before(kv, wbl, folder):
     """Images without a journal, as a close and as a crash leave them, are opened, and a close leaves such again, which wbl reads."""
     count = 0
@@ -123,4 +148,4 @@ def rows_with(kv, file, layout, lines):
     return {int(words[1]): words[2] for words in map(str.split, run.stdout.splitlines()) if words[0] == "row"}
 
 
-CASES = (cut_journals, journals_read, images_of_before)
+CASES = (cut_journals, journals_read, growing_files, images_of_before)
