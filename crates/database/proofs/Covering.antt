@@ -1,7 +1,7 @@
 -- What the steps of a commit come to.
 use Rattle.std.proofs.Common.{◌≡◌, ℕ, ◌+◌, Bool, true, false, cond, List, [], ◌∷◌, ◌++◌, Option, Some, None, refl, sym, ◌∙◌, ap, subst, arith}
-use Rattle.std.specs.Prelude.{⊤, replicate, Result, Ok, Err, IsTrue, is_some}
-use Rattle.std.proofs.lemmas.List.{replicate_more}
+use Rattle.std.specs.Prelude.{⊤, map, replicate, Result, Ok, Err, IsTrue, is_some}
+use Rattle.std.proofs.lemmas.List.{map_push, replicate_more, length_push}
 use Rattle.base.specs.declared.fault.Fault.{Fault}
 use Rattle.base.specs.declared.step.Step.{Step}
 use Rattle.base.specs.declared.step.Step.TheVariants.{Draw, Stamp, Poll, End}
@@ -10,20 +10,24 @@ use Rattle.base.specs.declared.step.Reply.TheVariants.{Done, More, Drawn as Drew
 use Rattle.base.specs.Commits.{Writes}
 use Rattle.base.specs.Lists.{is_nil}
 use Rattle.base.specs.Stands.{has_timestamp}
-use Rattle.machine.specs.Machine.{State, Session, Stepped, polled, state_drawn, final}
+use Rattle.machine.specs.Machine.{State, Session, Stepped, polled, state_drawn}
 use Rattle.pmem.specs.Device.{Device, IsOrderly}
 use Rattle.pmem.specs.declared.device.Pmem.{Ghosts}
 use Rattle.room.specs.declared.room.Room.{Room}
-use Rattle.room.specs.Room.{RunsTo, Leads}
-use Rattle.room.proofs.Runs.{run-none, run-then}
+use Rattle.room.specs.Room.{Leads}
+use Rattle.room.specs.Runs.{LeadsAlong}
+use Rattle.room.proofs.Runs.{leads-none, leads-one, leads-join}
 use Rattle.database.specs.Replies.{committed_of, drawn_of, stamped_of}
 use Rattle.database.specs.declared.opened.OpenedRoom.{OpenedRoom}
 use Rattle.database.specs.Obeys.{Obeys, InRoom, Repeats, RepeatsTimes, RepeatsAnswered, StampsAll, Covers, DrawsNothing}
 
 -- ---- one step after another
 
+abbrev of_step : Step → Reply → Step × Reply
+of_step step reply = (step, reply)
+
 pub repeats-none : {D : Type 0} → {G : Ghosts D} → (state : D → Device) (room : Room D G) (step : Step) → IsOrderly (state room.device) → Repeats state room room step
-repeats-none state room step orderly = (0, [], λ q shows. ([], run-none state room q orderly shows))
+repeats-none state room step orderly = ([], leads-none state room orderly)
 
 -- of a room that is there
 pub stays-in : {D : Type 0} → {G : Ghosts D} → (state : D → Device) (room : Option (OpenedRoom D G)) (step : Step) → ((device : D) → IsOrderly (state device)) → IsTrue (is_some room)
@@ -34,34 +38,19 @@ stays-in state None step orderly is = absurd (cc is)
 -- one more
 pub repeats-then : {D : Type 0} → {G : Ghosts D} → (state : D → Device) (old mid new : Room D G) (step : Step) (reply : Reply)
     → Repeats state old mid step → Leads state mid new step reply → Repeats state old new step
-repeats-then state old mid new step reply repeats leads = (
-  repeats.0 + 1,
-  repeats.1 ++ reply ∷ [],
-  λ q shows.
-      let runs = repeats.2 q shows in
-      let one = leads (final q runs.0) runs.1.shows in (
-        runs.0 ++ one.0 ∷ [],
-        subst (λ (steps : List Step). RunsTo state old new steps (repeats.1 ++ reply ∷ []) q (runs.0 ++ one.0 ∷ [])) (replicate_more repeats.0 step)
-            (run-then state old mid new (replicate repeats.0 step) repeats.1 step reply q runs.0 one.0 runs.1 one.1),
-      ),
-)
+repeats-then state old mid new step reply (replies, repeats) leads =
+    (replies ++ reply ∷ [], rw (map_push (of_step step) replies reply) (leads-join state old mid new (map (of_step step) replies) ((step, reply) ∷ []) repeats (leads-one state mid new step reply leads)))
 
 -- each answered so
 pub answered-none : {D : Type 0} → {G : Ghosts D} → (state : D → Device) (room : Room D G) (step : Step) (answer : Reply) → IsOrderly (state room.device) → RepeatsAnswered state room room step answer
-answered-none state room step answer orderly = (0, λ q shows. ([], run-none state room q orderly shows))
+answered-none state room step answer orderly = (0, leads-none state room orderly)
 
 answered-then : {D : Type 0} → {G : Ghosts D} → (state : D → Device) (old mid new : Room D G) (step : Step) (answer : Reply)
     → RepeatsAnswered state old mid step answer → Leads state mid new step answer → RepeatsAnswered state old new step answer
-answered-then state old mid new step answer repeats leads = (
-  repeats.0 + 1,
-  λ q shows.
-      let runs = repeats.1 q shows in
-      let one = leads (final q runs.0) runs.1.shows in (
-        runs.0 ++ one.0 ∷ [],
-        subst (λ (replies : List Reply). RunsTo state old new (replicate (repeats.0 + 1) step) replies q (runs.0 ++ one.0 ∷ [])) (replicate_more repeats.0 answer)
-            (subst (λ (steps : List Step). RunsTo state old new steps (replicate repeats.0 answer ++ answer ∷ []) q (runs.0 ++ one.0 ∷ [])) (replicate_more repeats.0 step)
-            (run-then state old mid new (replicate repeats.0 step) (replicate repeats.0 answer) step answer q runs.0 one.0 runs.1 one.1)),
-      ),
+answered-then state old mid new step answer (count, repeats) leads = (
+  count + 1,
+  subst (λ (taken : List (Step × Reply)). LeadsAlong state old new taken) (replicate_more count (step, answer))
+      (leads-join state old mid new (replicate count (step, answer)) ((step, answer) ∷ []) repeats (leads-one state mid new step answer leads)),
 )
 
 -- a stamp leaves more keys only where its reply is that
@@ -75,12 +64,13 @@ stamps-more state old mid new n repeats one =
 
 -- just so many times
 pub times-none : {D : Type 0} → {G : Ghosts D} → (state : D → Device) (room : Room D G) (step : Step) → IsOrderly (state room.device) → RepeatsTimes state room room step 0
-times-none state room step orderly = ([], λ q shows. ([], run-none state room q orderly shows))
+times-none state room step orderly = ([], refl, leads-none state room orderly)
 
 pub times-then : {D : Type 0} → {G : Ghosts D} → (state : D → Device) (old mid new : Room D G) (step : Step) (count : ℕ) (reply : Reply)
     → RepeatsTimes state old mid step count → Leads state mid new step reply → RepeatsTimes state old new step (count + 1)
 unfolding repeats-then
-times-then state old mid new step count reply repeats leads = let a = repeats-then state old mid new step reply (count, repeats.0, repeats.1) leads in (a.1, a.2)
+times-then state old mid new step count reply (replies, many, repeats) leads =
+    let a = repeats-then state old mid new step reply (replies, repeats) leads in (a.0, length_push replies reply ∙ ap (λ (n : ℕ). n + 1) many, a.1)
 
 -- what is returned may be named otherwise
 pub obeys-as : {D A : Type 0} → {G : Ghosts D} → (state : D → Device) (old new : Room D G) (step : Step) (read : Reply → Result A Fault) (result other : Result A Fault)

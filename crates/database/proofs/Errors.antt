@@ -1,10 +1,11 @@
 -- What the error of a commit says.
-use Rattle.std.proofs.Common.{◌≡◌, ◌≢◌, ◌⊎◌, ◌↔◌, ◌≤◌, inl, inr, ℕ, Bool, false, List, [], ◌∷◌, length, leb, le-leb, leb-true, refl, sym, subst, arith}
+use Rattle.std.proofs.Common.{◌≡◌, ◌≢◌, ◌⊎◌, ◌↔◌, ◌≤◌, inl, inr, ℕ, Bool, false, List, [], ◌∷◌, ◌++◌, leb, le-leb, leb-true, refl, sym, subst, arith}
 use mathlib.Core.HLevel.{⊥_prop}
 use Rattle.std.specs.Prelude.{⊤, Option, Some, None, IfSome, is_some, IsTrue, Result, Ok, Err}
 use Rattle.std.specs.Result.{ForOk, ForErr}
 use Rattle.std.specs.Option.{ForSome, option_or}
-use Rattle.std.proofs.Math.Logic.{∥∥₁_elim, ∥∥₁_map, ∥∥₁_prop}
+use Rattle.std.proofs.Math.Logic.{∥∥₁_elim, ∥∥₁_prop}
+use Rattle.std.proofs.lemmas.List.Elements.{Contains-push}
 use Rattle.base.specs.declared.fault.Fault.{Fault}
 use Rattle.base.specs.declared.fault.Fault.TheVariants.{Conflict, OutOfMemory, TimestampsOut, Failed, Device as DeviceFault}
 use Rattle.base.specs.declared.key.Key.{Key}
@@ -13,24 +14,23 @@ use Rattle.base.specs.declared.step.Step.TheVariants.{Poll, Commit as CommitTick
 use Rattle.base.specs.declared.step.Reply.{Reply}
 use Rattle.base.specs.declared.step.Reply.TheVariants.{Refused as RefusedWith}
 use Rattle.base.specs.Search.{some_if}
-use Rattle.base.specs.Images.{ruling}
-use Rattle.base.proofs.Histories.{history_in, sound-stands, opens-sound}
-use Rattle.machine.specs.Machine.{State, Run, Stepped, refused, answered, memory_refused, device_failed, final}
+use Rattle.machine.specs.Machine.{State, Stepped, refused, answered, memory_refused, device_failed}
 use Rattle.machine.proofs.Runs.{IsAnswer, Answers-answer}
 use Rattle.pmem.specs.Device.{Device}
-use Rattle.pmem.specs.Words.{image_of}
 use Rattle.pmem.specs.declared.device.Pmem.{Ghosts}
 use Rattle.room.specs.declared.room.Room.{Room}
 use Rattle.database.specs.declared.error.CommitError.{CommitError}
 use Rattle.database.specs.declared.error.CommitError.TheVariants.{Refused, Open}
 use Rattle.database.specs.Replies.{committed_of}
-use Rattle.room.specs.Room.{Leads, Shows, ShowsStatus}
+use Rattle.room.specs.Room.{Leads, Shows, ShowsStatus, device_of}
 use Rattle.room.specs.declared.status.Status.{Status}
 use Rattle.database.specs.declared.opened.OpenedRoom.{OpenedRoom}
-use Rattle.database.specs.Runs.{EndedAlong, HasRun, IsRunFrom, IsLast, HasEnded}
+use Rattle.room.specs.Runs.{HasTaken}
+use Rattle.room.proofs.Runs.{leads-one, over-some, taken-led, ends-run}
+use Rattle.database.specs.Ended.{EndedIn, EndedAlong, IsLast, HasEnded}
 use Rattle.database.specs.Obeys.{Finishes, AnswersStep, IsStep}
 use Rattle.database.specs.Committing.{IsAcknowledged, HasLackedMemory, IsSettledUpTo, WaitsInVain, IsGivenUp, StopsAfter, StopsAtEnd, GivesUp, IsAnswered, IsAnsweredAt, AnswersTo, ReportsError, ReportsRefusal}
-use Rattle.database.proofs.Runs.{led_from, leads-one, run-led, ends-run, ends-once-ended, answers-step}
+use Rattle.database.proofs.Runs.{run-led, ends-once-ended, answers-step}
 use Rattle.database.proofs.Reporting.{polled_so}
 
 -- ---- a tick that is refused
@@ -45,81 +45,60 @@ is-last q q' fault reply (memory_refused free takes is same) told other = absurd
 is-last q q' fault reply (device_failed free operates is same) told other = let device : fault ≡ DeviceFault = cc (sym told, is) in inr (inl device)
 
 -- some state is shown, from which the tick was made
-last_from : {D : Type 0} {G : Ghosts D} (state : D → Device) (old new : Room D G) (fault : Fault) (opened : Device) → IsRunFrom state opened old
+last_from : {D : Type 0} {G : Ghosts D} {Made : List (Step × Reply) → Type 0} (state : D → Device) (old new : Room D G) (fault : Fault) → HasTaken state old Made
     → Leads state old new CommitTick (RefusedWith fault) → fault ≢ OutOfMemory → IsLast fault
-last_from state old new fault opened r leads other =
-    let image = image_of opened in
-    let s = r.is_opened.shows (history_in image) [] (ruling image).dirty [] (sound-stands image (opens-sound image r.is_opened.may_open)) in
-    let a = r.leads s.0 s.2 in
-    let b = leads (final s.0 a.0) a.1.shows in is-last (final s.0 a.0) b.0 fault (RefusedWith fault) b.1.stepped refl other
+last_from state old new fault r leads other =
+    let s = over-some r.opened (device_of state old) r.taken (Shows state old) r.run in
+    let b = leads s.0 s.1 in is-last s.0 b.0 fault (RefusedWith fault) b.1.stepped refl other
 
-pub has-ended : {D : Type 0} {G : Ghosts D} {ended : Option Fault} (state : D → Device) (old new : Room D G) (fault : Fault) → ∥ HasRun state old ended ∥₁
+pub has-ended : {D : Type 0} {G : Ghosts D} {ended : Option Fault} (state : D → Device) (old new : Room D G) (fault : Fault) → ∥ HasTaken state old (EndedAlong ended) ∥₁
     → Leads state old new CommitTick (RefusedWith fault) → fault ≢ OutOfMemory → HasEnded fault
 has-ended state old new fault run leads other =
     ∥∥₁_elim run ∥∥₁_prop (λ r.
-    ends-run state old new (CommitTick ∷ []) (RefusedWith fault ∷ []) _ run (leads-one state old new CommitTick (RefusedWith fault) leads) (refl, refl, last_from state old new fault r.opened r.run leads other))
-
--- each step has its reply
-run-beside : (q : State) (steps : List Step) (replies : List Reply) (states : List State) → Run q steps replies states → length steps ≡ length replies
-run-beside q [] [] [] run = refl
-run-beside q (s1 ∷ steps) (r1 ∷ replies) (q1 ∷ states) run = omega (arith, run-beside q1 steps replies states run.1)
-run-beside q [] [] (q1 ∷ states) run = absurd run
-run-beside q [] (r1 ∷ replies) states run = absurd run
-run-beside q (s1 ∷ steps) [] states run = absurd run
-run-beside q (s1 ∷ steps) (r1 ∷ replies) [] run = absurd run
-
-beside_from : {D : Type 0} {G : Ghosts D} (state : D → Device) (room : Room D G) (opened : Device) (r : IsRunFrom state opened room) → length r.steps ≡ length r.replies
-beside_from state room opened r =
-    let image = image_of opened in
-    let s = r.is_opened.shows (history_in image) [] (ruling image).dirty [] (sound-stands image (opens-sound image r.is_opened.may_open)) in
-    let a = r.leads s.0 s.2 in run-beside s.0 r.steps r.replies a.0 a.1.run
+    ends-run state old new ((CommitTick, RefusedWith fault) ∷ []) _ run (leads-one state old new CommitTick (RefusedWith fault) leads) (refl, last_from state old new fault r leads other))
 
 -- and the run has that tick
-pub run-ended : {D : Type 0} {G : Ghosts D} {ended : Option Fault} (state : D → Device) (old new : Room D G) (fault : Fault) → ∥ HasRun state old ended ∥₁
-    → Leads state old new CommitTick (RefusedWith fault) → fault ≢ OutOfMemory → ∥ HasRun state new (Some fault) ∥₁
-unfolding led_from
-run-ended state old new fault run leads other = ∥∥₁_map run (λ r. record {
-  opened = r.opened;
-  run = led_from state old new (CommitTick ∷ []) (RefusedWith fault ∷ []) r.opened r.run (leads-one state old new CommitTick (RefusedWith fault) leads);
-  along = (
-    record { first = r.run.steps; more = []; earlier = r.run.replies; later = []; steps_are = refl; replies_are = refl; beside = beside_from state old r.opened r.run },
-    has-ended state old new fault run leads other,
-  );
-})
+pub run-ended : {D : Type 0} {G : Ghosts D} {ended : Option Fault} (state : D → Device) (old new : Room D G) (fault : Fault) → ∥ HasTaken state old (EndedAlong ended) ∥₁
+    → Leads state old new CommitTick (RefusedWith fault) → fault ≢ OutOfMemory → ∥ HasTaken state new (EndedAlong (Some fault)) ∥₁
+run-ended {D} {G} {ended} state old new fault run leads other =
+    taken-led state old new ((CommitTick, RefusedWith fault) ∷ []) (EndedAlong ended) (EndedAlong (Some fault)) run (leads-one state old new CommitTick (RefusedWith fault) leads)
+    (λ taken before. record {
+      along = λ told is. let same : fault ≡ told = cc is in subst (λ (f : Fault). EndedIn f (taken ++ (CommitTick, RefusedWith fault) ∷ [])) same (Contains-push taken (CommitTick, RefusedWith fault), has-ended state old new fault run leads other);
+    })
 
 -- what a room that has ended so says of it
-pub ended-in : {D : Type 0} {G : Ghosts D} (state : D → Device) (room : Room D G) (ended : Option Fault) → ∥ HasRun state room ended ∥₁ → (fault : Fault) → ended ≡ Some fault → HasEnded fault
-ended-in state room ended run fault is = ∥∥₁_elim run ∥∥₁_prop (λ r. (subst (λ (e : Option Fault). EndedAlong e r.run.steps r.run.replies) is r.along).1)
+pub ended-in : {D : Type 0} {G : Ghosts D} (state : D → Device) (room : Room D G) (ended : Option Fault) → ∥ HasTaken state room (EndedAlong ended) ∥₁ → (fault : Fault) → ended ≡ Some fault → HasEnded fault
+ended-in state room ended run fault is = ∥∥₁_elim run ∥∥₁_prop (λ r. (r.so.along fault is).1)
 
 -- a tick that was answered so
-pub run-ticked : {D : Type 0} {G : Ghosts D} {ended : Option Fault} (state : D → Device) (old new : Room D G) (reply : Reply) (after : Option Fault) → ∥ HasRun state old ended ∥₁ → Leads state old new CommitTick reply
-    → (after ≡ ended) ⊎ ((fault : Fault) × (reply ≡ RefusedWith fault) × (fault ≢ OutOfMemory) × (after ≡ Some fault)) → ∥ HasRun state new after ∥₁
-run-ticked state old new reply after run leads (inl same) = subst (λ (e : Option Fault). ∥ HasRun state new e ∥₁) (sym same) (run-led state old new CommitTick reply run leads)
+pub run-ticked : {D : Type 0} {G : Ghosts D} {ended : Option Fault} (state : D → Device) (old new : Room D G) (reply : Reply) (after : Option Fault) → ∥ HasTaken state old (EndedAlong ended) ∥₁ → Leads state old new CommitTick reply
+    → (after ≡ ended) ⊎ ((fault : Fault) × (reply ≡ RefusedWith fault) × (fault ≢ OutOfMemory) × (after ≡ Some fault)) → ∥ HasTaken state new (EndedAlong after) ∥₁
+run-ticked state old new reply after run leads (inl same) = subst (λ (e : Option Fault). ∥ HasTaken state new (EndedAlong e) ∥₁) (sym same) (run-led state old new CommitTick reply run leads)
 run-ticked state old new reply after run leads (inr (fault, is, other, ended)) =
-    subst (λ (e : Option Fault). ∥ HasRun state new e ∥₁) (sym ended) (run-ended state old new fault run (subst (λ (r : Reply). Leads state old new CommitTick r) is leads) other)
+    subst (λ (e : Option Fault). ∥ HasTaken state new (EndedAlong e) ∥₁) (sym ended) (run-ended state old new fault run (subst (λ (r : Reply). Leads state old new CommitTick r) is leads) other)
 
 -- want of memory is no end
-pub has-lacked : {D : Type 0} {G : Ghosts D} {ended : Option Fault} (state : D → Device) (old new : Room D G) → ∥ HasRun state old ended ∥₁
+pub has-lacked : {D : Type 0} {G : Ghosts D} {ended : Option Fault} (state : D → Device) (old new : Room D G) → ∥ HasTaken state old (EndedAlong ended) ∥₁
     → Leads state old new CommitTick (RefusedWith OutOfMemory) → HasLackedMemory
 has-lacked state old new run leads =
-    ends-run state old new (CommitTick ∷ []) (RefusedWith OutOfMemory ∷ []) _ run (leads-one state old new CommitTick (RefusedWith OutOfMemory) leads) (refl, refl)
+    ends-run state old new ((CommitTick, RefusedWith OutOfMemory) ∷ []) _ run (leads-one state old new CommitTick (RefusedWith OutOfMemory) leads) refl
 
 -- ---- a commit that is waited for
 
 -- its poll reported that it isn't covered
-pub finish-waits : {D : Type 0} {G : Ghosts D} {ended : Option Fault} (state : D → Device) (old new : Room D G) (session : ℕ) → ∥ HasRun state old ended ∥₁
+pub finish-waits : {D : Type 0} {G : Ghosts D} {ended : Option Fault} (state : D → Device) (old new : Room D G) (session : ℕ) → ∥ HasTaken state old (EndedAlong ended) ∥₁
     → Finishes state old new session (Ok None) → AnswersStep (Poll session) committed_of (Ok None)
 finish-waits state old new session run polls = answers-step state old new (Poll session) committed_of (Ok None) run polls.0
 
 -- and it is waited for no longer
-pub stops-after : {D : Type 0} {G : Ghosts D} {ended : Option Fault} (state : D → Device) (old new : Room D G) (session refusals : ℕ) (error : CommitError) → ∥ HasRun state old ended ∥₁
+pub stops-after : {D : Type 0} {G : Ghosts D} {ended : Option Fault} (state : D → Device) (old new : Room D G) (session refusals : ℕ) (error : CommitError) → ∥ HasTaken state old (EndedAlong ended) ∥₁
     → Finishes state old new session (Ok None) → IsGivenUp ended refusals error → GivesUp session error
 stops-after {D} {G} {ended} state old new session refusals error run polls gives = ∣ inl (stops error gives) ∣₁
   where
     in-vain : (fault : Fault) → ended ≡ Some fault → WaitsInVain session fault
     in-vain fault is =
-        ends-once-ended state old new fault (Poll session ∷ []) (polls.0.0 ∷ []) (IsStep (Poll session) committed_of (Ok None)) (subst (λ (e : Option Fault). ∥ HasRun state old e ∥₁) is run)
-        (leads-one state old new (Poll session) polls.0.0 polls.0.1) (polls.0.0, refl, refl, polls.0.2)
+        ends-once-ended state old new fault ((Poll session, polls.0.0) ∷ []) (IsStep (Poll session) committed_of (Ok None)) run is
+        (leads-one state old new (Poll session) polls.0.0 polls.0.1) (polls.0.0, refl, polls.0.2)
 
     stops : (error : CommitError) → IsGivenUp ended refusals error → StopsAfter session error
     stops (Refused fault) (out, is) = (out, in-vain fault is)
@@ -138,11 +117,11 @@ pub answered-if : (session t : ℕ) (answer : Result ℕ CommitError) (result : 
 answered-if session t answer a is to = grind (arith, answered-at)
 
 -- its poll, or its end, was refused
-pub finish-refused : {D : Type 0} {G : Ghosts D} {ended : Option Fault} (state : D → Device) (old new : Room D G) (session : ℕ) (fault : Fault) → ∥ HasRun state old ended ∥₁
+pub finish-refused : {D : Type 0} {G : Ghosts D} {ended : Option Fault} (state : D → Device) (old new : Room D G) (session : ℕ) (fault : Fault) → ∥ HasTaken state old (EndedAlong ended) ∥₁
     → Finishes state old new session (Err fault) → StopsAtEnd session (Open fault)
 finish-refused state old new session fault run (inl one) =
-    ends-run state old new (Poll session ∷ []) (one.0 ∷ []) _ run (leads-one state old new (Poll session) one.0 one.1) (inl (one.0, refl, refl, one.2))
-finish-refused state old new session fault run (inr (mid, t, polls, last)) = polled_so state old new session t (Err fault) _ (λ steps replies is. inr (t, is)) run mid polls last
+    ends-run state old new ((Poll session, one.0) ∷ []) _ run (leads-one state old new (Poll session) one.0 one.1) (inl (one.0, refl, one.2))
+finish-refused state old new session fault run (inr (mid, t, polls, last)) = polled_so state old new session t (Err fault) _ (λ taken is. inr (t, is)) run mid polls last
 
 -- ---- a conflict
 

@@ -1,41 +1,22 @@
 -- What a close makes of a device that was opened.
-use Rattle.std.specs.Prelude.{◌≡◌, ◌⊎◌, ℕ, List, ◌++◌, None}
+use Rattle.std.specs.Prelude.{List}
 use Rattle.base.specs.declared.fault.Fault.{Fault}
 use Rattle.base.specs.declared.step.Step.{Step}
 use Rattle.base.specs.declared.step.Reply.{Reply}
-use Rattle.base.specs.Commits.{Commit}
-use Rattle.base.specs.Images.{Image, opening_fault}
-use Rattle.base.specs.Stands.{Stands}
-use Rattle.machine.specs.Machine.{State, Run, final, StandsAlong, StandsClosing, StandsClosed}
-use Rattle.machine.specs.Openings.{OpensAs, StandsOpening}
+use Rattle.base.specs.Images.{Image}
+use Rattle.machine.specs.Machine.{State, StandsClosing, StandsClosed}
 use Rattle.pmem.specs.Device.{Device, MayLeave}
-use Rattle.pmem.specs.Words.{IsAtRest, LeavesOnly, image_of}
+use Rattle.pmem.specs.Words.{LeavesOnly}
 use Rattle.room.specs.Closing.{IsClosingRefusal}
+use Rattle.room.specs.Runs.{RunOver}
 
--- what a crash leaves at some moment of a life: in its opening, in one of its steps, or in its close
-abbrev pub StandsThrough : Image → List Commit → ℕ → State → List State → Image → Type 0
-StandsThrough before history next start states image =
-    StandsOpening before history next image ⊎ (StandsAlong start states image ⊎ StandsClosing (final start states) image)
-
--- From the state that the opening of the device left, where it stood for this history, the steps are a run to one whose history goes
--- on from there, and of which this holds. A crash at any moment since the opening left what one may leave there
-pub record Lives (opened now : Device) (history : List Commit) (next : ℕ) (lost : List ℕ) (steps : List Step) (replies : List Reply) (Ends : State → Type 0) : Type 0 where
-  pub start : State
-  pub states : List State
-  pub opens : OpensAs (image_of opened) history lost start
-  pub run : Run start steps replies states
-  pub extends : (more : List Commit) × ((final start states).history ≡ history ++ more)
-  pub images : LeavesOnly opened now (StandsThrough (image_of opened) history next start states)
-  pub ends : Ends (final start states)
-
--- The device was at rest and was opened, and so the steps are whatever history it stood for
-pub record HasLived (now : Device) (Ends : State → Type 0) : Type 0 where
+-- A run from an opening came to a device from which the close led to this one, and to a state of which this holds. A crash within the close
+-- leaves what it may leave there
+pub record ClosesRun (now : Device) (Is : State → Type 0) : Type 0 where
   pub opened : Device
-  pub at_rest : IsAtRest opened
-  pub may_open : opening_fault (image_of opened) ≡ None
-  pub steps : List Step
-  pub replies : List Reply
-  pub lives : (history drawn : List Commit) (next : ℕ) (lost : List ℕ) → Stands (image_of opened) history drawn next → Lives opened now history next lost steps replies Ends
+  pub before : Device
+  pub taken : List (Step × Reply)
+  pub run : RunOver opened before taken (λ q. LeavesOnly before now (StandsClosing q) × Is q)
 
 -- a crash leaves what covers all that was covered and drawn
 abbrev pub IsClosed : Device → State → Type 0

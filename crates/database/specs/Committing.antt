@@ -1,5 +1,5 @@
 -- What a put and a commit make of a run.
-use Rattle.std.specs.Prelude.{◌≡◌, ◌≢◌, ◌⊎◌, ◌<◌, ◌≤◌, ◌+◌, ◌-◌, ◌^◌, min, ℕ, List, [], ◌∷◌, ◌++◌, replicate, ⊤, Option, Some, None, Result, Ok, Err, MatchResult}
+use Rattle.std.specs.Prelude.{◌≡◌, ◌≢◌, ◌⊎◌, ◌<◌, ◌≤◌, ◌+◌, ◌-◌, ◌^◌, min, ℕ, List, [], ◌∷◌, ◌++◌, map, replicate, ⊤, Option, Some, None, Result, Ok, Err, MatchResult}
 use Rattle.base.specs.declared.fault.Fault.{Fault}
 use Rattle.base.specs.declared.fault.Fault.TheVariants.{SlotsOut, Conflict, WindowFull, OutOfMemory, TimestampsOut}
 use Rattle.base.specs.declared.key.Key.{Key}
@@ -13,100 +13,93 @@ use Rattle.database.specs.Replies.{began_of, done_of, drawn_of, stamped_of, comm
 use Rattle.pmem.specs.Device.{Device}
 use Rattle.pmem.specs.declared.device.Pmem.{Ghosts}
 use Rattle.room.specs.declared.room.Room.{Room}
-use Rattle.database.specs.Runs.{LeadsAlong, EndsSomeRun, EndsOnceEnded, HasEnded}
-use Rattle.database.specs.Numbers.{LeadsTo, ComesTo}
+use Rattle.room.specs.Runs.{EndsRun, EndsRunIn, ComesTo, LeadsAlong}
+use Rattle.database.specs.Ended.{EndsOnceEnded, HasEnded}
 use Rattle.database.specs.declared.opened.OpenedRoom.{OpenedRoom}
 use Rattle.database.specs.Obeys.{IsStep, AnswersStep, InRoom, Finishes, ended_of, all_stamped}
 
 -- ---- a put
 
 -- a put that found no slot, visits of the collector, and the put again, whose reply is returned
-pub record PutsAgain (session : ℕ) (key : Key) (row : List ℕ) (result : Result ⊤ Fault) (steps : List Step) (replies : List Reply) : Type 0 where
-  pub count : ℕ
+pub record PutsAgain (session : ℕ) (key : Key) (row : List ℕ) (result : Result ⊤ Fault) (taken : List (Step × Reply)) : Type 0 where
   pub first : Reply
   pub visits : List Reply
   pub last : Reply
-  pub steps_are : steps ≡ Put session key row ∷ (replicate count Collect ++ Put session key row ∷ [])
-  pub replies_are : replies ≡ first ∷ (visits ++ last ∷ [])
+  pub taken_is : taken ≡ (Put session key row, first) ∷ (map (λ visit. (Collect, visit)) visits ++ (Put session key row, last) ∷ [])
   pub found_none : Err SlotsOut ≡ done_of first
   pub result_is : result ≡ done_of last
 
 -- that, or a put alone, which didn't want for a slot
-abbrev pub IsPut : ℕ → Key → List ℕ → Result ⊤ Fault → List Step → List Reply → Type 0
-IsPut session key row result steps replies = (IsStep (Put session key row) done_of result steps replies × (result ≢ Err SlotsOut)) ⊎ PutsAgain session key row result steps replies
+abbrev pub IsPut : ℕ → Key → List ℕ → Result ⊤ Fault → List (Step × Reply) → Type 0
+IsPut session key row result taken = (IsStep (Put session key row) done_of result taken × (result ≢ Err SlotsOut)) ⊎ PutsAgain session key row result taken
 
 -- such a put ends a run from an opening
 abbrev pub AnswersPut : ℕ → Key → List ℕ → Result ⊤ Fault → Type 0
-AnswersPut session key row result = EndsSomeRun (IsPut session key row result)
+AnswersPut session key row result = EndsRun (IsPut session key row result)
 
 -- ---- many writes
 
 -- the row was put so, or what was under the key was deleted
-abbrev pub IsWrite : ℕ → Key → Option (List ℕ) → Result ⊤ Fault → List Step → List Reply → Type 0
-IsWrite session key (Some row) result steps replies = IsPut session key row result steps replies
-IsWrite session key None result steps replies = IsStep (Delete session key) done_of result steps replies
+abbrev pub IsWrite : ℕ → Key → Option (List ℕ) → Result ⊤ Fault → List (Step × Reply) → Type 0
+IsWrite session key (Some row) result taken = IsPut session key row result taken
+IsWrite session key None result taken = IsStep (Delete session key) done_of result taken
 
 -- These are the session's writes in their order, each of which was made, and nothing else; or those up to the first that was refused,
 -- whose fault is returned
-abbrev pub AreWrites : ℕ → List (Key × Option (List ℕ)) → Result ⊤ Fault → List Step → List Reply → Type 0
-AreWrites session [] result steps replies = (result ≡ Ok tt) × (steps ≡ []) × (replies ≡ [])
-AreWrites session (write ∷ others) result steps replies =
-    ((fault : Fault) × (result ≡ Err fault) × IsWrite session write.0 write.1 (Err fault) steps replies)
-    ⊎ ((first more : List Step) × (earlier later : List Reply) × (steps ≡ first ++ more) × (replies ≡ earlier ++ later)
-    × IsWrite session write.0 write.1 (Ok tt) first earlier × AreWrites session others result more later)
+abbrev pub AreWrites : ℕ → List (Key × Option (List ℕ)) → Result ⊤ Fault → List (Step × Reply) → Type 0
+AreWrites session [] result taken = (result ≡ Ok tt) × (taken ≡ [])
+AreWrites session (write ∷ others) result taken =
+    ((fault : Fault) × (result ≡ Err fault) × IsWrite session write.0 write.1 (Err fault) taken)
+    ⊎ ((first more : List (Step × Reply)) × (taken ≡ first ++ more) × IsWrite session write.0 write.1 (Ok tt) first × AreWrites session others result more)
 
 -- such writes end a run from an opening
 abbrev pub AnswersWrites : ℕ → List (Key × Option (List ℕ)) → Result ⊤ Fault → Type 0
-AnswersWrites session writes result = EndsSomeRun (AreWrites session writes result)
+AnswersWrites session writes result = EndsRun (AreWrites session writes result)
 
 -- the room makes them
 abbrev pub LeadsByWrites : {D : Type 0} → {G : Ghosts D} → (D → Device) → Room D G → Room D G → ℕ → List (Key × Option (List ℕ)) → Result ⊤ Fault → Type 0
-LeadsByWrites state old new session writes result =
-    (steps : List Step) × (replies : List Reply) × LeadsAlong state old new steps replies × AreWrites session writes result steps replies
+LeadsByWrites state old new session writes result = (taken : List (Step × Reply)) × LeadsAlong state old new taken × AreWrites session writes result taken
 
 -- ---- a commit
 
 -- the session drew this timestamp and stamped as long as that left more keys, and the last stamp reported that all keys are stamped, or was refused
-pub record DrawsAndStamps (session t : ℕ) (result : Result ⊤ Fault) (steps : List Step) (replies : List Reply) : Type 0 where
+pub record DrawsAndStamps (session t : ℕ) (result : Result ⊤ Fault) (taken : List (Step × Reply)) : Type 0 where
   pub count : ℕ
   pub drawn : Reply
   pub last : Reply
-  pub steps_are : steps ≡ Draw session ∷ (replicate count (Stamp session) ++ Stamp session ∷ [])
-  pub replies_are : replies ≡ drawn ∷ (replicate count More ++ last ∷ [])
+  pub taken_is : taken ≡ (Draw session, drawn) ∷ (replicate count (Stamp session, More) ++ (Stamp session, last) ∷ [])
   pub drew : Ok (Some t) ≡ drawn_of drawn
   pub result_is : all_stamped result ≡ stamped_of last
 
 -- it drew for nothing, and ended
-pub record DrawsAndEnds (session : ℕ) (result : Result ⊤ Fault) (steps : List Step) (replies : List Reply) : Type 0 where
+pub record DrawsAndEnds (session : ℕ) (result : Result ⊤ Fault) (taken : List (Step × Reply)) : Type 0 where
   pub drawn : Reply
   pub last : Reply
-  pub steps_are : steps ≡ Draw session ∷ End session ∷ []
-  pub replies_are : replies ≡ drawn ∷ last ∷ []
+  pub taken_is : taken ≡ (Draw session, drawn) ∷ (End session, last) ∷ []
   pub drew : Ok None ≡ drawn_of drawn
   pub result_is : result ≡ done_of last
 
 -- its poll reported this timestamp, and it ended
-pub record PollsAndEnds (session t : ℕ) (result : Result ⊤ Fault) (steps : List Step) (replies : List Reply) : Type 0 where
+pub record PollsAndEnds (session t : ℕ) (result : Result ⊤ Fault) (taken : List (Step × Reply)) : Type 0 where
   pub polled : Reply
   pub last : Reply
-  pub steps_are : steps ≡ Poll session ∷ End session ∷ []
-  pub replies_are : replies ≡ polled ∷ last ∷ []
+  pub taken_is : taken ≡ (Poll session, polled) ∷ (End session, last) ∷ []
   pub committed : Ok (Some t) ≡ committed_of polled
   pub result_is : result ≡ done_of last
 
 -- how a session is prepared for its commit
-abbrev pub IsPreparation : ℕ → Result (Option ℕ) CommitError → List Step → List Reply → Type 0
-IsPreparation session (Ok (Some t)) steps replies = DrawsAndStamps session t (Ok tt) steps replies
-IsPreparation session (Ok None) steps replies = DrawsAndEnds session (Ok tt) steps replies
-IsPreparation session (Err (Open fault)) steps replies = (t : ℕ) × DrawsAndStamps session t (Err fault) steps replies
-IsPreparation session (Err (Refused fault)) steps replies = IsStep (Draw session) drawn_of (Err fault) steps replies ⊎ DrawsAndEnds session (Err fault) steps replies
+abbrev pub IsPreparation : ℕ → Result (Option ℕ) CommitError → List (Step × Reply) → Type 0
+IsPreparation session (Ok (Some t)) taken = DrawsAndStamps session t (Ok tt) taken
+IsPreparation session (Ok None) taken = DrawsAndEnds session (Ok tt) taken
+IsPreparation session (Err (Open fault)) taken = (t : ℕ) × DrawsAndStamps session t (Err fault) taken
+IsPreparation session (Err (Refused fault)) taken = IsStep (Draw session) drawn_of (Err fault) taken ⊎ DrawsAndEnds session (Err fault) taken
 
 abbrev pub IsPrepared : ℕ → Result (Option ℕ) CommitError → Type 0
-IsPrepared session result = EndsSomeRun (IsPreparation session result)
+IsPrepared session result = EndsRun (IsPreparation session result)
 
 -- the session's own poll reported its timestamp, so that is covered, and the transaction is ended
 abbrev pub IsAcknowledged : ℕ → ℕ → Type 0
-IsAcknowledged session t = EndsSomeRun (PollsAndEnds session t (Ok tt))
+IsAcknowledged session t = EndsRun (PollsAndEnds session t (Ok tt))
 
 -- What a commit returns: None where nothing was written, and else the timestamp that it drew, once that is covered
 abbrev pub ReportsCommit : ℕ → Option ℕ → Type 0
@@ -117,7 +110,7 @@ ReportsCommit session (Some t) = IsPrepared session (Ok (Some t)) × IsAcknowled
 
 -- a tick of the committer was refused memory
 abbrev pub HasLackedMemory : Type 0
-HasLackedMemory = EndsSomeRun (λ steps replies. (steps ≡ CommitTick ∷ []) × (replies ≡ RefusedWith OutOfMemory ∷ []))
+HasLackedMemory = EndsRun (λ taken. taken ≡ (CommitTick, RefusedWith OutOfMemory) ∷ [])
 
 -- Why a commit isn't drawn for another reason than its steps gave: no record number was left before its draw; or its draw found the window full,
 -- and the committer was refused memory for the record that makes room in it
@@ -173,7 +166,7 @@ open_after count (Err fault) = count
 -- the session's poll was refused so, or it reported the timestamp and the end was refused so
 abbrev pub StopsAtEnd : ℕ → CommitError → Type 0
 StopsAtEnd session (Refused fault) = ⊥
-StopsAtEnd session (Open fault) = EndsSomeRun (λ steps replies. IsStep (Poll session) committed_of (Err fault) steps replies ⊎ ((t : ℕ) × PollsAndEnds session t (Err fault) steps replies))
+StopsAtEnd session (Open fault) = EndsRun (λ taken. IsStep (Poll session) committed_of (Err fault) taken ⊎ ((t : ℕ) × PollsAndEnds session t (Err fault) taken))
 
 -- why a commit that is drawn and stamped isn't acknowledged: its own poll reported that it isn't covered, and it won't be; or that poll, or its end, was refused
 abbrev pub GivesUp : ℕ → CommitError → Type 0
@@ -215,9 +208,7 @@ HasAborted session = (result : Result ⊤ Fault) × AnswersStep (Abort session) 
 
 -- the session's draw was refused for a conflict on the key, and this was the last timestamp that was drawn then
 abbrev pub ConflictsAt : ℕ → Key → ℕ → Type 0
-ConflictsAt session key last =
-    ∥ ((opened now : Device) × (before steps : List Step) × (earlier replies : List Reply)
-    × LeadsTo opened now (before ++ steps) (earlier ++ replies) (λ q. last ≡ q.next - 1) × IsPreparation session (Err (Refused (Conflict key))) steps replies) ∥₁
+ConflictsAt session key last = EndsRunIn (IsPreparation session (Err (Refused (Conflict key)))) (λ q. last ≡ q.next - 1)
 
 -- the ruling record has come to the timestamp; or nothing more is covered, since the committer has ended, or was refused memory
 abbrev pub IsSettledUpTo : ℕ → Type 0
@@ -244,23 +235,21 @@ ReportsRefusal session error = (key : Key) → error ≡ Refused (Conflict key) 
 
 -- The session was begun, and these are its writes, all of which were made; or the begin was refused so, or one of the writes was, and then the
 -- session's abort was asked for
-abbrev pub IsBegunWith : List (Key × Option (List ℕ)) → Result ℕ Fault → List Step → List Reply → Type 0
-IsBegunWith writes (Ok session) steps replies =
-    (begun : Reply) × (more : List Step) × (later : List Reply) × (steps ≡ Begin ∷ more) × (replies ≡ begun ∷ later) × (Ok session ≡ began_of begun)
-    × AreWrites session writes (Ok tt) more later
-IsBegunWith writes (Err fault) steps replies =
-    IsStep Begin began_of (Err fault) steps replies
-    ⊎ ((session : ℕ) × (begun last : Reply) × (more : List Step) × (later : List Reply) × (steps ≡ Begin ∷ (more ++ Abort session ∷ []))
-    × (replies ≡ begun ∷ (later ++ last ∷ [])) × (Ok session ≡ began_of begun) × AreWrites session writes (Err fault) more later)
+abbrev pub IsBegunWith : List (Key × Option (List ℕ)) → Result ℕ Fault → List (Step × Reply) → Type 0
+IsBegunWith writes (Ok session) taken =
+    (begun : Reply) × (more : List (Step × Reply)) × (taken ≡ (Begin, begun) ∷ more) × (Ok session ≡ began_of begun) × AreWrites session writes (Ok tt) more
+IsBegunWith writes (Err fault) taken =
+    IsStep Begin began_of (Err fault) taken
+    ⊎ ((session : ℕ) × (begun last : Reply) × (more : List (Step × Reply)) × (taken ≡ (Begin, begun) ∷ (more ++ (Abort session, last) ∷ []))
+    × (Ok session ≡ began_of begun) × AreWrites session writes (Err fault) more)
 
 -- so ends a run from an opening
 abbrev pub AnswersBegunWith : List (Key × Option (List ℕ)) → Result ℕ Fault → Type 0
-AnswersBegunWith writes result = EndsSomeRun (IsBegunWith writes result)
+AnswersBegunWith writes result = EndsRun (IsBegunWith writes result)
 
 -- the room makes that
 abbrev pub BeginsWith : {D : Type 0} → {G : Ghosts D} → (D → Device) → Room D G → Room D G → List (Key × Option (List ℕ)) → Result ℕ Fault → Type 0
-BeginsWith state old new writes result =
-    (steps : List Step) × (replies : List Reply) × LeadsAlong state old new steps replies × IsBegunWith writes result steps replies
+BeginsWith state old new writes result = (taken : List (Step × Reply)) × LeadsAlong state old new taken × IsBegunWith writes result taken
 
 -- A session was begun with these writes, and its commit returns so
 abbrev pub ReportsWritten : List (Key × Option (List ℕ)) → Option ℕ → Type 0

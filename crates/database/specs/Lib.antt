@@ -1,8 +1,7 @@
 pub mod Replies
 pub mod Opening
-pub mod Runs
+pub mod Ended
 pub mod Obeys
 pub mod Committing
 pub mod Ticking
 pub mod Closing
-pub mod Numbers

@@ -1,5 +1,5 @@
 -- What a call makes of a room.
-use Rattle.std.specs.Prelude.{◌≡◌, ◌≢◌, ◌⊎◌, ℕ, ◌+◌, Bool, true, List, [], ◌∷◌, replicate, ⊤, Option, Some, None, Result, Ok, Err}
+use Rattle.std.specs.Prelude.{◌≡◌, ◌≢◌, ◌⊎◌, ℕ, ◌+◌, Bool, true, List, [], ◌∷◌, length, map, replicate, ⊤, Option, Some, None, Result, Ok, Err}
 use Rattle.base.specs.declared.fault.Fault.{Fault}
 use Rattle.base.specs.declared.fault.Fault.TheVariants.{SlotsOut}
 use Rattle.base.specs.declared.step.Step.{Step}
@@ -12,12 +12,12 @@ use Rattle.base.specs.Stands.{has_timestamp}
 use Rattle.pmem.specs.Device.{Device}
 use Rattle.pmem.specs.declared.device.Pmem.{Ghosts}
 use Rattle.room.specs.declared.room.Room.{Room}
-use Rattle.room.specs.Room.{Shows, RunsTo, Leads}
+use Rattle.room.specs.Room.{Shows, Leads}
+use Rattle.room.specs.Runs.{EndsRun, LeadsAlong}
 use Rattle.database.specs.declared.error.CommitError.{CommitError}
 use Rattle.database.specs.declared.error.CommitError.TheVariants.{Refused, Open}
 use Rattle.database.specs.Replies.{done_of, drawn_of, stamped_of, committed_of}
 use Rattle.database.specs.declared.opened.OpenedRoom.{OpenedRoom}
-use Rattle.database.specs.Runs.{EndsSomeRun}
 
 -- with what the committer of the room that is there has ended, where it has
 abbrev pub ended_of : {D : Type 0} → {G : Ghosts D} → Option (OpenedRoom D G) → Option Fault
@@ -33,24 +33,22 @@ abbrev pub InRoom : {D : Type 0} → {G : Ghosts D} → (Room D G → Room D G �
 InRoom {D} {G} Makes old new = (before after : OpenedRoom D G) × (old ≡ Some before) × (new ≡ Some after) × Makes before.room after.room
 
 -- this is one step, and what is returned is read off its reply
-abbrev pub IsStep : {A : Type 0} → Step → (Reply → Result A Fault) → Result A Fault → List Step → List Reply → Type 0
-IsStep step read result steps replies = (reply : Reply) × (steps ≡ step ∷ []) × (replies ≡ reply ∷ []) × (result ≡ read reply)
+abbrev pub IsStep : {A : Type 0} → Step → (Reply → Result A Fault) → Result A Fault → List (Step × Reply) → Type 0
+IsStep step read result taken = (reply : Reply) × (taken ≡ (step, reply) ∷ []) × (result ≡ read reply)
 
 -- such a step ends a run from an opening
 abbrev pub AnswersStep : {A : Type 0} → Step → (Reply → Result A Fault) → Result A Fault → Type 0
-AnswersStep step read result = EndsSomeRun (IsStep step read result)
+AnswersStep step read result = EndsRun (IsStep step read result)
 
 -- the room makes this step so many times, and no other
 abbrev pub Repeats : {D : Type 0} → {G : Ghosts D} → (D → Device) → Room D G → Room D G → Step → Type 0
-Repeats state old new step =
-    (count : ℕ) × (replies : List Reply) × ((q : State) → Shows state old q → (states : List State) × RunsTo state old new (replicate count step) replies q states)
+Repeats state old new step = (replies : List Reply) × LeadsAlong state old new (map (λ reply. (step, reply)) replies)
 
 -- ---- a put
 
 -- the room makes this step just so many times
 abbrev pub RepeatsTimes : {D : Type 0} → {G : Ghosts D} → (D → Device) → Room D G → Room D G → Step → ℕ → Type 0
-RepeatsTimes state old new step count =
-    (replies : List Reply) × ((q : State) → Shows state old q → (states : List State) × RunsTo state old new (replicate count step) replies q states)
+RepeatsTimes state old new step count = (replies : List Reply) × (length replies ≡ count) × LeadsAlong state old new (map (λ reply. (step, reply)) replies)
 
 -- the collector visits each slot and ends its round, which are so many visits
 abbrev pub CollectsAll : {D : Type 0} → {G : Ghosts D} → (D → Device) → Room D G → Room D G → Type 0
@@ -76,8 +74,7 @@ all_stamped (Err fault) = Err fault
 
 -- the room makes this step some times, and each time it is answered so
 abbrev pub RepeatsAnswered : {D : Type 0} → {G : Ghosts D} → (D → Device) → Room D G → Room D G → Step → Reply → Type 0
-RepeatsAnswered state old new step reply =
-    (count : ℕ) × ((q : State) → Shows state old q → (states : List State) × RunsTo state old new (replicate count step) (replicate count reply) q states)
+RepeatsAnswered state old new step reply = (count : ℕ) × LeadsAlong state old new (replicate count (step, reply))
 
 -- The session stamps as long as that leaves more keys, and the last stamp reports that all keys are stamped, or why it was refused
 abbrev pub StampsAll : {D : Type 0} → {G : Ghosts D} → (D → Device) → Room D G → Room D G → ℕ → Result ⊤ Fault → Type 0

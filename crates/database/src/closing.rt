@@ -5,7 +5,7 @@ ghost use Rattle.pmem.specs.Device.{MayLeave};
 ghost use Rattle.pmem.specs.Words.{LeavesOnly};
 ghost use Rattle.room.specs.Closing.{IsClosingRefusal};
 ghost use Rattle.room.specs.Room.{Shows, device_of};
-ghost use Rattle.database.specs.Closing.{HasLived, IsClosed, IsClosingRefused};
+ghost use Rattle.database.specs.Closing.{ClosesRun, IsClosed, IsClosingRefused};
 
 use crate::database::Refused;
 use crate::opened::OpenedRoom;
@@ -23,8 +23,8 @@ pub fn close_room<D: Pmem + Drop>(opened: OpenedRoom<D>) -> Result<D, Refused<D>
 
     // So it is from the opening on.
     ensures lived { MatchResult result
-        (λ device. ∥ HasLived (D.state device) (IsClosed (D.state device)) ∥₁)
-        (λ e. ∥ HasLived (D.state e.device) (IsClosingRefused (D.state e.device) e.fault) ∥₁) }
+        (λ device. ∥ ClosesRun (D.state device) (IsClosed (D.state device)) ∥₁)
+        (λ e. ∥ ClosesRun (D.state e.device) (IsClosingRefused (D.state e.device) e.fault) ∥₁) }
 {
     match opened.into_room().close() {
         Ok(device) => Ok(device),

@@ -87,9 +87,9 @@ impl<D: SyncAhead + Drop, R: Wait + Drop> Database<D, R> {
     ghost use Rattle.database.specs.Obeys.{AnswersStep};
     ghost use Rattle.database.specs.Committing.{ReportsWritten, ReportsUnwritten};
     ghost use Rattle.room.specs.Room.{ShowsStatus};
+    ghost use Rattle.room.specs.Runs.{ComesTo};
     ghost use Rattle.room.specs.Usage.{ShowsUsage};
-    ghost use Rattle.database.specs.Closing.{HasLived, IsClosed, IsClosingRefused};
-    ghost use Rattle.database.specs.Numbers.{ComesTo};
+    ghost use Rattle.database.specs.Closing.{ClosesRun, IsClosed, IsClosingRefused};
 
     /// Begins a transaction, which reads the rows that are committed now, and what it writes. 62 may be open.
     pub fn begin(&self) -> Result<Transaction<'_, D, R>, Fault>
@@ -148,8 +148,8 @@ impl<D: SyncAhead + Drop, R: Wait + Drop> Database<D, R> {
     /// Ends the workers, covers all that was committed, and returns the device. No transaction is open: each borrows from it.
     pub fn close(self) -> Result<D, Refused<D>>
         // All that was covered and drawn since the opening of a device is covered on it now.
-        ensures ok { IfOk result (λ device. ∥ HasLived (D.state device) (IsClosed (D.state device)) ∥₁) }
-        ensures err { IfErr result (λ e. ∥ HasLived (D.state e.device) (IsClosingRefused (D.state e.device) e.fault) ∥₁) }
+        ensures ok { IfOk result (λ device. ∥ ClosesRun (D.state device) (IsClosed (D.state device)) ∥₁) }
+        ensures err { IfErr result (λ e. ∥ ClosesRun (D.state e.device) (IsClosingRefused (D.state e.device) e.fault) ∥₁) }
     {
         self.shared.end_work(&self.rt);
         close_room(self.shared.take_out(&self.rt))

@@ -70,7 +70,7 @@ impl<D: Pmem + Drop> Desk<D> {
     ghost use Rattle.base.specs.declared.step.Step.TheVariants.{Begin, Abort};
     ghost use Rattle.database.specs.Replies.{began_of, done_of};
     ghost use Rattle.std.specs.Option.{ForSome};
-    ghost use Rattle.database.specs.Runs.{HasEnded};
+    ghost use Rattle.database.specs.Ended.{HasEnded};
     ghost use Rattle.database.specs.Obeys.{Obeys, InRoom, AnswersStep, ended_of};
     ghost use Rattle.database.specs.Ticking.{LeavesRest, LeavesCounts};
     ghost use Rattle.database.specs.Committing.{BeginsWith, AnswersBegunWith, IsAnswered, IsAnsweredAt, IsGivenUp, HasLackedMemory, IsLeftWaiting, IsWithoutAnswer, IsSettledUpTo, AnswersOnce, IsReadFor, most_refusals, open_after};

@@ -1,4 +1,5 @@
-ghost use Rattle.database.specs.Runs.{HasRun};
+ghost use Rattle.room.specs.Runs.{HasTaken};
+ghost use Rattle.database.specs.Ended.{EndedAlong};
 
 use base::Ts;
 use base::fault::Fault;
@@ -15,7 +16,7 @@ pub struct OpenedRoom<D: Pmem> {
     pub(crate) room: Room<D>,
     /// Why nothing more will be covered: what the committer was refused with, in this very run.
     pub(crate) ended: Option<Fault>,
-    ghost run: { ∥ HasRun D.state room ended ∥₁ },
+    ghost run: { ∥ HasTaken D.state room (EndedAlong ended) ∥₁ },
 }
 
 impl<D: Pmem + Drop> OpenedRoom<D> {
@@ -25,8 +26,8 @@ impl<D: Pmem + Drop> OpenedRoom<D> {
     ghost use Rattle.base.specs.declared.step.Step.TheVariants.{Commit, Collect};
     ghost use Rattle.machine.specs.Machine.{State};
     ghost use Rattle.room.specs.Room.{Leads, Shows, ShowsStatus};
+    ghost use Rattle.room.specs.Runs.{ComesTo};
     ghost use Rattle.room.specs.Usage.{ShowsUsage};
-    ghost use Rattle.database.specs.Numbers.{ComesTo};
     ghost use Rattle.database.specs.Opening.{IsFresh};
 
     /// The room as its opening left it.
@@ -90,7 +91,7 @@ impl<D: Pmem + Drop> OpenedRoom<D> {
     /// The room, to be closed.
     pub fn into_room(self) -> Room<D>
         ensures room { result ≡ self.room }
-        ensures run { ∥ HasRun D.state result self.ended ∥₁ }
+        ensures run { ∥ HasTaken D.state result (EndedAlong self.ended) ∥₁ }
     {
         self.room
     }

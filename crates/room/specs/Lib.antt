@@ -4,4 +4,5 @@ pub mod Ticks
 pub mod Usage
 pub mod Closing
 pub mod Room
+pub mod Runs
 pub mod Opening

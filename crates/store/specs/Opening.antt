@@ -8,7 +8,7 @@ use Rattle.base.specs.Images.{opening_fault}
 use Rattle.base.specs.Layout.{Layout}
 use Rattle.pmem.specs.Device.{Device}
 use Rattle.pmem.specs.Words.{image_of}
-use Rattle.database.specs.Closing.{HasLived, IsClosed, IsClosingRefused}
+use Rattle.database.specs.Closing.{ClosesRun, IsClosed, IsClosingRefused}
 use Rattle.pmem_file.specs.Devices.{failure_of, state_of}
 use Rattle.store.specs.Files.{FileDevice, HasLost, HasOtherThan, IsFoundWith, IsUnopened}
 use Rattle.store.specs.declared.error.StoreError.{StoreError}
@@ -31,11 +31,11 @@ IsOpeningError file layout _ = ⊥
 
 -- all that was covered and drawn since the opening of a device is covered on it
 abbrev pub IsCovered : Type 0
-IsCovered = (device : Device) × ∥ HasLived device (IsClosed device) ∥₁
+IsCovered = (device : Device) × ∥ ClosesRun device (IsClosed device) ∥₁
 
 -- the close of a device that was opened is refused so, and so its file has failed, where it has
 abbrev pub IsUnclosed : Option Error → Fault → Type 0
-IsUnclosed failure fault = (device : FileDevice) × (failure_of device ≡ failure) × ∥ HasLived (state_of device) (IsClosingRefused (state_of device) fault) ∥₁
+IsUnclosed failure fault = (device : FileDevice) × (failure_of device ≡ failure) × ∥ ClosesRun (state_of device) (IsClosingRefused (state_of device) fault) ∥₁
 
 -- The error names this file. A write or a sync of it failed for the cause, and the close of its device is refused; or all is covered, and the file's
 -- own close failed. Or no write or sync did, and this is why the close of its device is refused

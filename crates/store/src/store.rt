@@ -2,7 +2,7 @@ ghost use Rattle.std.specs.Prelude.{◌≡◌, ℕ, IfSome, IfNone};
 ghost use Rattle.std.specs.String.{string_bytes};
 ghost use Rattle.base.specs.declared.fault.Fault.TheVariants.{Damaged};
 ghost use Rattle.pmem_file.specs.Devices.{failure_of, state_of};
-ghost use Rattle.database.specs.Closing.{HasLived, IsClosingRefused};
+ghost use Rattle.database.specs.Closing.{ClosesRun, IsClosingRefused};
 ghost use Rattle.store.specs.Files.{IsUnopened, ReportsFault, ReportsLayout};
 ghost use Rattle.store.specs.declared.error.StoreError.{StoreError};
 ghost use Rattle.store.specs.Errors.{part_of};
@@ -112,7 +112,7 @@ impl<R: Wait + Drop> Store<R> {
     ghost use Rattle.std.specs.String.{string_bytes};
     ghost use Rattle.base.specs.Layout.{row_limit};
     ghost use Rattle.base.specs.declared.step.Step.TheVariants.{Begin};
-    ghost use Rattle.database.specs.Numbers.{ComesTo};
+    ghost use Rattle.room.specs.Runs.{ComesTo};
     ghost use Rattle.database.specs.Replies.{began_of};
     ghost use Rattle.store.specs.Answers.{Answers};
     ghost use Rattle.store.specs.Opening.{IsCovered, IsClosingError};
@@ -246,7 +246,7 @@ impl<R: Wait + Drop> Store<R> {
 
 // Why the file failed, where a write or a sync of it did; else why the close is refused, and then the file is closed.
 fn not_closed(name: String, device: Device, fault: Fault) -> StoreError
-    requires refused { ∥ HasLived (state_of device) (IsClosingRefused (state_of device) fault) ∥₁ }
+    requires refused { ∥ ClosesRun (state_of device) (IsClosingRefused (state_of device) fault) ∥₁ }
     ensures names { IsClosingError (string_bytes name) result }
     ensures lost { IfSome (failure_of device) (λ cause. result ≡ StoreError.Lost name cause) }
     ensures fault { IfNone (failure_of device) (result ≡ StoreError.NotClosed name fault) }

@@ -4,7 +4,7 @@ use Rattle.pmem.specs.Words.{LeavesOnly}
 use Rattle.room.specs.Closing.{IsClosingRefusal}
 use Rattle.room.specs.Room.{Shows, device_of}
 use Rattle.database.specs.Closing.{IsClosed, IsClosingRefused}
-use Rattle.database.proofs.Runs.{lived}
+use Rattle.database.proofs.Runs.{closes-run}
 use Rattle.database.proofs.closing.close_room.Goals as goal
 
 pub returns-in-Ok-clause-ok : goal.returns-in-Ok-clause-ok
@@ -12,11 +12,11 @@ returns-in-Ok-clause-ok g c q shows = c.in-Ok.ensures.ok q (subst (λ r. Shows g
 
 pub returns-in-Ok-clause-lived : goal.returns-in-Ok-clause-lived
 returns-in-Ok-clause-lived g c =
-    lived g.D.Pmem.state c.into_room.result (g.D.Pmem.state c.in-Ok.device) (IsClosed (g.D.Pmem.state c.in-Ok.device)) c.into_room.ensures.run c.in-Ok.ensures.images c.in-Ok.ensures.ok
+    closes-run g.D.Pmem.state c.into_room.result (g.D.Pmem.state c.in-Ok.device) (IsClosed (g.D.Pmem.state c.in-Ok.device)) c.into_room.ensures.run c.in-Ok.ensures.images c.in-Ok.ensures.ok
 
 pub returns-in-Err-clause-lived : goal.returns-in-Err-clause-lived
 returns-in-Err-clause-lived g c =
-    lived g.D.Pmem.state c.into_room.result (g.D.Pmem.state c.in-Err.device) (IsClosingRefused (g.D.Pmem.state c.in-Err.device) c.in-Err.fault) c.into_room.ensures.run c.in-Err.ensures.images
+    closes-run g.D.Pmem.state c.into_room.result (g.D.Pmem.state c.in-Err.device) (IsClosingRefused (g.D.Pmem.state c.in-Err.device) c.in-Err.fault) c.into_room.ensures.run c.in-Err.ensures.images
     (λ q shows. (device_of g.D.Pmem.state c.into_room.result, c.in-Err.ensures.fault q shows))
 
 pub returns-in-Ok-clause-images : goal.returns-in-Ok-clause-images

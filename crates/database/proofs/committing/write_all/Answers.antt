@@ -6,12 +6,12 @@ use Rattle.base.specs.declared.fault.Fault.{Fault}
 use Rattle.base.specs.declared.key.Key.{Key}
 use Rattle.database.specs.Obeys.{MakesWrite}
 use Rattle.database.specs.Committing.{LeadsByWrites}
-use Rattle.database.proofs.Runs.{leads-none}
+use Rattle.room.proofs.Runs.{leads-none}
 use Rattle.database.proofs.Reporting.{writes-more, writes-refused}
 use Rattle.database.proofs.committing.write_all.Goals as goal
 
 pub loop-one-init : goal.loop-one-init
-loop-one-init g c = record { made = ([], [], leads-none g.D.Pmem.state c.args.room.now.room (g.met.D.Pmem.orderly c.args.room.now.room.device), (refl, refl, refl)); ended = refl }
+loop-one-init g c = record { made = ([], leads-none g.D.Pmem.state c.args.room.now.room (g.met.D.Pmem.orderly c.args.room.now.room.device), (refl, refl)); ended = refl }
 
 pub loop-one-preserved : goal.loop-one-preserved
 loop-one-preserved g c =

@@ -1,4 +1,5 @@
-use Rattle.std.proofs.Common.{inr, sym, subst}
+use Rattle.std.proofs.Common.{inr, [], refl, sym, subst}
+use Rattle.room.proofs.Runs.{over-opened}
 use Rattle.database.specs.Opening.{IsFresh}
 use Rattle.database.proofs.database.Database.open.Goals as goal
 
@@ -7,16 +8,20 @@ returns-in-Err-open-clause-images g c history drawn next stands = inr (c.in-Err-
 
 pub new-requires-in-Ok-open : goal.new-requires-in-Ok-open
 new-requires-in-Ok-open g c = record {
-  opened = (
-    g.D.Pmem.state c.args.device,
-    record { at_rest = c.requires.at_rest; may_open = c.in-Ok-open.ensures.may_open; shows = c.in-Ok-open.ensures.ok; images = c.in-Ok-open.ensures.images },
-  );
+  opened = record {
+    opened = g.D.Pmem.state c.args.device;
+    taken = [];
+    run = over-opened g.D.Pmem.state c.in-Ok-open.room (g.D.Pmem.state c.args.device) c.requires.at_rest c.in-Ok-open.ensures.may_open c.in-Ok-open.ensures.ok c.in-Ok-open.ensures.images;
+    so = refl;
+  };
 }
 
 pub put_in-requires : goal.put_in-requires
 put_in-requires g c = record {
-  opened = subst (λ r. IsFresh g.D.Pmem.state r) (sym c.new-in-Ok-open.ensures.room) (
-    g.D.Pmem.state c.args.device,
-    record { at_rest = c.requires.at_rest; may_open = c.in-Ok-open.ensures.may_open; shows = c.in-Ok-open.ensures.ok; images = c.in-Ok-open.ensures.images },
-  );
+  opened = subst (λ r. IsFresh g.D.Pmem.state r) (sym c.new-in-Ok-open.ensures.room) (record {
+    opened = g.D.Pmem.state c.args.device;
+    taken = [];
+    run = over-opened g.D.Pmem.state c.in-Ok-open.room (g.D.Pmem.state c.args.device) c.requires.at_rest c.in-Ok-open.ensures.may_open c.in-Ok-open.ensures.ok c.in-Ok-open.ensures.images;
+    so = refl;
+  });
 }

@@ -2,7 +2,7 @@ use Rattle.std.proofs.Common.{inl, ◌≡◌, ◌∙◌, ◌≤◌, ap, sym, fal
 use Rattle.std.specs.Prelude.{is_some}
 use Rattle.database.specs.Obeys.{ended_of}
 use Rattle.room.specs.Room.{ShowsStatus}
-use Rattle.database.proofs.Numbers.{comes-weaken}
+use Rattle.room.proofs.Runs.{comes-weaken}
 use Rattle.database.proofs.Errors.{settled-ended, settled-exact}
 use Rattle.database.proofs.desk.Desk.is_settled.Goals as goal
 

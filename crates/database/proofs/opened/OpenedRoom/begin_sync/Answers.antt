@@ -1,5 +1,6 @@
-use Rattle.database.proofs.Runs.{run-same}
+use Rattle.room.proofs.Runs.{taken-same}
+use Rattle.database.specs.Ended.{EndedAlong}
 use Rattle.database.proofs.opened.OpenedRoom.begin_sync.Goals as goal
 
 pub invariant_of-self : goal.invariant_of-self
-invariant_of-self g c = record { run = run-same g.D.Pmem.state c.args.self.now.room c.begin_sync.new.self c.begin_sync.ensures.device c.begin_sync.ensures.shows c.args.self.now.run }
+invariant_of-self g c = record { run = taken-same g.D.Pmem.state c.args.self.now.room c.begin_sync.new.self (EndedAlong c.args.self.now.ended) c.begin_sync.ensures.device c.begin_sync.ensures.shows c.args.self.now.run }

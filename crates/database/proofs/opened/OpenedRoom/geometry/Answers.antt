@@ -1,5 +1,5 @@
 use Rattle.std.proofs.Common.{◌≡◌}
-use Rattle.database.proofs.Numbers.{comes-to}
+use Rattle.room.proofs.Runs.{comes-to}
 use Rattle.database.proofs.opened.OpenedRoom.geometry.Goals as goal
 
 pub returns-clause-comes : goal.returns-clause-comes

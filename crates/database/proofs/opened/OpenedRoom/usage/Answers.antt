@@ -1,5 +1,5 @@
 use Rattle.room.specs.Usage.{ShowsUsage}
-use Rattle.database.proofs.Numbers.{comes-to}
+use Rattle.room.proofs.Runs.{comes-to}
 use Rattle.database.proofs.opened.OpenedRoom.usage.Goals as goal
 
 pub returns : goal.returns

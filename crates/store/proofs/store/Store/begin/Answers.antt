@@ -1,6 +1,6 @@
 use Rattle.std.proofs.Common.{◌≡◌, ◌∙◌, ap}
 use Rattle.base.specs.Layout.{Layout, row_limit}
-use Rattle.database.proofs.Numbers.{comes-weaken}
+use Rattle.room.proofs.Runs.{comes-weaken}
 use Rattle.store.proofs.store.Store.begin.Goals as goal
 
 pub returns-clause-limit : goal.returns-clause-limit

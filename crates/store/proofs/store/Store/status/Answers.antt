@@ -1,7 +1,7 @@
 use Rattle.std.proofs.Common.{◌≡◌}
 use Rattle.room.specs.Room.{ShowsStatus}
 use Rattle.room.specs.Usage.{ShowsUsage}
-use Rattle.database.proofs.Numbers.{comes-weaken}
+use Rattle.room.proofs.Runs.{comes-weaken}
 use Rattle.store.specs.Status.{ShowsLayout, ShowsNumbers, ShowsFill}
 use Rattle.store.proofs.store.Store.status.Goals as goal
 
