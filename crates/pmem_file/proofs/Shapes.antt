@@ -2,7 +2,7 @@
 use Rattle.std.proofs.Common.{◌≡◌, ◌≢◌, ◌⊎◌, inl, inr, ℕ, ◌+◌, ◌-◌, ◌^◌, ◌<◌, ◌≤◌, true, List, Option, Result, Ok, Err, None, Some, IfOk, IfNone, IfSome, IsTrue, OnSome, length, take, drop, replicate, get_or, refl, sym, ◌∙◌, ap, subst, arith}
 use Rattle.std.proofs.lemmas.Bool.{and_parts, eqb-true}
 use Rattle.std.proofs.lemmas.List.{append-nil, length-drop, length-take, length-replicate, get_or-drop, get_or-take, get_or-replicate, get_or_append_left, get_or-append_right, take_all}
-use Rattle.std.specs.Option.{unwrap_or}
+use Rattle.std.specs.Option.{option_or}
 use Rattle.std.specs.declared.io.Error.{Error}
 use Rattle.base.specs.Images.{layout_of, has_good_geometry}
 use Rattle.base.specs.Layout.{Layout, is_in_limits, slot_start, total_words}
@@ -20,9 +20,9 @@ zero-magic e = omega (arith, e)
 good-length : (image : List ℕ) → has_good_geometry image ≡ true → length image ≡ total_words (layout_of image)
 good-length image good = grind (arith, and_parts, eqb-true)
 
-image-length : (asked a : Layout) (words : List ℕ) → IsImageOf asked a words → length words ≡ total_words a
+image-length : (asked : Option Layout) (a : Layout) (words : List ℕ) → IsImageOf asked a words → length words ≡ total_words a
 image-length asked a words (inl laid) = good-length words laid.geometry ∙ ap total_words laid.laid_out
-image-length asked a words (inr (is, blank)) = blank.size ∙ ap total_words (sym is)
+image-length asked a words (inr (is, blank)) = blank.size
 
 -- ---- what padded words stand for
 
@@ -39,11 +39,11 @@ past : (shape : Shape) (words : List ℕ) (word : ℕ) → length words ≤ word
 past shape words word le lt = grind (arith, get_or-append_right, get_or-replicate)
 
 -- an image alone
-pub alone : (asked a : Layout) (words : List ℕ) (shape : Shape) → IsImageOf asked a words → IsMadeFor a shape → HasShape asked words shape
+pub alone : (asked : Option Layout) (a : Layout) (words : List ℕ) (shape : Shape) → IsImageOf asked a words → IsMadeFor a shape → HasShape asked words shape
 alone asked a words shape is made = grind (arith, image-length, off, get_or_append_left, past)
 
 -- nothing at all
-pub nothing : (asked : Layout) (words : List ℕ) (shape : Shape) → length words ≡ 0 → IsMadeFor asked shape → HasShape asked words shape
+pub nothing : (asked : Layout) (words : List ℕ) (shape : Shape) → length words ≡ 0 → IsMadeFor asked shape → HasShape (Some asked) words shape
 nothing asked words shape none made =
     let image : List ℕ = replicate shape.words 0 in
     let zero-at : (word : ℕ) → word < shape.words → get_or image word 0 ≡ 0 = λ word lt. get_or-replicate shape.words word 0 0 lt in
@@ -70,12 +70,12 @@ nothing asked words shape none made =
     }
 
 -- an image with a journal
-pub journaled : (asked a : Layout) (words image : List ℕ) (shape : Shape) → whole shape < 2 ^ 58 → length words ≡ whole shape → Opens shape.words shape.room words image
+pub journaled : (asked : Option Layout) (a : Layout) (words image : List ℕ) (shape : Shape) → whole shape < 2 ^ 58 → length words ≡ whole shape → Opens shape.words shape.room words image
     → IsImageOf asked a image → shape.places ≡ a.places → HasShape asked words shape
 journaled asked a words image shape fits size opens is places_are = grind (arith, exact)
 
 -- an image behind which nothing counts yet
-pub growing : (asked a : Layout) (words image : List ℕ) (shape : Shape) → whole shape < 2 ^ 58 → length words ≡ whole shape → length image ≡ shape.words
+pub growing : (asked : Option Layout) (a : Layout) (words image : List ℕ) (shape : Shape) → whole shape < 2 ^ 58 → length words ≡ whole shape → length image ≡ shape.words
     → ((word : ℕ) → word < shape.words → get_or words word 0 ≡ get_or image word 0) → get_or words (shape.words + shape.room) 0 ≡ 0
     → IsImageOf asked a image → shape.places ≡ a.places → HasShape asked words shape
 growing asked a words image shape fits size length_is place none is places_are =
@@ -125,7 +125,7 @@ of-two size room size' room' sum some (inr a) (inl b) = (a, omega (arith, sum, a
 of-two size room size' room' sum some (inr a) (inr b) = (a, b)
 
 -- where a file that was being made longer ends with a tail already, it is that of its shape
-growing-tail : (asked : Layout) (words : List ℕ) (size room : ℕ) → IsFile size room (length words) → HasTail size room words → (g : IsGrowing asked words) → (size ≡ total_words g.layout) × (room ≡ g.room)
+growing-tail : (asked : Option Layout) (words : List ℕ) (size room : ℕ) → IsFile size room (length words) → HasTail size room words → (g : IsGrowing asked words) → (size ≡ total_words g.layout) × (room ≡ g.room)
 growing-tail asked words size room file tail g =
     let end : size + room ≡ total_words g.layout + g.room = omega (arith, file.size, g.size) in
     let eight : length (drop g.room (drop (total_words g.layout) words)) ≡ 8 = grind (arith, length-drop, g.size) in
@@ -143,7 +143,7 @@ made-entry : (words room : ℕ) → (room ≡ room_made words) ⊎ (room ≡ roo
 made-entry words room (inl now) = grind (arith, now)
 made-entry words room (inr older) = grind (arith, older)
 
-pub no-ours-tail : (asked : Layout) (words : List ℕ) (size room : ℕ) → ((own : Layout) → ¬ IsImageOf asked own words) → IsFile size room (length words) → HasTail size room words
+pub no-ours-tail : (asked : Option Layout) (words : List ℕ) (size room : ℕ) → ((own : Layout) → ¬ IsImageOf asked own words) → IsFile size room (length words) → HasTail size room words
     → ((image : List ℕ) (own : Layout) → least_room size ≤ room → Opens size room words image → ¬ IsImageOf asked own image) → ¬ IsOurs asked words
 no-ours-tail asked words size room whole_not file tail none ours = elim ours [
   | inl one ↦ whole_not one.0 one.1
@@ -164,7 +164,7 @@ no-ours-tail asked words size room whole_not file tail none ours = elim ours [
         opens-off T g.room words (take T words) (grind (arith, length-take, g.size)) (λ word lt. sym (get_or-take T words word 0 lt))
         (lines-off T g.room words (λ e. zero-magic (sym (sym (tail-word words T g.room 0) ∙ g.behind.tail.first) ∙ ap (λ (n : ℕ). get_or words n 0) (omega arith) ∙ e)))
 
-pub no-ours : (asked : Layout) (words : List ℕ) → ((own : Layout) → ¬ IsImageOf asked own words) → ((size room : ℕ) → IsFile size room (length words) → HasTail size room words → ⊥) → ¬ IsGrowing asked words
+pub no-ours : (asked : Option Layout) (words : List ℕ) → ((own : Layout) → ¬ IsImageOf asked own words) → ((size room : ℕ) → IsFile size room (length words) → HasTail size room words → ⊥) → ¬ IsGrowing asked words
     → ¬ IsOurs asked words
 no-ours asked words whole_not untailed growing (inl (own, is)) = whole_not own is
 no-ours asked words whole_not untailed growing (inr (inl j)) = untailed j.size j.room j.is_file j.tail
@@ -179,10 +179,10 @@ growing-limits a words le laid =
     (omega (arith, le), subst (λ (l : Layout). is_in_limits l ≡ true) (head-layout (total_words a) words (omega arith)) (grind (arith, and_parts, laid.geometry)))
 
 -- no shape is found that these words, with this journal, have
-abbrev NoneOf : Layout → List ℕ → ℕ → ℕ → Type 0
+abbrev NoneOf : Option Layout → List ℕ → ℕ → ℕ → Type 0
 NoneOf asked words size room = (own : Layout) → length words ≡ size + room + 8 → IsNothingBehind size room (drop size words) → ¬ IsImageOf asked own (take size words)
 
-pub no-growing : (asked own : Layout) (words : List ℕ) (new older : Shape) → ((g : IsGrowing asked words) → own ≡ g.layout) → IsMadeFor own new → new.room ≡ room_made new.words → IsMadeFor own older
+pub no-growing : (asked : Option Layout) (own : Layout) (words : List ℕ) (new older : Shape) → ((g : IsGrowing asked words) → own ≡ g.layout) → IsMadeFor own new → new.room ≡ room_made new.words → IsMadeFor own older
     → older.room ≡ room_older older.words → NoneOf asked words new.words new.room → NoneOf asked words older.words older.room → ¬ IsGrowing asked words
 no-growing asked own words new older is made room made' room' none none' g =
     let size : total_words own ≡ total_words g.layout = ap total_words (is g) in
@@ -226,12 +226,12 @@ ungrown words own new older is made room made' room' none none' size g =
     )
 
 -- the layout for which a shape is looked for is that of the image
-pub own-of : (asked : Layout) (found : Option Layout) (words : List ℕ) → IfSome found (λ own. own ≡ layout_of words) → OnSome found (IsTrue (is_in_limits (layout_of words)))
-    → IfNone found (5 ≤ length words → ¬ IsTrue (is_in_limits (layout_of words))) → (g : IsGrowing asked words) → unwrap_or found asked ≡ g.layout
-own-of asked (Some own) words some limits none g = some ∙ g.named limits
+pub own-of : (asked found : Option Layout) (words : List ℕ) → IfSome found (λ own. own ≡ layout_of words) → OnSome found (IsTrue (is_in_limits (layout_of words)))
+    → IfNone found (5 ≤ length words → ¬ IsTrue (is_in_limits (layout_of words))) → (g : IsGrowing asked words) → option_or found asked ≡ Some g.layout
+own-of asked (Some own) words some limits none g = ap Some (some ∙ g.named limits)
 own-of asked None words some limits none g = elim g.image_is [
   | inl laid ↦ (let named = growing-limits g.layout words (omega (arith, g.size)) laid in absurd (none named.0 named.1))
-  | inr one ↦ sym one.0
+  | inr one ↦ one.0
 ]
 
 pub none-of : {P Q : Type 0} (found : Result (Option Shape) Error) → (P → Q) → IfOk found (λ o. IfNone o P) → IfOk found (λ o. IfNone o Q)
@@ -239,8 +239,15 @@ none-of (Ok (Some shape)) to none = tt
 none-of (Ok None) to none = to none
 none-of (Err error) to none = tt
 
+-- no words are those of a file of ours only where a layout is asked for
+pub no-ours-empty : (asked : Option Layout) (words : List ℕ) → asked ≡ None → length words ≡ 0 → ¬ IsOurs asked words
+no-ours-empty asked words is none (inl (own, inl laid)) = omega (arith, none, good-length words laid.geometry)
+no-ours-empty asked words is none (inl (own, inr (same, blank))) = absurd (cc (sym is ∙ same))
+no-ours-empty asked words is none (inr (inl j)) = omega (arith, none, j.is_file.size)
+no-ours-empty asked words is none (inr (inr g)) = omega (arith, none, g.size)
+
 -- ---- a device that begins with such words
 
-pub begun : (asked : Layout) (words : List ℕ) (shape : Shape) (image : List ℕ) (places : ℕ) → HasShape asked words shape → Opens shape.words shape.room (padded shape words) image → places ≡ shape.places
+pub begun : (asked : Option Layout) (words : List ℕ) (shape : Shape) (image : List ℕ) (places : ℕ) → HasShape asked words shape → Opens shape.words shape.room (padded shape words) image → places ≡ shape.places
     → HasItsPlaces asked image places
 begun asked words shape image places has opens is = grind (arith, opens-one shape.words shape.room (padded shape words) has.image image has.opens opens)

@@ -1,5 +1,5 @@
 -- What the words of a file hold that is opened as a device.
-use Rattle.std.specs.Prelude.{◌≡◌, ◌⊎◌, ℕ, ◌+◌, ◌-◌, ◌*◌, ◌/◌, ◌<◌, ◌≤◌, ◌^◌, List, ◌++◌, drop, length, max, min, replicate, slice_index, take, true, IsTrue}
+use Rattle.std.specs.Prelude.{◌≡◌, ◌⊎◌, ℕ, ◌+◌, ◌-◌, ◌*◌, ◌/◌, ◌<◌, ◌≤◌, ◌^◌, List, ◌++◌, drop, length, max, min, replicate, slice_index, take, true, IsTrue, Option, Some}
 use Rattle.std.specs.IoError.{error_kind}
 use Rattle.std.specs.declared.io.ErrorKind.TheVariants.{OutOfMemory}
 use Rattle.base.specs.Images.{layout_of}
@@ -16,12 +16,12 @@ pub record IsBlank (a : Layout) (words : List ℕ) : Type 0 where
   pub first : slice_index words 0 ≡ 0
   pub slots : (word : ℕ) → slot_start a 0 ≤ word → word < total_words a → slice_index words word ≡ 0
 
--- the words are an image of this layout; where nothing was ever kept in them, of the one that is asked for
-abbrev pub IsImageOf : Layout → Layout → List ℕ → Type 0
-IsImageOf asked a words = IsLaidOut a words ⊎ ((a ≡ asked) × IsBlank asked words)
+-- the words are an image of this layout; where nothing was ever kept in them, of the one that is asked for, if one is
+abbrev pub IsImageOf : Option Layout → Layout → List ℕ → Type 0
+IsImageOf asked a words = IsLaidOut a words ⊎ ((asked ≡ Some a) × IsBlank a words)
 
 -- the words are such an image, and so many places for records are those of its layout
-pub record HasItsPlaces (asked : Layout) (words : List ℕ) (places : ℕ) : Type 0 where
+pub record HasItsPlaces (asked : Option Layout) (words : List ℕ) (places : ℕ) : Type 0 where
   pub layout : Layout
   pub image : IsImageOf asked layout words
   pub places_are : places ≡ layout.places
@@ -35,7 +35,7 @@ abbrev pub padded : Shape → List ℕ → List ℕ
 padded shape words = words ++ replicate (whole shape - length words) 0
 
 -- the words have this shape: padded, they stand for an image of a layout with its places
-pub record HasShape (asked : Layout) (words : List ℕ) (shape : Shape) : Type 0 where
+pub record HasShape (asked : Option Layout) (words : List ℕ) (shape : Shape) : Type 0 where
   pub fits : whole shape < 2 ^ 58
   pub within : length words ≤ whole shape
   pub image : List ℕ
@@ -75,7 +75,7 @@ abbrev pub room_older : ℕ → ℕ
 room_older words = max (least_room words) 131072
 
 -- an image with a journal behind it, which has room for an entry of all lines
-pub record IsJournaled (asked : Layout) (words : List ℕ) : Type 0 where
+pub record IsJournaled (asked : Option Layout) (words : List ℕ) : Type 0 where
   pub size : ℕ
   pub room : ℕ
   pub layout : Layout
@@ -87,7 +87,7 @@ pub record IsJournaled (asked : Layout) (words : List ℕ) : Type 0 where
   pub image_is : IsImageOf asked layout image
 
 -- an image behind which a journal was being made: nothing counts there yet, and no other layout is named
-pub record IsGrowing (asked : Layout) (words : List ℕ) : Type 0 where
+pub record IsGrowing (asked : Option Layout) (words : List ℕ) : Type 0 where
   pub layout : Layout
   pub room : ℕ
   pub made : (room ≡ room_made (total_words layout)) ⊎ (room ≡ room_older (total_words layout))
@@ -107,7 +107,7 @@ pub record IsGrown (size : ℕ) (words : List ℕ) : Type 0 where
   pub behind : IsNothingBehind size room (drop size words)
 
 -- one of these, or an image alone, as a close leaves it
-abbrev pub IsOurs : Layout → List ℕ → Type 0
+abbrev pub IsOurs : Option Layout → List ℕ → Type 0
 IsOurs asked words = ((layout : Layout) × IsImageOf asked layout words) ⊎ (IsJournaled asked words ⊎ IsGrowing asked words)
 
 -- what is reported where memory is refused

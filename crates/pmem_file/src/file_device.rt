@@ -1,4 +1,4 @@
-ghost use Rattle.std.specs.Prelude.{◌≡◌, ◌≤◌, ◌<◌, ◌^◌, length, None, IfOk};
+ghost use Rattle.std.specs.Prelude.{◌≡◌, ◌≤◌, ◌<◌, ◌^◌, length, None, Some, IfOk};
 ghost use Rattle.journal.specs.Files.{Opens};
 ghost use Rattle.pmem.specs.Device.{restarted};
 ghost use Rattle.pmem.specs.Words.{IsAtRest, image_of};
@@ -28,7 +28,6 @@ impl JournaledPmem<JournaledImages<FileStorage>> {
     /// its word 0 is 0 then, as that of a new one. It gets a journal behind it, where none is there; one that is there is
     /// read, whatever stopped who wrote it. To any other file nothing is written. What the file holds is written back and
     /// synced before it is taken for persistent: a process that was killed may have left words that no disk has yet.
-    #[tactic(auto, using(crate::proofs::Shapes::begun))]
     pub fn open<R: Files<File = File>>(
         rt: &R,
         alloc: Global,
@@ -38,21 +37,24 @@ impl JournaledPmem<JournaledImages<FileStorage>> {
         ensures rest { IfOk result (λ device. IsAtRest (state_of device)) }
         ensures device { IfOk result (λ device. state_of device ≡ restarted (image_of (state_of device))) }
         ensures works { IfOk result (λ device. failure_of device ≡ None) }
-        ensures layout { IfOk result (λ device. HasItsPlaces geometry (image_of (state_of device)) (places_of device)) }
+        ensures layout { IfOk result (λ device. HasItsPlaces (Some geometry) (image_of (state_of device)) (places_of device)) }
     {
-        let held = hold_standard_streams(rt, alloc)?;
-        let (file, is_made) = open_alone(rt, name)?;
-        let found = Found::read(alloc, &file)?;
-        let shape = found.shape(alloc, geometry)?;
-        let is_new = found.is_empty();
-        if is_new {
-            sync_new_folder(rt, alloc, name, is_made)?;
-        }
-        let device = open_found(alloc, file, held, found, shape)?;
-        if !is_new {
-            sync_known_folder(rt, alloc, name)?;
-        }
-        Ok(device)
+        open_as(rt, alloc, name, Some(geometry))
+    }
+
+    /// Opens the file as [`FileDevice::open`] does, if an image is in it, of whatever geometry. No file is made: a missing or
+    /// an empty one is `Missing`. One whose format was cut short is refused as any that is no image.
+    pub fn open_existing<R: Files<File = File>>(
+        rt: &R,
+        alloc: Global,
+        name: &str,
+    ) -> Result<FileDevice, OpenError>
+        ensures rest { IfOk result (λ device. IsAtRest (state_of device)) }
+        ensures device { IfOk result (λ device. state_of device ≡ restarted (image_of (state_of device))) }
+        ensures works { IfOk result (λ device. failure_of device ≡ None) }
+        ensures layout { IfOk result (λ device. HasItsPlaces None (image_of (state_of device)) (places_of device)) }
+    {
+        open_as(rt, alloc, name, None)
     }
 
     /// Closes the file: it holds the image alone, without a journal. Fails where an image wasn't kept, and where a write
@@ -65,6 +67,34 @@ impl JournaledPmem<JournaledImages<FileStorage>> {
             Err(unclosed) => Err(unclosed.error),
         }
     }
+}
+
+// Opens the file. Where it is empty or missing it gets the words of a new image of the geometry that is asked for, if one is.
+#[tactic(auto, using(crate::proofs::Shapes::begun))]
+fn open_as<R: Files<File = File>>(
+    rt: &R,
+    alloc: Global,
+    name: &str,
+    asked: Option<Geometry>,
+) -> Result<FileDevice, OpenError>
+    ensures rest { IfOk result (λ device. IsAtRest (state_of device)) }
+    ensures device { IfOk result (λ device. state_of device ≡ restarted (image_of (state_of device))) }
+    ensures works { IfOk result (λ device. failure_of device ≡ None) }
+    ensures layout { IfOk result (λ device. HasItsPlaces asked (image_of (state_of device)) (places_of device)) }
+{
+    let held = hold_standard_streams(rt, alloc)?;
+    let (file, is_made) = open_alone(rt, name, asked.is_some())?;
+    let found = Found::read(alloc, &file)?;
+    let shape = found.shape(alloc, &asked)?;
+    let is_new = found.is_empty();
+    if is_new {
+        sync_new_folder(rt, alloc, name, is_made)?;
+    }
+    let device = open_found(alloc, file, held, found, shape)?;
+    if !is_new {
+        sync_known_folder(rt, alloc, name)?;
+    }
+    Ok(device)
 }
 
 // Makes the file as long as its shape, and opens it.

@@ -11,6 +11,8 @@ use thiserror::Error;
 /// Why a file isn't opened as a device. But at `Io` nothing was written to it.
 #[derive(Debug, Drop, Error)]
 pub enum OpenError {
+    #[error("no such file, or an empty one")]
+    Missing,
     #[error("another process has the file open")]
     Busy,
     #[error("another process has just replaced the file: open it again")]
@@ -55,19 +57,13 @@ fn is_standard(file: &File) -> bool {
     file.as_raw_fd() <= 2
 }
 
-// Opens the file, which is made where it is missing, and locks it. Whether it was made.
+// Opens the file and locks it. Where it is missing, it is made if it may be. Whether it was made.
 pub(crate) fn open_alone<R: Files<File = File>>(
     rt: &R,
     name: &str,
+    may_make: bool,
 ) -> Result<(File, bool), OpenError> {
-    let mut options = OpenOptions::new();
-    options.read(true).write(true);
-    let (file, is_made) = match options.open(rt, name) {
-        Err(error) if error.kind() == ErrorKind::NotFound => {
-            (options.create(true).open(rt, name)?, true)
-        }
-        opened => (opened?, false),
-    };
+    let (file, is_made) = open_named(rt, name, may_make)?;
     if is_standard(&file) {
         return Err(OpenError::StandardStream);
     }
@@ -81,6 +77,24 @@ pub(crate) fn open_alone<R: Files<File = File>>(
         return Err(OpenError::Replaced);
     }
     Ok((file, is_made))
+}
+
+fn open_named<R: Files<File = File>>(
+    rt: &R,
+    name: &str,
+    may_make: bool,
+) -> Result<(File, bool), OpenError> {
+    let mut options = OpenOptions::new();
+    options.read(true).write(true);
+    match options.open(rt, name) {
+        Err(error) if error.kind() == ErrorKind::NotFound => {
+            if !may_make {
+                return Err(OpenError::Missing);
+            }
+            Ok((options.create(true).open(rt, name)?, true))
+        }
+        opened => Ok((opened?, false)),
+    }
 }
 
 fn lock(file: &File) -> Result<(), OpenError> {

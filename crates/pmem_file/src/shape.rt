@@ -1,11 +1,12 @@
-ghost use Rattle.std.specs.Prelude.{◌≡◌, ◌↔◌, ◌+◌, ◌*◌, ◌/◌, ◌<◌, ◌≤◌, ◌^◌, ℕ, List, drop, length, slice_index, take, IfErr, IfNone, IfOk, IfSome, IsTrue, None, OnSome, Some};
+ghost use Rattle.std.specs.Prelude.{◌≡◌, ◌↔◌, ◌+◌, ◌*◌, ◌/◌, ◌<◌, ◌≤◌, ◌^◌, ℕ, List, drop, length, slice_index, take, Err, IfErr, IfNone, IfOk, IfSome, IsOk, IsTrue, None, OnSome, Some};
 ghost use Rattle.std.specs.IoError.{error_kind};
 ghost use Rattle.std.specs.declared.io.ErrorKind.TheVariants.{OutOfMemory};
 ghost use Rattle.base.specs.Layout.{Layout, is_in_limits};
 ghost use Rattle.base.specs.Images.{layout_of};
 ghost use Rattle.journal.specs.Files.{HasTail, IsFile, Opens};
 ghost use Rattle.log_area.specs.Rulings.{IsLaidOut, layout_damage};
-ghost use Rattle.pmem_file.specs.Shapes.{HasShape, IsBlank, IsFirstTail, IsGrowing, IsGrown, IsImageOf, IsNothingBehind, IsOurs, least_room, room_made, whole};
+ghost use Rattle.pmem_file.specs.declared.opening.OpenError.{OpenError};
+ghost use Rattle.pmem_file.specs.Shapes.{HasShape, IsBlank, IsFirstTail, IsForMemory, IsGrowing, IsGrown, IsImageOf, IsNothingBehind, IsOurs, least_room, room_made, whole};
 
 use crate::journaled::JournaledPmem;
 use crate::opening::OpenError;
@@ -106,7 +107,8 @@ pub(crate) struct Found {
 }
 
 impl Found {
-    ghost use Rattle.std.specs.Prelude.{◌≡◌, ◌↔◌, ◌*◌, ◌<◌, ◌≤◌, ◌^◌, length, IfErr, IfOk, IsOk, IsTrue};
+    ghost use Rattle.std.specs.Prelude.{◌≡◌, ◌↔◌, ◌*◌, ◌<◌, ◌≤◌, ◌^◌, length, Err, IfErr, IfNone, IfOk, IsOk, IsTrue, OnSome};
+    ghost use Rattle.pmem_file.specs.declared.opening.OpenError.{OpenError};
     ghost use Rattle.pmem_file.specs.Shapes.{HasShape, IsForMemory, IsOurs, padded, whole};
 
     pub(crate) fn read(alloc: Global, file: &File) -> io::Result<Found> {
@@ -142,20 +144,20 @@ impl Found {
         Ok(words)
     }
 
-    /// What the file holds. A file that is empty, or in which nothing was ever kept, is one of this geometry. Any file is
-    /// refused that is no image of ours, or has more or less than one.
-    #[tactic(auto, using(crate::proofs::Shapes::nothing))]
-    pub(crate) fn shape(&self, alloc: Global, geometry: Geometry) -> Result<Shape, OpenError>
-        ensures ok { IfOk result (HasShape geometry self.now.words.items) }
-        ensures empty { self.now.length ≡ 0 → length self.now.words.items ≡ 0 → IsOk result }
-        ensures ours { self.now.length ≡ 8 * length self.now.words.items → length self.now.words.items < 2 ^ 61 → IsOurs geometry self.now.words.items → IfErr result IsForMemory }
+    /// What the file holds. A file that is empty, or in which nothing was ever kept, is one of the geometry that is asked for; with
+    /// none asked for, an empty one is missing. Any file is refused that is no image of ours, or has more or less than one.
+    pub(crate) fn shape(&self, alloc: Global, asked: &Option<Geometry>) -> Result<Shape, OpenError>
+        ensures ok { IfOk result (HasShape asked.now self.now.words.items) }
+        ensures empty { self.now.length ≡ 0 → length self.now.words.items ≡ 0 → OnSome asked.now (IsOk result) }
+        ensures missing { self.now.length ≡ 0 → length self.now.words.items ≡ 0 → IfNone asked.now (result ≡ Err OpenError.Missing) }
+        ensures ours { self.now.length ≡ 8 * length self.now.words.items → length self.now.words.items < 2 ^ 61 → IsOurs asked.now self.now.words.items → IfErr result IsForMemory }
     {
         if self.is_empty() {
-            return Ok(Shape::new(geometry));
+            return new_shape(asked, self.words.as_slice());
         }
         let file = self.words.as_slice();
         if self.length == bytes_of(file.len()) {
-            match shape_in(alloc, file, geometry) {
+            match shape_in(alloc, file, asked) {
                 Ok(Some(shape)) => return Ok(shape),
                 Ok(None) => {}
                 Err(error) => return Err(OpenError::Io(error)),
@@ -218,6 +220,21 @@ impl Found {
     }
 }
 
+// Of a file without words.
+#[tactic(auto, using(crate::proofs::Shapes::nothing))]
+fn new_shape(asked: &Option<Geometry>, file: &[u64]) -> Result<Shape, OpenError>
+    requires { length file.now ≡ 0 }
+    ensures ok { IfOk result (HasShape asked.now file.now) }
+    ensures empty { OnSome asked.now (IsOk result) }
+    ensures missing { IfNone asked.now (result ≡ Err OpenError.Missing) }
+    ensures ours { IsOurs asked.now file.now → IfErr result IsForMemory }
+{
+    match asked {
+        Some(geometry) => Ok(Shape::new(*geometry)),
+        None => Err(OpenError::Missing),
+    }
+}
+
 // Whether an entry of some lines begins behind so many words of an image: how many payloads it has, and the bit of its pass.
 fn begins_entry(file: &[u64], words: usize) -> bool {
     match file.get(words) {
@@ -228,16 +245,16 @@ fn begins_entry(file: &[u64], words: usize) -> bool {
 
 // What the file of these words holds, if it is one of ours: an image alone, as a close leaves it, one with a journal, or one
 // that was being made longer.
-fn shape_in(alloc: Global, file: &[u64], geometry: Geometry) -> io::Result<Option<Shape>>
-    ensures some { IfOk result (λ found. IfSome found (HasShape geometry file.now)) }
-    ensures none { IfOk result (λ found. IfNone found (¬ IsOurs geometry file.now)) }
+fn shape_in(alloc: Global, file: &[u64], asked: &Option<Geometry>) -> io::Result<Option<Shape>>
+    ensures some { IfOk result (λ found. IfSome found (HasShape asked.now file.now)) }
+    ensures none { IfOk result (λ found. IfNone found (¬ IsOurs asked.now file.now)) }
     ensures memory { IfErr result (λ error. error_kind error ≡ OutOfMemory) }
 {
-    match layout_of(alloc, file, geometry)? {
+    match layout_of(alloc, file, asked)? {
         Some(own) => Ok(Some(Shape::new(own))),
         None => match extent_of(file) {
-            Some((words, room)) => journaled_shape(alloc, file, words, room, geometry),
-            None => growing_shape(alloc, file, geometry),
+            Some((words, room)) => journaled_shape(alloc, file, words, room, asked),
+            None => growing_shape(alloc, file, asked),
         },
     }
 }
@@ -249,19 +266,19 @@ fn journaled_shape(
     file: &[u64],
     words: usize,
     room: usize,
-    geometry: Geometry,
+    asked: &Option<Geometry>,
 ) -> io::Result<Option<Shape>>
     requires file { IsFile words room (length file.now) }
     requires tail { HasTail words room file.now }
-    ensures some { IfOk result (λ found. IfSome found (HasShape geometry file.now)) }
-    ensures none { IfOk result (λ found. IfNone found ((image : List ℕ) (own : Layout) → least_room words ≤ room → Opens words room file.now image → ¬ IsImageOf geometry own image)) }
+    ensures some { IfOk result (λ found. IfSome found (HasShape asked.now file.now)) }
+    ensures none { IfOk result (λ found. IfNone found ((image : List ℕ) (own : Layout) → least_room words ≤ room → Opens words room file.now image → ¬ IsImageOf asked.now own image)) }
     ensures memory { IfErr result (λ error. error_kind error ≡ OutOfMemory) }
 {
     if room < least_room(words) {
         return Ok(None);
     }
     let image = image_in(alloc, file, words, room)?;
-    match layout_of(alloc, image.as_slice(), geometry)? {
+    match layout_of(alloc, image.as_slice(), asked)? {
         Some(own) => Ok(Some(Shape {
             words,
             room,
@@ -272,15 +289,17 @@ fn journaled_shape(
 }
 
 // The shape of a file that was being made longer, by a program of now or an older one.
-fn growing_shape(alloc: Global, file: &[u64], geometry: Geometry) -> io::Result<Option<Shape>>
-    ensures some { IfOk result (λ found. IfSome found (HasShape geometry file.now)) }
-    ensures none { IfOk result (λ found. IfNone found (¬ IsGrowing geometry file.now)) }
+fn growing_shape(alloc: Global, file: &[u64], asked: &Option<Geometry>) -> io::Result<Option<Shape>>
+    ensures some { IfOk result (λ found. IfSome found (HasShape asked.now file.now)) }
+    ensures none { IfOk result (λ found. IfNone found (¬ IsGrowing asked.now file.now)) }
     ensures memory { IfErr result (λ error. error_kind error ≡ OutOfMemory) }
 {
-    let own = own_geometry(file).unwrap_or(geometry);
-    match grown_shape(alloc, file, geometry, Shape::new(own))? {
+    let Some(own) = own_geometry(file).or(*asked) else {
+        return Ok(None);
+    };
+    match grown_shape(alloc, file, asked, Shape::new(own))? {
         Some(shape) => Ok(Some(shape)),
-        None => grown_shape(alloc, file, geometry, Shape::older(own)),
+        None => grown_shape(alloc, file, asked, Shape::older(own)),
     }
 }
 
@@ -316,18 +335,18 @@ fn is_grown(file: &[u64], shape: Shape) -> bool
 fn grown_shape(
     alloc: Global,
     file: &[u64],
-    geometry: Geometry,
+    asked: &Option<Geometry>,
     shape: Shape,
 ) -> io::Result<Option<Shape>>
     requires { whole shape < 2 ^ 58 }
-    ensures some { IfOk result (λ found. IfSome found (HasShape geometry file.now)) }
-    ensures none { IfOk result (λ found. IfNone found ((own : Layout) → length file.now ≡ whole shape → IsNothingBehind shape.words shape.room (drop shape.words file.now) → ¬ IsImageOf geometry own (take shape.words file.now))) }
+    ensures some { IfOk result (λ found. IfSome found (HasShape asked.now file.now)) }
+    ensures none { IfOk result (λ found. IfNone found ((own : Layout) → length file.now ≡ whole shape → IsNothingBehind shape.words shape.room (drop shape.words file.now) → ¬ IsImageOf asked.now own (take shape.words file.now))) }
     ensures memory { IfErr result (λ error. error_kind error ≡ OutOfMemory) }
 {
     if !is_grown(file, shape) {
         return Ok(None);
     }
-    match layout_of(alloc, &file[..shape.words], geometry)? {
+    match layout_of(alloc, &file[..shape.words], asked)? {
         Some(own) => Ok(Some(Shape {
             words: shape.words,
             room: shape.room,
@@ -366,17 +385,28 @@ fn is_first_tail(tail: &[u64], shape: Shape) -> bool
 }
 
 // The layout of an image of these words. Where nothing was ever kept in it that is the one that is asked for.
-fn layout_of(alloc: Global, image: &[u64], geometry: Geometry) -> io::Result<Option<Geometry>>
-    ensures some { IfOk result (λ found. IfSome found (λ own. IsImageOf geometry own image.now)) }
-    ensures none { IfOk result (λ found. IfNone found ((own : Layout) → ¬ IsImageOf geometry own image.now)) }
+fn layout_of(alloc: Global, image: &[u64], asked: &Option<Geometry>) -> io::Result<Option<Geometry>>
+    ensures some { IfOk result (λ found. IfSome found (λ own. IsImageOf asked.now own image.now)) }
+    ensures none { IfOk result (λ found. IfNone found ((own : Layout) → ¬ IsImageOf asked.now own image.now)) }
     ensures memory { IfErr result (λ error. error_kind error ≡ OutOfMemory) }
 {
-    if is_blank(image, geometry) {
+    if let Some(geometry) = blank_layout(image, asked) {
         return Ok(Some(geometry));
     }
     match geometry_in(alloc, image)? {
         Ok(own) => Ok(Some(own)),
         Err(_) => Ok(None),
+    }
+}
+
+// The layout that is asked for, if one is and nothing was ever kept in these words.
+fn blank_layout(image: &[u64], asked: &Option<Geometry>) -> Option<Geometry>
+    ensures some { IfSome result (λ own. (asked.now ≡ Some own) × IsBlank own image.now) }
+    ensures none { IfNone result ((own : Layout) → asked.now ≡ Some own → ¬ IsBlank own image.now) }
+{
+    match asked {
+        Some(geometry) if is_blank(image, *geometry) => Some(*geometry),
+        _ => None,
     }
 }
 

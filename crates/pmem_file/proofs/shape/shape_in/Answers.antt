@@ -6,16 +6,16 @@ use Rattle.pmem_file.proofs.shape.shape_in.Goals as goal
 
 pub returns-in-Some-clause-some : goal.returns-in-Some-clause-some
 returns-in-Some-clause-some c =
-    alone c.args.geometry c.in-Some.own c.args.file.now c.new.result
-    (subst (λ (found : Option Layout). IfSome found (λ own. IsImageOf c.args.geometry own c.args.file.now)) c.in-Some.is c.in_ok-own.ensures.some) c.new.ensures.made
+    alone c.args.asked.now c.in-Some.own c.args.file.now c.new.result
+    (subst (λ (found : Option Layout). IfSome found (λ own. IsImageOf c.args.asked.now own c.args.file.now)) c.in-Some.is c.in_ok-own.ensures.some) c.new.ensures.made
 
 pub returns-in-Some-extent_of-clause-none : goal.returns-in-Some-extent_of-clause-none
 returns-in-Some-extent_of-clause-none c =
-    let whole_not = subst (λ (found : Option Layout). IfNone found ((own : Layout) → ¬ IsImageOf c.args.geometry own c.args.file.now)) c.in-None.is c.in_ok-own.ensures.none in
+    let whole_not = subst (λ (found : Option Layout). IfNone found ((own : Layout) → ¬ IsImageOf c.args.asked.now own c.args.file.now)) c.in-None.is c.in_ok-own.ensures.none in
     none-of c.journaled_shape.result
-    (no-ours-tail c.args.geometry c.args.file.now c.in-Some-extent_of.words c.in-Some-extent_of.room whole_not c.in-Some-extent_of.ensures.size c.in-Some-extent_of.ensures.tail) c.journaled_shape.ensures.none
+    (no-ours-tail c.args.asked.now c.args.file.now c.in-Some-extent_of.words c.in-Some-extent_of.room whole_not c.in-Some-extent_of.ensures.size c.in-Some-extent_of.ensures.tail) c.journaled_shape.ensures.none
 
 pub returns-in-None-extent_of-clause-none : goal.returns-in-None-extent_of-clause-none
 returns-in-None-extent_of-clause-none c =
-    let whole_not = subst (λ (found : Option Layout). IfNone found ((own : Layout) → ¬ IsImageOf c.args.geometry own c.args.file.now)) c.in-None.is c.in_ok-own.ensures.none in
-    none-of c.growing_shape.result (no-ours c.args.geometry c.args.file.now whole_not (c.in-None-extent_of.ensures.none refl)) c.growing_shape.ensures.none
+    let whole_not = subst (λ (found : Option Layout). IfNone found ((own : Layout) → ¬ IsImageOf c.args.asked.now own c.args.file.now)) c.in-None.is c.in_ok-own.ensures.none in
+    none-of c.growing_shape.result (no-ours c.args.asked.now c.args.file.now whole_not (c.in-None-extent_of.ensures.none refl)) c.growing_shape.ensures.none
