@@ -1,4 +1,2 @@
-pub mod Words
-pub mod Summaries
 pub mod Sets
 pub mod Tables

@@ -6,10 +6,10 @@ use Rattle.std.proofs.lemmas.Bool.{cases_lt, eqb-true, eqb-false}
 use Rattle.std.proofs.lemmas.Nat.Bits.{bit_at-lt, bit_at_and, bit_at_xor, bit_at_set_same, bit_at_set_other, bit_at_clear_same, bit_at_clear_other}
 use Rattle.std.proofs.lemmas.Nat.{and_le_l}
 use Rattle.dirty_table.specs.declared.sessions.SessionSet.{SessionSet}
-use Rattle.dirty_table.specs.Bits.{has_bit}
+use Rattle.number_set.specs.Bits.{has_bit}
 use Rattle.dirty_table.specs.Touches.{has, meets}
-use Rattle.dirty_table.proofs.Words.{past-bit, and-true, and-false}
-use Rattle.dirty_table.proofs.Summaries.{no-bits}
+use Rattle.number_set.proofs.Words.{past-bit, and-true, and-false}
+use Rattle.number_set.proofs.Summaries.{no-bits}
 
 -- ---- one set
 

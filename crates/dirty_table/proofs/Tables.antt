@@ -12,7 +12,7 @@ use Rattle.std.proofs.lemmas.Grind.{get_or-set_at}
 use Rattle.std.specs.Int.Bits.{and_zero_r}
 use Rattle.base.specs.Records.{are_rising}
 use Rattle.dirty_table.specs.declared.sessions.SessionSet.{SessionSet}
-use Rattle.dirty_table.specs.Bits.{is_in, IsLowest, IsClearFrom}
+use Rattle.number_set.specs.Numbers.{has as is_in, IsFirstFrom, IsNoneFrom}
 use Rattle.dirty_table.specs.Touches.{has, meets, sessions_at, is_touched, lines_touched, Forgets, IsUntouchedFrom, IsNextTouched, IsNoted}
 use Rattle.dirty_table.proofs.Sets.{meets-apart}
 
@@ -35,30 +35,35 @@ module _ (table : List SessionSet) (line : ℕ) (gone sessions : SessionSet) (lt
   still : (n k : ℕ) → is_touched (set table line sessions) n k ≡ true → is_touched table n k ≡ true
   still n k there = (and_parts (is_touched table n k) (not (nat_eq k line && has gone n)) (sym (forgot-line n k) ∙ there)).0
 
-  pub noted-still : (noted : List ℕ) → IsNoted table noted → IsNoted (set table line sessions) noted
+  pub noted-still : (noted : List Bool) → IsNoted table noted → IsNoted (set table line sessions) noted
   noted-still noted old = record {
     each = λ n k there. old.each n k (still n k there);
-    within = λ k there. let same = length-set table line sessions in let below = old.within k there in omega (arith, same, below);
-    enough = omega (arith, old.enough, length-set table line sessions);
+    size = omega (arith, old.size, length-set table line sessions);
     few = omega (arith, old.few, length-set table line sessions);
   }
 
 -- ---- the next line that may be touched
 
-module _ (table : List SessionSet) (noted : List ℕ) (is : IsNoted table noted) where
+module _ (table : List SessionSet) (noted : List Bool) (is : IsNoted table noted) where
   unnoted : (n line : ℕ) → is_in noted line ≡ false → is_touched table n line ≡ false
   unnoted n line none = grind (arith) steps 800000
 
-  pub next-some : (from : ℕ) (r : Option ℕ) → IfSome r (IsLowest noted from) → IfSome r (IsNextTouched table from)
-  next-some from None lowest = tt
-  next-some from (Some line) lowest = record {
-    low = lowest.low;
-    within = is.within line lowest.here;
-    small = let below = is.within line lowest.here in omega (arith, below, is.few);
-    before = λ k ge lt n. unnoted n k (lowest.before k ge lt);
+  noted-within : (line : ℕ) → is_in noted line ≡ true → line < length table
+  noted-within line here = elim (cases_lt line (length table)) [
+    | inl below ↦ below
+    | inr past ↦ absurd (cc (sym here ∙ get_or_past noted line false (omega (arith, past, is.size))))
+  ]
+
+  pub next-some : (from : ℕ) (r : Option ℕ) → IfSome r (IsFirstFrom noted from) → IfSome r (IsNextTouched table from)
+  next-some from None first = tt
+  next-some from (Some line) first = record {
+    low = first.above;
+    within = noted-within line first.here;
+    small = let below = noted-within line first.here in omega (arith, below, is.few);
+    before = λ k ge lt n. unnoted n k (first.before k ge lt);
   }
 
-  pub next-none : (from : ℕ) (r : Option ℕ) → IfNone r (IsClearFrom noted from) → IfNone r (IsUntouchedFrom table from)
+  pub next-none : (from : ℕ) (r : Option ℕ) → IfNone r (IsNoneFrom noted from) → IfNone r (IsUntouchedFrom table from)
   next-none from a clear = grind (arith)
 
 -- ---- all lines of some sessions are forgotten

@@ -1,8 +1,9 @@
 -- Which sessions touch which lines.
-use Rattle.std.specs.Prelude.{ℕ, ◌≡◌, ◌<◌, ◌≤◌, ◌*◌, ◌^◌, Bool, true, false, ◌&&◌, ◌||◌, not, nat_eq, List, length, filter, slice_index_or, bit_and}
+use Rattle.std.specs.Prelude.{ℕ, ◌≡◌, ◌<◌, ◌≤◌, ◌^◌, Bool, true, false, ◌&&◌, ◌||◌, not, nat_eq, List, length, filter, slice_index_or, bit_and}
 use Rattle.std.specs.List.{list_any, range_with_len}
 use Rattle.dirty_table.specs.declared.sessions.SessionSet.{SessionSet}
-use Rattle.dirty_table.specs.Bits.{has_bit, is_in}
+use Rattle.number_set.specs.Bits.{has_bit}
+use Rattle.number_set.specs.Numbers.{has as is_in}
 
 -- the session is in the set
 abbrev pub has : SessionSet → ℕ → Bool
@@ -52,9 +53,8 @@ pub record IsNextTouched (table : List SessionSet) (from line : ℕ) : Type 0 wh
   pub small : line < 2 ^ 62
   pub before : (k : ℕ) → from ≤ k → k < line → (n : ℕ) → is_touched table n k ≡ false
 
--- each line that somebody touches is noted, and no others but those of the table
-pub record IsNoted (table : List SessionSet) (noted : List ℕ) : Type 0 where
+-- each line that somebody touches is noted, in a set of lines of the table
+pub record IsNoted (table : List SessionSet) (noted : List Bool) : Type 0 where
   pub each : (n line : ℕ) → is_touched table n line ≡ true → is_in noted line ≡ true
-  pub within : (line : ℕ) → is_in noted line ≡ true → line < length table
-  pub enough : length table ≤ 64 * length noted
+  pub size : length noted ≡ length table
   pub few : length table < 2 ^ 62

@@ -1,7 +1,7 @@
 ghost use Rattle.std.specs.Prelude.{ℕ, ◌≡◌, ◌<◌, ◌≤◌, ◌||◌, ◌&&◌, not, nat_eq, false, IsTrue, IfSome, IfNone};
 ghost use Rattle.dirty_table.specs.Touches.{has, meets, IsNextIn};
 
-use crate::bits::lowest_bit;
+use number_set::lowest_bit;
 
 /// A set of numbers of sessions, a bit each.
 #[derive(Clone, Copy)]

@@ -1,6 +1,6 @@
-use crate::line_set::LineSet;
 use crate::sessions::SessionSet;
 use base::fault::Fault;
+use number_set::NumberSet;
 use std::alloc::Global;
 use std::marker::Model;
 
@@ -10,7 +10,7 @@ use std::marker::Model;
 pub struct DirtyTable {
     sessions: Vec<SessionSet>,
     // The lines that some session touches.
-    touched: LineSet,
+    touched: NumberSet,
 }
 
 impl Model for DirtyTable {
@@ -41,7 +41,7 @@ impl DirtyTable {
         let Ok(sessions) = vec![in alloc; SessionSet::none(); lines] else {
             return Err(Fault::OutOfMemory);
         };
-        let Ok(touched) = LineSet::new(alloc, lines) else {
+        let Ok(touched) = NumberSet::new(alloc, lines) else {
             return Err(Fault::OutOfMemory);
         };
         Ok(DirtyTable { sessions, touched })
@@ -98,7 +98,7 @@ impl DirtyTable {
         ensures some { IfSome result (IsNextTouched self.now from) }
         ensures none { IfNone result (IsUntouchedFrom self.now from) }
     {
-        self.touched.lowest(from)
+        self.touched.first_from(from)
     }
 
     /// The lowest line, from this one on, that one of the sessions touches: of their lines, which are listed by rising line

@@ -1,34 +1,28 @@
-ghost use Rattle.std.specs.Prelude.{◌≡◌, ◌≤◌, ◌<◌, ℕ, length, slice_index, IfErr, IfNone, IfSome, OnErr, OnOk};
+ghost use Rattle.std.specs.Prelude.{◌≡◌, ◌<◌, IfErr, OnErr, OnOk};
 ghost use Rattle.base.specs.Layout.{total_words};
 ghost use Rattle.pmem.specs.Trace.{Runs, StopsWithin};
-ghost use Rattle.slot_alloc.specs.Bits.{IsFirstSet, AreClearBefore};
 ghost use Rattle.version_slot.specs.Operations.{clear_operations};
 
 use base::actor::Actor;
 use base::fault::Fault;
 use base::geometry::Geometry;
+use number_set::NumberSet;
 use pmem::Pmem;
 use std::alloc::{AllocError, Global};
 use std::marker::Model;
 
-/// Which slots are free: a bit each, 64 to a word, the lowest first. Contracts see a truth value for each slot.
+/// Which slots are free. Contracts see a truth value for each slot.
 #[derive(Drop)]
 pub struct SlotAlloc {
-    words: Vec<u64>,
-    slots: usize,
-    // No bit is set in the words before it.
-    first: usize,
+    free: NumberSet,
 }
 
 impl Model for SlotAlloc {
     ghost use Rattle.std.specs.Prelude.{Bool, List};
-    ghost use Rattle.slot_alloc.specs.Bits.{bits_of, HoldsBits};
 
     ghost Value = { List Bool };
 
-    ghost view = { λ s. bits_of s.slots s.words.items };
-
-    ghost invariant = { λ s. HoldsBits s.slots s.first s.words.items };
+    ghost view = { λ s. s.free };
 }
 
 impl SlotAlloc {
@@ -40,77 +34,47 @@ impl SlotAlloc {
     ghost use Rattle.version_slot.specs.Operations.{clear_operations};
     ghost use Rattle.base.specs.declared.fault.Fault.TheVariants.{Device, SlotsOut};
 
-    // No slot is free.
-    fn none(alloc: Global, slots: usize) -> Result<SlotAlloc, AllocError>
-        requires { slots < 2 ^ 32 }
-        ensures len { IfOk result (λ s. length s ≡ slots) }
-        ensures none { IfOk result (λ s. (slot : ℕ) → is_free s slot ≡ false) }
-    {
-        let words = vec![in alloc; 0; slots / 64 + 1]?;
-        Ok(SlotAlloc {
-            words,
-            slots,
-            first: 0,
-        })
-    }
-
     /// The slots that are free, by their numbers.
     pub fn new(alloc: Global, free: &[bool]) -> Result<SlotAlloc, AllocError>
         requires { length free.now < 2 ^ 32 }
         ensures { IfOk result (λ s. s ≡ free.now) }
     {
-        let mut bits = SlotAlloc::none(alloc, free.len())?;
+        let mut slots = NumberSet::new(alloc, free.len())?;
         for (slot, is_free) in free.iter().enumerate() {
             if *is_free {
-                bits.give(slot as u64);
+                slots.insert(slot);
             }
         }
-        Ok(bits)
+        Ok(SlotAlloc { free: slots })
     }
 
     /// Whether the slot is free. None past the last is.
     pub fn is_free(&self, slot: u64) -> bool
         ensures { result ≡ is_free self.now slot }
     {
-        let index = slot as usize;
-        if index < self.slots {
-            self.words[index / 64] >> (index % 64) & 1 == 1
-        } else {
-            false
-        }
+        self.free.contains(slot as usize)
     }
 
     /// Whether some slot is free.
     pub fn has_free(&self) -> bool
         ensures { result ≡ is_some (lowest_free self.now) }
     {
-        first_set(self.words.as_slice(), self.first).is_some()
+        self.lowest().is_some()
     }
 
     /// How many slots are free.
     pub fn free_count(&self) -> u64
         ensures { result ≡ free_count self.now }
     {
-        let mut count = 0;
-        for slot in 0..self.slots as u64 {
-            if self.is_free(slot) {
-                count += 1;
-            }
-        }
-        count
+        self.free.count() as u64
     }
 
     // The lowest free slot.
-    fn lowest(&mut self) -> Option<u64>
-        ensures lowest { result ≡ lowest_free self.old }
-        ensures same { self.new ≡ self.old }
+    fn lowest(&self) -> Option<u64>
+        ensures { result ≡ lowest_free self.now }
     {
-        match first_set(self.words.as_slice(), self.first) {
-            Some(at) => {
-                let word = self.words[at];
-                self.first = at;
-                Some(64 * at as u64 + u64::from(word.trailing_zeros()))
-            }
+        match self.free.first_from(0) {
+            Some(slot) => Some(slot as u64),
             None => None,
         }
     }
@@ -120,18 +84,7 @@ impl SlotAlloc {
         requires { slot < length self.old }
         ensures { self.new ≡ slice_set self.old slot true }
     {
-        let index = slot as usize;
-        self.words[index / 64] |= 1 << (index % 64);
-        self.first = self.first.min(index / 64);
-    }
-
-    // Marks a free slot as taken.
-    fn mark_taken(&mut self, slot: u64)
-        requires { is_free self.old slot ≡ true }
-        ensures { self.new ≡ slice_set self.old slot false }
-    {
-        let index = slot as usize;
-        self.words[index / 64] &= !(1 << (index % 64));
+        self.free.insert(slot as usize);
     }
 
     /// Takes the lowest free slot, once 0 in its begin is sure to outlive a crash.
@@ -167,7 +120,7 @@ impl SlotAlloc {
             Ok(()) => {}
             Err(fault) => return Err(fault),
         }
-        self.mark_taken(slot);
+        self.free.remove(slot as usize);
         Ok(slot)
     }
 }
@@ -185,18 +138,4 @@ fn clear<D: Pmem>(device: &mut D, geometry: Geometry, actor: Actor, slot: u64) -
     device.flush(actor, word / 8)?;
     device.fence(actor)?;
     Ok(())
-}
-
-// The first word from one on that isn't 0.
-fn first_set(words: &[u64], from: usize) -> Option<usize>
-    requires { AreClearBefore from words.now }
-    ensures some { IfSome result (IsFirstSet words.now) }
-    ensures none { IfNone result (AreClearBefore (length words.now) words.now) }
-{
-    for at in from..words.len() {
-        if words[at] != 0 {
-            return Some(at);
-        }
-    }
-    None
 }

@@ -1,5 +1,5 @@
 use Rattle.std.proofs.Common.{arith}
-use Rattle.dirty_table.proofs.Words.{past-bit}
+use Rattle.number_set.proofs.Words.{past-bit}
 use Rattle.dirty_table.proofs.sessions.SessionSet.next.Goals as goal
 
 pub returns-then-from-ge-LIMIT-clause-none : goal.returns-then-from-ge-LIMIT-clause-none

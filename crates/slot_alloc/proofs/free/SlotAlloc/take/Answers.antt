@@ -1,14 +1,15 @@
-use Rattle.std.proofs.Common.{length, sym, arith}
+use Rattle.std.proofs.Common.{Bool, List, length, sym, ap, arith}
 use Rattle.pmem.proofs.Traces.{words-stopped}
 use Rattle.slot_alloc.specs.Free.{is_free}
-use Rattle.slot_alloc.proofs.Lowest.{lowest_below, lowest_passes}
+use Rattle.slot_alloc.proofs.Lowest.{lowest_below}
 use Rattle.slot_alloc.proofs.free.SlotAlloc.take.Goals as goal
 
 pub clear-requires-clause-slot : goal.clear-requires-clause-slot
-clear-requires-clause-slot g c = omega (arith, lowest_below (length c.args.self.now) c.in-Some.slot (is_free c.args.self.now) (sym c.in-Some.ensures.lowest), c.requires.slots)
+clear-requires-clause-slot g c = omega (arith, lowest_below (length c.args.self.now) c.in-Some.slot (is_free c.args.self.now) (sym c.in-Some.ensures), c.requires.slots)
 
 pub returns-in-Err-clause-size : goal.returns-in-Err-clause-size
 returns-in-Err-clause-size g c = words-stopped _ c.in-Err.ensures.err
 
-pub mark_taken-requires : goal.mark_taken-requires
-mark_taken-requires g c = grind (arith, lowest_passes (length c.args.self.now) c.in-Some.slot (is_free c.args.self.now) (sym c.in-Some.ensures.lowest), c.in-Some.ensures.same, c.in-Some.ensures.lowest)
+pub remove-requires : goal.remove-requires
+remove-requires g c =
+    omega (arith, lowest_below (length c.args.self.now) c.in-Some.slot (is_free c.args.self.now) (sym c.in-Some.ensures), ap (λ (l : List Bool). length l) c.self.view_is)

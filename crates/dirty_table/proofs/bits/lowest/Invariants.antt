@@ -1,5 +1,0 @@
-use Rattle.dirty_table.proofs.Words.{Looks}
-use Rattle.dirty_table.proofs.bits.lowest.Given as goal
-
-abbrev pub invariant-loop-at : goal.invariant-loop-at
-invariant-loop-at l = Looks l.words l.from l.at l.low

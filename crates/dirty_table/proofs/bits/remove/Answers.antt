@@ -1,5 +1,0 @@
-use Rattle.dirty_table.proofs.Words.{removed}
-use Rattle.dirty_table.proofs.bits.remove.Goals as goal
-
-pub returns-clause-is_in : goal.returns-clause-is_in
-returns-clause-is_in c = removed c.args.words.now c.args.k c.requires
