@@ -19,13 +19,13 @@ Entries = List (Key × Entry)
 abbrev Places : Type 0
 Places = List (Key × ℕ)
 
-same_or_not : (p q : ℕ) → (p ≡ q) ⊎ (p ≡ q → ⊥)
+pub same_or_not : (p q : ℕ) → (p ≡ q) ⊎ (p ≡ q → ⊥)
 same_or_not p q = grind (arith, cases_lt) steps 800000
 
 -- ---- lists of pairs
 
 -- what is looked up stands somewhere
-stands : (entries : Entries) (key : Key) (entry : Entry) → lookup_key entries key ≡ Some entry → (place : ℕ) × (slice_get entries place ≡ Some (key, entry))
+pub stands : (entries : Entries) (key : Key) (entry : Entry) → lookup_key entries key ≡ Some entry → (place : ℕ) × (slice_get entries place ≡ Some (key, entry))
 stands [] key entry found = absurd (cc found)
 stands (e ∷ entries) key entry found = by (key_eq e.0 key) refl (stands entries key entry) found
   where
@@ -70,12 +70,12 @@ looked-set (e ∷ entries) key old entry (suc place) at once k =
     by true is false is' rest = refl
     by false is c is' rest = rest ∙ ap (λ (b : Bool). cond b (Some entry) (lookup_key entries k)) is'
 
-get-set_same : (entries : Entries) (place : ℕ) (e : Key × Entry) → place < length entries → slice_get (set entries place e) place ≡ Some e
+pub get-set_same : (entries : Entries) (place : ℕ) (e : Key × Entry) → place < length entries → slice_get (set entries place e) place ≡ Some e
 get-set_same [] place e lt = absurd (omega (arith, lt))
 get-set_same (x ∷ entries) zero e lt = refl
 get-set_same (x ∷ entries) (suc place) e lt = get-set_same entries place e (omega (arith, lt))
 
-get-set_other : (entries : Entries) (place p : ℕ) (e : Key × Entry) → (p ≡ place → ⊥) → slice_get (set entries place e) p ≡ slice_get entries p
+pub get-set_other : (entries : Entries) (place p : ℕ) (e : Key × Entry) → (p ≡ place → ⊥) → slice_get (set entries place e) p ≡ slice_get entries p
 get-set_other [] place p e apart = refl
 get-set_other (x ∷ entries) zero zero e apart = absurd (apart refl)
 get-set_other (x ∷ entries) zero (suc p) e apart = refl
@@ -184,6 +184,11 @@ module _ (places : Places) (entries : Entries) (placed : ArePlaced places entrie
           by true is before =
               absurd (cc (sym (there-some entries k e p before) ∙ ap (λ (j : Key). has_room entries j) (sym (key_eq-true key k is)) ∙ none))
           by false is before = updates k ∙ ap (λ (b : Bool). cond b (Some (length entries)) (lookup_key places k)) is ∙ placed.once k p e before
+
+-- the entry that is set is at its place
+pub set-at : (places : Places) (entries : Entries) → ArePlaced places entries → (key : Key) (place : ℕ) → IsAt entries place key → (entry : Entry) → IsAt (set entries place (key, entry)) place key
+set-at places entries placed key place at entry =
+    at-place places (set entries place (key, entry)) (set-placed places entries placed key place at entry) key place entry (get-set_same entries place (key, entry) (slice_get_within entries place (key, entry_at entries key) at))
 
 -- ---- a further key
 

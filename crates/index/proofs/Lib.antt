@@ -1,4 +1,5 @@
 pub mod Changes
+pub mod Removals
 pub mod Slots
 pub mod Lookups
 pub mod Bounds

@@ -1,5 +1,5 @@
 -- Where the versions of each key are.
-use Rattle.std.specs.Prelude.{◌≡◌, ℕ, Bool, true, false, ◌||◌, List, Option, Some, None, is_some, unwrap_or, slice_get, nat_eq, if◌then◌else◌}
+use Rattle.std.specs.Prelude.{◌≡◌, ℕ, Bool, true, false, not, ◌&&◌, ◌||◌, List, Option, Some, None, is_some, unwrap_or, slice_get, nat_eq, if◌then◌else◌}
 use Rattle.std.specs.Option.{option_or, option_eq}
 use Rattle.std.specs.declared.cmp.Ordering.{Ordering}
 use Rattle.std.specs.Ordering.{nat_cmp, ordering_then}
@@ -64,3 +64,7 @@ KeepsRoom old new = (k : Key) → has_room new k ≡ has_room old k
 -- and the key has it too
 abbrev pub GainsRoom : List (Key × Entry) → List (Key × Entry) → Key → Type 0
 GainsRoom old new key = (k : Key) → has_room new k ≡ (key_eq key k || has_room old k)
+
+-- the key has none, and each other key has it that had it
+abbrev pub LosesRoom : List (Key × Entry) → List (Key × Entry) → Key → Type 0
+LosesRoom old new key = (k : Key) → has_room new k ≡ (not (key_eq key k) && has_room old k)

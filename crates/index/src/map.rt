@@ -17,7 +17,7 @@ pub struct Known {
 /// Where the versions of each key are. A key that has no entry has a blank one.
 #[derive(Drop)]
 pub struct Index {
-    // Each with its key, in the order in which the keys came. It stays at its place.
+    // Each with its key. It stays at its place, but for the last where another is taken out.
     pub(crate) entries: Vec<KeyedEntry>,
     // By key the place of its entry.
     pub(crate) places: BTreeMap<Key, usize, Global>,
@@ -40,11 +40,11 @@ impl Model for Index {
 }
 
 impl Index {
-    ghost use Rattle.std.specs.Prelude.{◌≡◌, ◌||◌, Bool, true, false, Some, None, IsTrue, IfSome, IfNone, IfErr, OnOk, OnErr};
+    ghost use Rattle.std.specs.Prelude.{◌≡◌, ◌||◌, Bool, true, false, Some, None, IsTrue, IfSome, IfNone, IfErr, OnOk, OnErr, length, slice_get};
     ghost use Rattle.base.specs.Keys.{key_eq};
     ghost use Rattle.base.specs.declared.key.Key.{Key as KeyValue};
     ghost use Rattle.base.specs.declared.fault.Fault.TheVariants.{OutOfMemory};
-    ghost use Rattle.index.specs.Entries.{blank, entry_at, has_room, IsAt, ArePlaced, live_of, head_of, Sets, KeepsRoom, GainsRoom, covered, forgotten};
+    ghost use Rattle.index.specs.Entries.{blank, entry_at, has_room, IsAt, ArePlaced, live_of, head_of, Sets, KeepsRoom, GainsRoom, LosesRoom, covered, forgotten};
 
     /// Without versions.
     pub fn new(alloc: Global) -> Index
@@ -189,6 +189,7 @@ impl Index {
         requires { IsAt self.old place key }
         ensures sets { Sets self.old self.new key entry }
         ensures room { KeepsRoom self.old self.new }
+        ensures place { IsAt self.new place key }
     {
         self.entries[place] = KeyedEntry::new(key, entry);
     }
@@ -302,22 +303,79 @@ impl Index {
         self.set_in(place, key, covered);
     }
 
-    /// The key's version in the slot is freed. Where it isn't the newest covered one, nothing changes.
-    pub fn forget(&mut self, key: Key, slot: SlotNo)
+    /// The key's version in the slot is freed. If it isn't the newest covered one, nothing changes. The place of the key's entry, if
+    /// that changed.
+    pub fn forget(&mut self, key: Key, slot: SlotNo) -> Option<usize>
         ensures entries { Sets self.old self.new key (forgotten slot (entry_at self.old key)) }
         ensures room { KeepsRoom self.old self.new }
+        ensures place { IfSome result (λ place. IsAt self.new place key) }
+        ensures same { IfNone result (self.new ≡ self.old) }
     {
         let Some(place) = self.place(key) else {
-            return;
+            return None;
         };
         let entry = self.entry_in(place, key);
-        if entry.newest == Some(slot) {
-            let forgotten = Entry {
-                newest: None,
-                ended: false,
-                ..entry
-            };
-            self.set_in(place, key, forgotten);
+        if entry.newest != Some(slot) {
+            return None;
         }
+        let forgotten = Entry {
+            newest: None,
+            ended: false,
+            ..entry
+        };
+        self.set_in(place, key, forgotten);
+        Some(place)
+    }
+
+    /// How many keys have an entry.
+    #[inline(always)]
+    pub fn len(&self) -> usize
+        ensures { result ≡ length self.now }
+    {
+        self.entries.len()
+    }
+
+    /// The key whose entry is at the place, and the entry.
+    #[inline(always)]
+    pub fn get(&self, place: usize) -> Option<(Key, Entry)>
+        ensures at { IfSome result (λ found. IsAt self.now place found.0) }
+        ensures entry { IfSome result (λ found. found.1 ≡ entry_at self.now found.0) }
+        ensures none { IfNone result (slice_get self.now place ≡ None) }
+    {
+        if place < self.entries.len() {
+            let found = &self.entries[place];
+            Some((found.key(), found.entry()))
+        } else {
+            None
+        }
+    }
+
+    /// Takes the key's entry out: it is a blank one then. It takes no memory, and the last entry comes to its place.
+    pub fn remove(&mut self, key: Key, near: Option<usize>)
+        ensures entries { Sets self.old self.new key blank }
+        ensures room { LosesRoom self.old self.new key }
+    {
+        match self.seek(key, near) {
+            Some(place) => self.take_out(place, key),
+            None => {}
+        }
+    }
+
+    // Takes the entry at the place of the key out.
+    #[inline(never)]
+    fn take_out(&mut self, place: usize, key: Key)
+        requires { IsAt self.old place key }
+        ensures entries { Sets self.old self.new key blank }
+        ensures room { LosesRoom self.old self.new key }
+    {
+        let last = self.entries.len() - 1;
+        let moved = self.entries[last].key();
+        // It has a place, so this takes no memory.
+        let Ok(_) = self.places.insert(moved, place) else {
+            unreachable!()
+        };
+        self.places.remove(&key);
+        self.entries.swap_remove(place);
+        note(self.hints.as_mut_slice(), moved, place);
     }
 }

@@ -18,3 +18,4 @@ pub mod stamps
 pub mod reads
 pub mod AnyHand
 pub mod Counted
+pub mod Settled

@@ -5,6 +5,7 @@ pub mod Stamping
 pub mod Steps
 pub mod Replies
 pub mod Collecting
+pub mod Settling
 pub mod Covering
 pub mod Opening
 pub mod Laws

@@ -1,11 +1,11 @@
 -- Which plain states the sessions show on a device.
-use Rattle.std.specs.Prelude.{◌≡◌, ℕ, ◌*◌, ◌<◌, ◌≤◌, Bool, true, false, nat_eq, List, [], ◌∷◌, length, map, slice_get, Option, Some, is_some, is_none, All}
+use Rattle.std.specs.Prelude.{◌≡◌, ◌⊎◌, ℕ, ◌*◌, ◌<◌, ◌≤◌, Bool, true, false, nat_eq, List, [], ◌∷◌, ◌++◌, length, map, drop, slice_get, Option, Some, None, is_some, is_none, All}
 use Rattle.std.specs.List.{list_any}
 use Rattle.std.specs.Option.{option_map}
 use Rattle.base.specs.declared.key.Key.{Key}
 use Rattle.base.specs.Commits.{Commit, writes_key}
 use Rattle.base.specs.Layout.{total_words}
-use Rattle.machine.specs.Machine.{State, Session, Active as Reads, Drew, WroteNothing, Drawn as PlainDrawn, Hand, Version, Writer, BySession, ByCommit, drawn_at}
+use Rattle.machine.specs.Machine.{State, Session, Active as Reads, Drew, WroteNothing, Drawn as PlainDrawn, Hand, Version, Writer, BySession, ByCommit, drawn_at, drawn_of}
 use Rattle.pmem.specs.Device.{Device}
 use Rattle.txn.specs.declared.drawn.DrawnCommit.{DrawnCommit}
 use Rattle.txn.specs.declared.transaction.Transaction.{Transaction}
@@ -18,7 +18,7 @@ use Rattle.dirty_table.specs.declared.sessions.SessionSet.{SessionSet}
 use Rattle.dirty_table.specs.Touches.{is_touched}
 use Rattle.index.specs.declared.entry.Entry.{Entry}
 use Rattle.index.specs.Entries.{entry_at, has_room, live_of}
-use Rattle.state_invariant.specs.Kept.{Origin, commits_of_life, version_by}
+use Rattle.state_invariant.specs.Kept.{Origin, IsInUse, commits_of_life, version_by}
 use Rattle.state_invariant.specs.Links.{HoldsNewest}
 use Rattle.device_invariant.specs.Slots.{newest_of}
 use Rattle.device_invariant.specs.Log.{lines_in, line_number}
@@ -84,11 +84,20 @@ pub record HasVersionOf (q : State) (key : Key) (slot : ℕ) : Type 0 where
 abbrev pub HasDrawn : State → Key → Type 0
 HasDrawn q key = (t : ℕ) × (d : PlainDrawn) × (drawn_at q t ≡ Some d) × (writes_key key d.commit ≡ true)
 
+-- each snapshot in use sees all commits that write the key, and none of them is drawn
+abbrev pub IsSeenByAll : State → Key → Type 0
+IsSeenByAll q key = (n : ℕ) → IsInUse q n → list_any (writes_key key) (drop n q.history ++ drawn_of q) ≡ false
+
+-- the last timestamp that was drawn for the key in this life; or none, once all see what writes it
+abbrev pub HoldsLast : Origin → State → Key → Option ℕ → Type 0
+HoldsLast o q key last = (last ≡ last_on key (commits_of_life o q)) ⊎ ((last ≡ None) × IsSeenByAll q key)
+
 -- what the index has of a key: the slot of its newest covered version, while that has a row, and the last timestamp that was
--- drawn for it in this life. Also the slot of a version that a deletion ended is the newest, as long as it isn't freed
+-- drawn for it in this life, which may be forgotten once all see what writes the key. Also the slot of a version that a deletion
+-- ended is the newest, as long as it isn't freed
 pub record HoldsEntry (o : Origin) (q : State) (key : Key) (entry : Entry) : Type 0 where
   pub live : IsSlotOf q (newest_of q key) (live_of entry)
-  pub last : entry.last ≡ last_on key (commits_of_life o q)
+  pub last : HoldsLast o q key entry.last
   pub newest : HoldsNewest q key entry.newest
   pub only : (slot : ℕ) → entry.newest ≡ Some slot → HasVersionOf q key slot
   pub drawn : (slot : ℕ) → entry.drawn ≡ Some slot → (slot < q.layout.slots) × HasDrawn q key

@@ -26,11 +26,11 @@ use snapshot::Numbers;
 use txn::{Transaction, Transactions};
 use version_slot::key;
 
-// All who may still read a version: at the ruling record, and at the snapshot of each Active session.
+/// All who may still read a version: at the ruling record, and at the snapshot of each Active session.
 #[derive(Drop)]
-struct SnapshotsInUse<'a> {
-    numbers: &'a Numbers,
-    transactions: &'a Transactions,
+pub struct SnapshotsInUse<'a> {
+    pub numbers: &'a Numbers,
+    pub transactions: &'a Transactions,
 }
 
 impl<'a> SnapshotsInUse<'a> {
@@ -61,7 +61,8 @@ impl<'a> Readers for SnapshotsInUse<'a> {
     }
 }
 
-// The index forgets the version in a slot that was visited, if the visit freed it: no entry names a slot that was free before.
+// The index forgets the version in a slot that was visited, if the visit freed it: no entry names a slot that was free before. The
+// place of the entry that named it.
 #[inline(always)]
 fn forget_freed<D: Pmem>(
     index: &mut Index,
@@ -70,26 +71,28 @@ fn forget_freed<D: Pmem>(
     device: &D,
     geometry: Geometry,
     slot: SlotNo,
-)
+) -> Option<usize>
     requires slot { slot < geometry.slots }
     requires device { (D.state device.now).words ≡ total_words geometry }
     ensures forgets { ForgetsFreed geometry (value_of (D.state device.now)) slot was_free slots.now index.old index.new }
     ensures room { KeepsRoom index.old index.new }
 {
     if !was_free && slots.is_free(slot) {
-        forget(index, device, geometry, slot);
+        forget(index, device, geometry, slot)
+    } else {
+        None
     }
 }
 
-// The index forgets the version in a slot.
+// The index forgets the version in a slot. The place of the entry that named it.
 #[inline(never)]
-fn forget<D: Pmem>(index: &mut Index, device: &D, geometry: Geometry, slot: SlotNo)
+fn forget<D: Pmem>(index: &mut Index, device: &D, geometry: Geometry, slot: SlotNo) -> Option<usize>
     requires slot { slot < geometry.slots }
     requires device { (D.state device.now).words ≡ total_words geometry }
     ensures forgets { Sets index.old index.new (key_in (slot_at geometry slot (value_of (D.state device.now)))) (forgotten slot (entry_at index.old (key_in (slot_at geometry slot (value_of (D.state device.now)))))) }
     ensures room { KeepsRoom index.old index.new }
 {
-    index.forget(key(device, geometry, slot), slot);
+    index.forget(key(device, geometry, slot), slot)
 }
 
 impl Sessions {
@@ -138,7 +141,7 @@ impl Sessions {
             .visit(device, geometry, &mut self.slots, &readers)
         {
             Visit::Slot(slot) => {
-                forget_freed(
+                let place = forget_freed(
                     &mut self.index,
                     was_free,
                     &self.slots,
@@ -146,6 +149,7 @@ impl Sessions {
                     geometry,
                     slot,
                 );
+                self.settle(place);
                 Visit::Slot(slot)
             }
             Visit::SweepEnd => Visit::SweepEnd,
@@ -171,7 +175,7 @@ impl Sessions {
             .tick(device, geometry, &gaps, &mut self.slots, &readers)
         {
             Ok(Visit::Slot(slot)) => {
-                forget_freed(
+                let place = forget_freed(
                     &mut self.index,
                     was_free,
                     &self.slots,
@@ -179,6 +183,7 @@ impl Sessions {
                     geometry,
                     slot,
                 );
+                self.settle(place);
                 Ok(Visit::Slot(slot))
             }
             Ok(Visit::SweepEnd) => Ok(Visit::SweepEnd),

@@ -19,6 +19,10 @@ use index::{Entry, Index};
 use snapshot::Snapshot;
 use txn::{DrawnCommit, Transaction, WriteSet};
 
+// How many entries of the index are looked at for each key that may get one. Of those that say nothing there are never more than
+// of the others for long: when all have been looked at, a fourth as many have been added.
+const LOOKS_A_KEY: usize = 4;
+
 /// What the index says of the keys that a transaction has written.
 #[derive(Clone, Copy)]
 pub struct Asked {
@@ -62,7 +66,13 @@ impl Sessions {
         if self.numbers.is_near_limit() {
             return Err(Fault::TimestampsOut);
         }
-        self.draw_next(session, asked.all_there)
+        if asked.all_there {
+            return self.draw_next(session, true);
+        }
+        let looks = active.writes.as_slice().len().saturating_mul(LOOKS_A_KEY);
+        let drawn = self.draw_next(session, false);
+        self.settle_next(looks);
+        drawn
     }
 
     // Draws the next timestamp, against which nothing stands but want of memory. The growths come before any change: room for the

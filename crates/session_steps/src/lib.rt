@@ -18,6 +18,7 @@ mod poll;
 mod put;
 mod scan;
 mod sessions;
+mod settling;
 mod stamp;
 mod tables;
 mod touching;

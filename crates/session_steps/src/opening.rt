@@ -48,6 +48,7 @@ impl Sessions {
             dirty,
             slots,
             collector: Collector::new(),
+            next_entry: 0,
             alloc,
         }
     }

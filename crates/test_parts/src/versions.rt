@@ -38,5 +38,10 @@ fn versions_of_a_key_from_draw_to_freeing(rt: HostRuntime) -> Result<(), Fail> {
     assert_slots(&rt, &index, None, None);
     assert_eq!(rt; index.entry(KEY, None).last, Some(10));
     assert_eq!(rt; index.live(OTHER, index.place(KEY)), Some(5));
+    index.remove(OTHER, index.place(KEY));
+    assert_eq!(rt; index.len(), 1);
+    assert_eq!(rt; index.place(OTHER), None);
+    assert_eq!(rt; index.get(0), Some((KEY, index.entry(KEY, Some(1)))));
+    assert_eq!(rt; index.entry(KEY, None).last, Some(10));
     Ok(())
 }

@@ -14,7 +14,7 @@ all-range p from zero each = refl
 all-range p from (suc many) each =
     and_from (p from) (list_all p (range_with_len (from + 1) many)) (each from (omega arith) (omega arith)) (all-range p (from + 1) many (λ k low high. each k (omega (arith, low)) (omega (arith, high))))
 
-sixty-two : most_sessions ≡ 62
+pub sixty-two : most_sessions ≡ 62
 unfolding most_sessions
 sixty-two = refl
 

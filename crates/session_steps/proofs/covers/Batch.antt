@@ -1,11 +1,11 @@
 -- The drawn commits that a record commits are covered.
-use Rattle.std.proofs.Common.{◌≡◌, ◌⊎◌, inl, inr, ℕ, zero, suc, ◌<◌, ◌≤◌, Bool, true, false, ◌&&◌, ◌||◌, cond, not, List, [], ◌∷◌, ◌++◌, length, map, filter, drop, refl, sym, ◌∙◌, ap, subst, arith, Contains}
+use Rattle.std.proofs.Common.{◌≡◌, ◌⊎◌, inl, inr, ℕ, zero, suc, ◌<◌, ◌≤◌, Bool, true, false, ◌&&◌, ◌||◌, cond, not, List, [], ◌∷◌, ◌++◌, length, map, filter, drop, refl, sym, ◌∙◌, ap, subst, arith, Contains, length-append}
 use Rattle.std.specs.Prelude.{Option, Some, None, nat_eq, nat_lt, find, slice_index_or, All}
 use Rattle.std.specs.List.{list_any, list_all}
 use Rattle.std.specs.Option.{option_map}
 use Rattle.std.proofs.lemmas.Bool.{and_parts, ltb-true, eq-eqb, ne_eqb, false_from_ne_true, or_right}
 use Rattle.std.proofs.lemmas.Bool.Decides.{nat_tests}
-use Rattle.std.proofs.lemmas.List.{take-append-le}
+use Rattle.std.proofs.lemmas.List.{take-append-le, drop_all}
 use Rattle.std.proofs.lemmas.List.Elements.{All-nil, All-filter}
 use Rattle.std.proofs.lemmas.List.Folds.{list_any_none, list_any_at}
 use Rattle.base.specs.declared.key.Key.{Key}
@@ -28,7 +28,7 @@ use Rattle.dirty_table.specs.declared.sessions.SessionSet.{SessionSet}
 use Rattle.dirty_table.specs.Touches.{has, is_touched, Forgets}
 use Rattle.index.specs.declared.entry.Entry.{Entry}
 use Rattle.index.specs.Entries.{entry_at, live_of}
-use Rattle.state_invariant.specs.Kept.{Origin, commits_of_life, version_by}
+use Rattle.state_invariant.specs.Kept.{Origin, IsInUse, commits_of_life, version_by}
 use Rattle.state_invariant.specs.Links.{last_row}
 use Rattle.state_invariant.proofs.covers.Kept.{batch-drawn, found-left}
 use Rattle.state_invariant.proofs.Lists.{rising-above}
@@ -39,7 +39,7 @@ use Rattle.simulation.proofs.sessions.Batches.{covers-batch}
 use Rattle.simulation.specs.steps.Moves.{IsSlotOf}
 use Rattle.session_steps.specs.declared.sessions.Sessions.{Sessions}
 use Rattle.simulation.specs.sessions.Sees.{Sees, last_on}
-use Rattle.session_steps.specs.Shows.{Hidden, plain_of, plain_session, plain_drawn, HasItsSlot, HoldsSession, HasDrawn, HoldsEntry, HoldsDrawn, HoldsLines, has_drawn_by, line_numbers, Agrees}
+use Rattle.session_steps.specs.Shows.{Hidden, plain_of, plain_session, plain_drawn, HasItsSlot, HoldsSession, HasDrawn, IsSeenByAll, HoldsLast, HoldsEntry, HoldsDrawn, HoldsLines, has_drawn_by, line_numbers, Agrees}
 use Rattle.session_steps.specs.Covering.{covered_by_commits, committed_by, left_by, CoversCommits, MayCover, hidden_covered, HasCovered, ShowsCovered}
 use Rattle.session_steps.proofs.slots.Held.{numbers-by-tests}
 use Rattle.session_steps.proofs.Filters.{filter-at, any-split}
@@ -94,6 +94,35 @@ any-found p test (x ∷ cs) c found is = by (test x) found (λ found. any-found 
     by : (b : Bool) → cond b (Some x) (find test cs) ≡ Some c → (find test cs ≡ Some c → list_any p cs ≡ true) → (p x || list_any p cs) ≡ true
     by true found rest = let same : x ≡ c = cc found in ap (λ (b : Bool). b || list_any p cs) (ap p same ∙ is)
     by false found rest = or_right (p x) (list_any p cs) (rest found)
+
+-- ---- tests that none passes
+
+any-both : {X : Type 0} (p : X → Bool) (xs ys : List X) → list_any p xs ≡ false → list_any p ys ≡ false → list_any p (xs ++ ys) ≡ false
+any-both p [] ys none others = others
+any-both p (x ∷ xs) ys none others = grind (arith, any-both p xs ys)
+
+any-first : {X : Type 0} (p : X → Bool) (xs ys : List X) → list_any p (xs ++ ys) ≡ false → list_any p xs ≡ false
+any-first p [] ys none = refl
+any-first p (x ∷ xs) ys none = grind (arith, any-first p xs ys)
+
+pub any-second : {X : Type 0} (p : X → Bool) (xs ys : List X) → list_any p (xs ++ ys) ≡ false → list_any p ys ≡ false
+any-second p [] ys none = none
+any-second p (x ∷ xs) ys none = grind (arith, any-second p xs ys)
+
+any-later : {X : Type 0} (p : X → Bool) (m : ℕ) (xs : List X) → list_any p xs ≡ false → list_any p (drop m xs) ≡ false
+any-later p zero xs none = none
+any-later p (suc m) [] none = refl
+any-later p (suc m) (x ∷ xs) none = grind (arith, any-later p m xs)
+
+any-dropped : {X : Type 0} (p : X → Bool) (m : ℕ) (xs ys : List X) → list_any p (drop m xs) ≡ false → list_any p ys ≡ false → list_any p (drop m (xs ++ ys)) ≡ false
+any-dropped p zero xs ys none others = any-both p xs ys none others
+any-dropped p (suc m) [] ys none others = any-later p (suc m) ys others
+any-dropped p (suc m) (x ∷ xs) ys none others = any-dropped p m xs ys none others
+
+-- of those that pass another
+any-kept : (p : Commit → Bool) (test : PlainDrawn → Bool) (ds : List PlainDrawn) → list_any p (map (λ (d : PlainDrawn). d.commit) ds) ≡ false → list_any p (map (λ (d : PlainDrawn). d.commit) (filter test ds)) ≡ false
+any-kept p test [] none = refl
+any-kept p test (d ∷ ds) none = grind (arith, any-kept p test ds)
 
 -- ---- covering
 
@@ -185,10 +214,35 @@ module _ (s : Sessions) (ruling : Record) (h : Hidden) (hand : Hand) (may : MayC
           let writes : writes_key key (plain_drawn d).commit ≡ true = written-plain key d.writes ∙ list_any_at (λ (w : Write). key_eq w.key key) d.writes k w lt is in
           subst (λ (v : Version). IsSlotOf q v (slice_index_or d.writes k w).slot) (ap (λ (x : Key). version_by x (ByCommit d.timestamp)) same ∙ sym (law.written key (plain_drawn d) member (ap (λ (r : Record). is_covered_by r (plain_drawn d)) may.batch.target ∙ is_covered) writes)) (holds.writes k w lt).slot
 
+  -- a key whose commits all see has no drawn commit, so none of the batch
+  seen-covered : (key : Key) → IsSeenByAll q key → IsSeenByAll q' key
+  seen-covered key seen m used =
+      any-both p (drop m (h.history ++ hand.commits)) (map (λ (d : PlainDrawn). d.commit) (map plain_drawn drawn.commits)) (any-dropped p m h.history hand.commits (since used) of-batch) of-others
+    where
+      p : Commit → Bool
+      p = writes_key key
+
+      none-drawn : list_any p (map (λ (d : PlainDrawn). d.commit) q.drawn) ≡ false
+      none-drawn = any-second p (drop (length h.history) h.history) _ (seen (length h.history) (inl refl))
+
+      of-batch : list_any p hand.commits ≡ false
+      of-batch = ap (list_any p) law.batch ∙ any-kept p (is_covered_by hand.target) q.drawn none-drawn
+
+      of-others : list_any p (map (λ (d : PlainDrawn). d.commit) (map plain_drawn drawn.commits)) ≡ false
+      of-others = ap (λ (ds : List PlainDrawn). list_any p (map (λ (d : PlainDrawn). d.commit) ds)) (drawn-same ∙ law.rest) ∙ any-kept p (λ d. not (is_covered_by hand.target d)) q.drawn none-drawn
+
+      since : IsInUse q' m → list_any p (drop m h.history) ≡ false
+      since (inl all) = ap (list_any p) (drop_all m h.history (let longer = length-append h.history hand.commits in omega (arith, all, longer)))
+      since (inr one) = any-first p (drop m h.history) _ (seen m (inr one))
+
+  last-covered : (key : Key) (last : Option ℕ) → last ≡ (entry_at s.index key).last → HoldsLast o q key (entry_at s.index key).last → HoldsLast o q' key last
+  last-covered key last same (inl is) = inl (same ∙ is ∙ sym (ap (λ (p : State). last_on key (commits_of_life o p)) plain ∙ law.last key))
+  last-covered key last same (inr forgotten) = inr (same ∙ forgotten.0, seen-covered key forgotten.1)
+
   entry : (key : Key) → HoldsEntry o q' key (entry_at index key)
   entry key = subst (HoldsEntry o q' key) (sym (covers.entries key)) record {
     live = slot-same q q' (newest_of q' key) _ refl refl (live-commits q (newest_of q' key) key None (last_writer q'.history key) refl batch (entry_at s.index key) (newest-own key) (either (list_any (writes_key key) hand.commits) refl));
-    last = within.last_is;
+    last = last-covered key _ within.last_is old.last;
     newest = λ t slot last. newest-after o q may.keeps key h.history batch (entry_at s.index key) batch-slots old.newest t slot (ap (λ (cs : List Commit). last_row (h.history ++ cs) key) (sym commits-are) ∙ last);
     only = λ slot at. let has = within.only slot at in record { within = has.within; timestamp = has.timestamp; held = has.held };
     drawn = λ slot at. (within.drawn slot at, drawn-left slot at (list_any (λ (d : DrawnCommit). has_key key d.writes) batch) refl);
@@ -197,9 +251,9 @@ module _ (s : Sessions) (ruling : Record) (h : Hidden) (hand : Hand) (may : MayC
       old : HoldsEntry o q key (entry_at s.index key)
       old = may.agrees.index key
 
-      within : Within q key (last_on key (commits_of_life o q')) (covered_by_commits key (entry_at s.index key) batch)
-      within = within-commits q (newest_of q' key) key (last_on key (commits_of_life o q')) (last_writer q'.history key) refl batch (entry_at s.index key) (newest-own key)
-          record { last_is = old.last ∙ sym (ap (λ (p : State). last_on key (commits_of_life o p)) plain ∙ law.last key); only = old.only; drawn = λ slot at. (old.drawn slot at).0 }
+      within : Within q key (entry_at s.index key).last (covered_by_commits key (entry_at s.index key) batch)
+      within = within-commits q (newest_of q' key) key (entry_at s.index key).last (last_writer q'.history key) refl batch (entry_at s.index key) (newest-own key)
+          record { last_is = refl; only = old.only; drawn = λ slot at. (old.drawn slot at).0 }
 
       batch-slots : All (λ (d : DrawnCommit). All (HasItsSlot q (ByCommit d.timestamp)) d.writes) batch
       batch-slots = λ k d lt. (All-filter counts (HoldsDrawn s q) s.drawn.commits may.agrees.drawn k d lt).writes

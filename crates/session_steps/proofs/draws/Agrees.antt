@@ -2,7 +2,7 @@
 use Rattle.std.proofs.Common.{◌≡◌, ◌⊎◌, inl, inr, ℕ, ◌+◌, ◌/◌, ◌<◌, ◌≤◌, Bool, true, false, ◌&&◌, ◌||◌, cond, not, List, [], ◌∷◌, ◌++◌, map, length, take, drop, refl, sym, ◌∙◌, ap, subst, arith, nat_eq, nat_lt, append_assoc, Contains, get_or}
 use Rattle.std.specs.Prelude.{Option, Some, None, is_some, is_none, find, All}
 use Rattle.std.specs.List.{list_any, list_all, flat_map, range_with_len}
-use Rattle.std.specs.Option.{option_map_or, option_or, option_and_then}
+use Rattle.std.specs.Option.{option_map, option_map_or, option_or, option_and_then}
 use Rattle.std.proofs.lemmas.Bool.{and_parts, or_right, or_left}
 use Rattle.std.proofs.lemmas.Bool.Decides.{nat_tests}
 use Rattle.std.proofs.lemmas.List.Elements.{All-append, All-cons, All-nil, All-head, All-tail, All-contains, All-contains_itself}
@@ -11,12 +11,12 @@ use Rattle.std.proofs.lemmas.List.Folds.{list_any-append}
 use Rattle.std.specs.Cmp.{both_ways}
 use Rattle.std.proofs.Math.Bool.{or-false}
 use Rattle.base.specs.declared.key.Key.{Key}
-use Rattle.base.specs.Commits.{Commit, writes_key, last_writer}
+use Rattle.base.specs.Commits.{Commit, Writes, writes_key, last_writer}
 use Rattle.base.specs.Layout.{Layout, slot_start, version_lines}
 use Rattle.base.specs.Records.{is_committed}
 use Rattle.base.specs.Stands.{has_timestamp}
 use Rattle.base.proofs.Layouts.{line-words, lines-words}
-use Rattle.machine.specs.Machine.{State, Drawn as PlainDrawn, Version, Writer, BySession, ByCommit, is_by, by_commit, drawn_at, drawn_of}
+use Rattle.machine.specs.Machine.{State, Active as Reads, Drawn as PlainDrawn, Version, Writer, BySession, ByCommit, is_by, by_commit, drawn_at, drawn_of}
 use Rattle.base.proofs.Lists.{all-take, all-drop, any-map}
 use Rattle.snapshot.specs.Snapshots.{Seen, covers}
 use Rattle.txn.specs.declared.drawn.DrawnCommit.{DrawnCommit}
@@ -30,7 +30,7 @@ use Rattle.dirty_table.specs.declared.sessions.SessionSet.{SessionSet}
 use Rattle.dirty_table.specs.Touches.{is_touched, Touches}
 use Rattle.index.specs.declared.entry.Entry.{Entry}
 use Rattle.index.specs.Entries.{entry_at, has_room, live_of}
-use Rattle.state_invariant.specs.Kept.{version_by, commits_of_life, covered_since}
+use Rattle.state_invariant.specs.Kept.{IsInUse, version_by, commits_of_life, covered_since}
 use Rattle.state_invariant.specs.Links.{HoldsNewest}
 use Rattle.state_invariant.specs.Shown.{IsOutOfSwept, counts_at}
 use Rattle.state_invariant.proofs.Commits.{timestamp-all, committed-bounds, uncommitted-above}
@@ -43,7 +43,7 @@ use Rattle.simulation.specs.steps.Moves.{IsSlotOf}
 use Rattle.session_steps.specs.declared.sessions.Sessions.{Sessions}
 use Rattle.session_steps.specs.Drawing.{own_lines, ended_lines, touched_lines, drawn_entry}
 use Rattle.simulation.specs.sessions.Sees.{Sees, last_on}
-use Rattle.session_steps.specs.Shows.{Hidden, plain_of, plain_drawn, HasItsSlot, HoldsSession, HasVersionOf, HasDrawn, HoldsEntry, HoldsDrawn, HoldsLines, Agrees, has_drawn_by, line_numbers}
+use Rattle.session_steps.specs.Shows.{Hidden, plain_of, plain_session, plain_drawn, HasItsSlot, HoldsSession, HasVersionOf, HasDrawn, IsSeenByAll, HoldsLast, HoldsEntry, HoldsDrawn, HoldsLines, Agrees, has_drawn_by, line_numbers}
 use Rattle.session_steps.specs.Steps.{Holds}
 use Rattle.session_steps.proofs.slots.Held.{numbers-by-tests}
 use Rattle.simulation.proofs.sessions.Conflicts.{last_on-append}
@@ -228,17 +228,32 @@ module _ (s : Sessions) (h : Hidden) (n : ℕ) (snapshot : Seen) (writes : List 
       wrote,
     )
 
-    entry-more : (key : Key) (o : Option Write) → write_of key writes ≡ o → HoldsEntry h.origin old key (entry_at s.index key) → HoldsEntry h.origin then key (drawn_entry o t (entry_at s.index key))
-    entry-more key None none has = record {
+    -- where the session doesn't write the key, and no other snapshot is in use
+    module _ (in-use : (m : ℕ) → IsInUse then m → IsInUse old m) where
+      unseen-stays : (key : Key) → write_of key writes ≡ None → IsSeenByAll old key → IsSeenByAll then key
+      unseen-stays key none seen m used =
+          ap (λ (cs : List Commit). list_any (writes_key key) (drop m h.history ++ cs)) (drawn_of-more s.drawn.commits new)
+          ∙ ap (list_any (writes_key key)) (sym (append_assoc (drop m h.history) (drawn_of old) (commit ∷ []))) ∙ list_any-append (writes_key key) (drop m h.history ++ drawn_of old) (commit ∷ [])
+          ∙ (λ i. seen m (in-use m used) i || (unwritten i || false))
+        where
+          unwritten : writes_key key commit ≡ false
+          unwritten = writes-plain key t writes ∙ ap (λ (o : Option Write). is_some o) none
+
+      last-stays : (key : Key) → write_of key writes ≡ None → (last : Option ℕ) → HoldsLast h.origin old key last → HoldsLast h.origin then key last
+      last-stays key none last (inl is) = inl (is ∙ sym (last-more key ∙ ap (λ (o : Option Write). option_or (cond (is_some o) (Some t) None) (last_on key (commits_of_life h.origin old))) none))
+      last-stays key none last (inr forgotten) = inr (forgotten.0, unseen-stays key none forgotten.1)
+
+    entry-more : ((m : ℕ) → IsInUse then m → IsInUse old m) → (key : Key) (o : Option Write) → write_of key writes ≡ o → HoldsEntry h.origin old key (entry_at s.index key) → HoldsEntry h.origin then key (drawn_entry o t (entry_at s.index key))
+    entry-more in-use key None none has = record {
       live = slot-stays (newest_of old key) _ refl (not-now (last_writer h.history key) (newest-early key)) has.live;
-      last = has.last ∙ sym (last-more key ∙ ap (λ (o : Option Write). option_or (cond (is_some o) (Some t) None) (last_on key (commits_of_life h.origin old))) none);
+      last = last-stays in-use key none (entry_at s.index key).last has.last;
       newest = newest-more key (entry_at s.index key).newest has.newest;
       only = λ slot at. version-turns key slot (has.only slot at);
       drawn = λ slot is. let had = has.drawn slot is in (had.0, drawn-still key had.1);
     }
-    entry-more key (Some write) found has = record {
+    entry-more in-use key (Some write) found has = record {
       live = slot-stays (newest_of old key) _ refl (not-now (last_writer h.history key) (newest-early key)) has.live;
-      last = sym (last-more key ∙ ap (λ (o : Option Write). option_or (cond (is_some o) (Some t) None) (last_on key (commits_of_life h.origin old))) found);
+      last = inl (sym (last-more key ∙ ap (λ (o : Option Write). option_or (cond (is_some o) (Some t) None) (last_on key (commits_of_life h.origin old))) found));
       newest = newest-more key (entry_at s.index key).newest has.newest;
       only = λ slot at. version-turns key slot (has.only slot at);
       drawn = λ slot is. (within slot is, (t, drawn_now old (plain_writes writes), ap (find (λ (d : PlainDrawn). nat_eq d.commit.timestamp t)) drawn-more ∙ found-new h.origin old (plain_writes writes) holds.keeps.numbers, writes-plain key t writes ∙ ap (λ (o : Option Write). is_some o) found));
@@ -489,6 +504,19 @@ module _ (s : Sessions) (h : Hidden) (n : ℕ) (snapshot : Seen) (writes : List 
         of-none : (m line : ℕ) → (has_drawn_by s.drawn.commits m ≡ false) × (nat_eq n m ≡ false) → is_touched dirty m line ≡ false
         of-none m line out = touches.touched m line ∙ (λ i. holds.agrees.lines.none m line out.0 i || (out.1 i && list_any (λ l. nat_eq l line) (flat_map (touched_lines s.numbers.geometry s.index) writes)))
 
+    -- the session's snapshot isn't in use any more
+    in-use : Sets s.transactions ts n (Some (Drawn t)) → (m : ℕ) → IsInUse then m → IsInUse old m
+    in-use sets m (inl all) = inl all
+    in-use sets m (inr one) = by one.0 one.1 (nat_eq one.0 n) refl one.2
+      where
+        by : (k : ℕ) (ws : Writes) (b : Bool) → nat_eq k n ≡ b → option_map (plain_session (h.seen k)) (transaction_at ts k) ≡ Some (Reads m ws) → IsInUse old m
+        by k ws true is at' =
+            let now : transaction_at ts k ≡ Some (Drawn t) = sets k ∙ ap (λ (b : Bool). cond b (Some (Drawn t)) (transaction_at s.transactions k)) is in
+            absurd (cc (sym (ap (λ (x : Option Transaction). option_map (plain_session (h.seen k)) x) now) ∙ at'))
+        by k ws false ne at' =
+            let now : transaction_at ts k ≡ transaction_at s.transactions k = sets k ∙ ap (λ (b : Bool). cond b (Some (Drawn t)) (transaction_at s.transactions k)) ne in
+            inr (k, ws, ap (λ (x : Option Transaction). option_map (plain_session (h.seen k)) x) (sym now) ∙ at')
+
     pub agrees-drawn : Sets s.transactions ts n (Some (Drawn t)) → ((key : Key) → entry_at index key ≡ drawn_entry (write_of key writes) t (entry_at s.index key)) → ((key : Key) → has_room s.index key ≡ true → has_room index key ≡ true)
         → All (λ (w : Write). has_room index w.key ≡ true) writes → Touches n (flat_map (touched_lines s.numbers.geometry s.index) writes) s.dirty dirty → Agrees drawn h.origin h.seen then
     agrees-drawn sets entries rooms written touches = record {
@@ -496,7 +524,7 @@ module _ (s : Sessions) (h : Hidden) (n : ℕ) (snapshot : Seen) (writes : List 
       drawn = All-append (HoldsDrawn drawn then) s.drawn.commits (new ∷ []) (λ k d lt. drawn-stays _ sets rooms (early-commits k d lt) (holds.agrees.drawn k d lt)) (All-cons (HoldsDrawn drawn then) new [] (drawn-new sets written) (All-nil (HoldsDrawn drawn then)));
       free = λ slot lt. holds.agrees.free slot lt ∙ ap (λ (b : Bool). Some b) (still-none (h.held slot));
       counted = holds.agrees.counted;
-      index = λ key. subst (HoldsEntry h.origin then key) (sym (entries key)) (entry-more key (write_of key writes) refl (holds.agrees.index key));
+      index = λ key. subst (HoldsEntry h.origin then key) (sym (entries key)) (entry-more (in-use sets) key (write_of key writes) refl (holds.agrees.index key));
       lines = lines-hold touches;
       sized = let same : length dirty ≡ length s.dirty = touches.size in omega (arith, same, holds.agrees.sized);
     }

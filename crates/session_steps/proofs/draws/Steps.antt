@@ -72,7 +72,7 @@ draws-nothing s ts n snapshot h at sets holds = record {
   next = h;
   origin = refl;
   drawers = same-drawers s.drawn.commits;
-  agrees = agrees-changed s h ts s.slots h.seen h.held n (Some ReadOnly) holds.agrees sets (λ slot. inl refl) (λ m apart. refl) tt (λ k d lt there. absurd (cc (at, there))) holds.agrees.free holds.agrees.counted;
+  agrees = agrees-changed s h ts s.slots h.seen h.held n (Some ReadOnly) holds.agrees sets (λ slot. inl refl) (λ m apart. refl) tt (λ m writes begun. absurd (cc begun)) (λ k d lt there. absurd (cc (at, there))) holds.agrees.free holds.agrees.counted;
   stepped =
       let has : (plain_of s h).sessions n ≡ Some (Reads (h.seen n) []) = ap (λ (t : Option Transaction). option_map (plain_session (h.seen n)) t) at in
       answered (nothing (plain_of s h) holds.works has) (sym (ap (λ (s' : Option Session). cond (is_nil (writes_of s')) reply.Done (reply.Drawn s.numbers.next)) has))

@@ -1,5 +1,5 @@
 -- The sessions of an opened device show the state in which the life begins.
-use Rattle.std.proofs.Common.{◌≡◌, ◌≢◌, ℕ, ◌*◌, ◌<◌, ◌≤◌, Bool, true, false, List, [], ◌++◌, map, length, refl, sym, ◌∙◌, ap, subst, arith}
+use Rattle.std.proofs.Common.{◌≡◌, ◌≢◌, inl, ℕ, ◌*◌, ◌<◌, ◌≤◌, Bool, true, false, List, [], ◌++◌, map, length, refl, sym, ◌∙◌, ap, subst, arith}
 use Rattle.std.specs.Prelude.{Option, Some, None, is_none, is_some, slice_get, All}
 use Rattle.std.specs.Option.{option_map}
 use Rattle.std.proofs.lemmas.Bool.{ne_eqb, true≢false}
@@ -128,7 +128,7 @@ module _ (a : Layout) (ruling : Record) (next : ℕ) (free : List Bool) (q : Sta
     pub holds-found : HoldsEntry (origin_of q) q key (entry_at index key)
     holds-found = record {
       live = subst (IsSlotOf q (newest_of q key)) (sym (ap (λ (e : Entry). live_of e) (found.nothing_else key))) (newest-slot (entry_at index key).newest refl);
-      last = ap (λ (e : Entry). e.last) (found.nothing_else key) ∙ ap (last_on key) (sym life);
+      last = inl (ap (λ (e : Entry). e.last) (found.nothing_else key) ∙ ap (last_on key) (sym life));
       newest = λ t slot last lt held. newest-found slot t lt held (entry_at index key).newest refl;
       only = λ slot at. let is = newest-slot (Some slot) at in record { within = is.0; timestamp = last_writer q.history key; held = is.1 };
       drawn = λ slot at. absurd (none-some slot (sym (ap (λ (e : Entry). e.drawn) (found.nothing_else key)) ∙ at));

@@ -180,7 +180,10 @@ module _ (s : Sessions) (h : Hidden) (n : ℕ) (snapshot : Seen) (writes : List 
           all-with_write_at (HasItsSlot then (BySession n)) new writes (rising-plain h.origin q n (h.seen n) writes holds.upholds.keeps here) (record { slot = (lt, its); row = refl })
               (λ k d below apart. record { slot = others _ apart _ (session.1 k d below).slot; row = (session.1 k d below).row }),
         )
-        (λ k d below there. absurd (cc (at, there))) free counted
+        (λ m ws begun. inr (n, plain_writes writes, here ∙ ap (λ (k : ℕ). Some (Reads k (plain_writes writes))) (begun-is m ws begun))) (λ k d below there. absurd (cc (at, there))) free counted
+      where
+        begun-is : (m : ℕ) (ws : Writes) → Some (Reads (h.seen n) (plain_writes (with_write_at new writes))) ≡ Some (Reads m ws) → h.seen n ≡ m
+        begun-is m ws begun = cc begun
 
     -- all of it
     goes-put : Agrees after-put h.origin h.seen then → Fits s.numbers.geometry v → v.previous ≡ head_of (entry_at s.index v.key) → refusal q (step.Put n v.key v.row) ≡ None → slot < s.numbers.geometry.slots → held_after_put q n v.key slot ≡ Some (version_by v.key (BySession n))

@@ -70,7 +70,7 @@ aborts s ts slots n snapshot writes h at gives sets holds = record {
   next = record h { held = held_after_abort (plain_of s h) n };
   origin = refl;
   drawers = same-drawers s.drawn.commits;
-  agrees = agrees-changed s h ts slots h.seen (held_after_abort (plain_of s h) n) n None holds.agrees sets (λ slot. moves slot (is_held_by n (h.held slot)) refl) (λ m apart. refl) tt
+  agrees = agrees-changed s h ts slots h.seen (held_after_abort (plain_of s h) n) n None holds.agrees sets (λ slot. moves slot (is_held_by n (h.held slot)) refl) (λ m apart. refl) tt (λ m ws begun. absurd (cc begun))
       (λ k d lt there. absurd (cc (at, there))) (λ slot lt. free slot lt (is_held_by n (h.held slot)) refl) (gives.size ∙ holds.agrees.counted);
   stepped = answered (passes (plain_of s h) (step.Abort n) n _ holds.works refl (found s h n _ at) refl) refl
       (λ i. record (plain_of s h) { sessions = λ m. sessions-kept s.transactions ts h.seen n None sets m i; held = held_after_abort (plain_of s h) n });
@@ -134,13 +134,16 @@ deletes s ts slots n key place snapshot writes h at full gives sets holds = reco
   drawers = same-drawers s.drawn.commits;
   agrees = agrees-changed s h ts slots h.seen held n (Some (Active snapshot (with_write_at (deletion key place) writes))) holds.agrees sets (λ slot. moves slot (is_own_at n key (h.held slot)) refl) (λ m apart. refl)
       (record { covered = session.0.covered; early = session.0.early; gaps = session.0.gaps }, written)
-      (λ k d lt there. absurd (cc (at, there))) (λ slot lt. free slot lt (is_own_at n key (h.held slot)) refl (own_of key writes) own gives) (counted (own_of key writes) gives);
+      (λ m ws begun. inr (n, plain_writes writes, found s h n _ at ∙ ap (λ (k : ℕ). Some (Reads k (plain_writes writes))) (begun-is m ws begun))) (λ k d lt there. absurd (cc (at, there))) (λ slot lt. free slot lt (is_own_at n key (h.held slot)) refl (own_of key writes) own gives) (counted (own_of key writes) gives);
   stepped = answered (delete-asks s h n key snapshot writes false holds at full) refl
       (λ i. record (plain_of s h) { sessions = λ m. (sessions-kept s.transactions ts h.seen n (Some (Active snapshot (with_write_at (deletion key place) writes))) sets m ∙ ap (λ (x : Option Session). replaced n x (plain_of s h).sessions m) now) i; held = held });
 }
   where
     held : ℕ → Option Version
     held = held_after_delete (plain_of s h) n key
+
+    begun-is : (m : ℕ) (ws : Writes) → Some (Reads (h.seen n) (plain_writes (with_write_at (deletion key place) writes))) ≡ Some (Reads m ws) → h.seen n ≡ m
+    begun-is m ws begun = cc begun
 
     session : HoldsSession h.origin (plain_of s h) n (h.seen n) (Some (Active snapshot writes))
     session = subst (HoldsSession h.origin (plain_of s h) n (h.seen n)) at (holds.agrees.sessions n)

@@ -1,5 +1,5 @@
 -- Stamp.
-use Rattle.std.proofs.Common.{◌≡◌, ℕ, ◌+◌, ◌<◌, Bool, true, false, ◌&&◌, ◌||◌, cond, not, List, [], ◌∷◌, ◌++◌, length, map, refl, sym, ◌∙◌, ap, subst, arith, nat_eq, nat_lt, nat_le, get_or}
+use Rattle.std.proofs.Common.{◌≡◌, inl, inr, ℕ, ◌+◌, ◌<◌, Bool, true, false, ◌&&◌, ◌||◌, cond, not, List, [], ◌∷◌, ◌++◌, length, map, drop, refl, sym, ◌∙◌, ap, subst, arith, nat_eq, nat_lt, nat_le, get_or}
 use Rattle.std.specs.Prelude.{Option, Some, None, All, find}
 use Rattle.std.specs.List.{list_any, list_all}
 use Rattle.std.specs.Option.{option_map}
@@ -8,6 +8,7 @@ use Rattle.std.proofs.lemmas.Bool.Decides.{nat_tests}
 use Rattle.std.proofs.lemmas.List.{append-nil}
 use Rattle.std.proofs.lemmas.List.Elements.{All-map, All-head, All-tail}
 use Rattle.std.proofs.lemmas.Option.{slice_get_within, get_or_from_slice_get}
+use Rattle.base.specs.declared.key.Key.{Key}
 use Rattle.base.specs.declared.fault.Fault.{Fault}
 use Rattle.base.specs.declared.fault.Fault.TheVariants.{Device as DeviceFault}
 use Rattle.base.specs.declared.step.Step.TheVariants as step
@@ -48,7 +49,7 @@ use Rattle.session_steps.specs.declared.sessions.Sessions.{Sessions}
 use Rattle.session_steps.specs.declared.stamp.Unstamped.{Unstamped}
 use Rattle.session_steps.specs.Stamping.{IsNextOf, has_left, is_unstamped}
 use Rattle.simulation.specs.sessions.Sees.{last_on}
-use Rattle.session_steps.specs.Shows.{Hidden, plain_of, plain_session, plain_drawn, HoldsSession, HoldsDrawn, Agrees, has_drawn_by, line_numbers}
+use Rattle.session_steps.specs.Shows.{Hidden, plain_of, plain_session, plain_drawn, HoldsSession, HoldsLast, HoldsDrawn, Agrees, has_drawn_by, line_numbers}
 use Rattle.session_steps.specs.Steps.{Holds, HoldsOn, GoesOn, IsBarred, is_by_actor}
 use Rattle.session_steps.proofs.transactions.Steps.{found, barred-refusal, covered-or-drawn, drawn-plain}
 use Rattle.session_steps.proofs.Refusals.{passes}
@@ -107,6 +108,11 @@ module _ (s : Sessions) (h : Hidden) (t spare : ℕ) where
   drawn-stamped : (d : DrawnCommit) → HoldsDrawn s (plain_of s h) d → HoldsDrawn stamped (plain_of stamped h) (with_stamp t d)
   drawn-stamped d has = grind (arith) steps 800000
 
+  last-stamped : (key : Key) (last : Option ℕ) → HoldsLast h.origin (plain_of s h) key last → HoldsLast h.origin (plain_of stamped h) key last
+  last-stamped key last (inl is) = inl (is ∙ ap (λ (cs : List Commit). last_on key (covered_since h.origin (plain_of s h) ++ cs)) (sym (commits-stamped t s.drawn.commits)))
+  last-stamped key last (inr forgotten) =
+      inr (forgotten.0, λ m used. ap (λ (cs : List Commit). list_any (writes_key key) (drop m h.history ++ cs)) (commits-stamped t s.drawn.commits) ∙ forgotten.1 m used)
+
   pub agrees-stamped : Agrees s h.origin h.seen (plain_of s h) → Agrees stamped h.origin h.seen (plain_of stamped h)
   agrees-stamped agrees = record {
     sessions = λ n. session-stamped n (h.seen n) (transaction_at s.transactions n) (agrees.sessions n);
@@ -115,7 +121,7 @@ module _ (s : Sessions) (h : Hidden) (t spare : ℕ) where
     counted = agrees.counted;
     index = λ key. let e = agrees.index key in record {
       live = e.live;
-      last = e.last ∙ ap (λ (cs : List Commit). last_on key (covered_since h.origin (plain_of s h) ++ cs)) (sym (commits-stamped t s.drawn.commits));
+      last = last-stamped key (entry_at s.index key).last e.last;
       newest = e.newest;
       only = λ slot at. let has = e.only slot at in record { within = has.within; timestamp = has.timestamp; held = has.held };
       drawn = λ slot at. let has = e.drawn slot at in let still = found-stamped t has.1.0 s.drawn.commits has.1.1 has.1.2 in (has.0, (has.1.0, still.0, still.1, ap (writes_key key) still.2 ∙ has.1.3));

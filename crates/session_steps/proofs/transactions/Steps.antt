@@ -14,6 +14,7 @@ use Rattle.base.specs.declared.step.SessionStep.TheVariants.{Begin, End, Poll}
 use Rattle.base.specs.declared.step.SessionReply.{SessionReply}
 use Rattle.base.specs.declared.step.SessionReply.TheVariants.{Began, Done, Waiting, Committed, Refused}
 use Rattle.base.specs.Steps.{as_step, as_reply}
+use Rattle.base.specs.Commits.{Writes}
 use Rattle.base.specs.Stands.{has_timestamp}
 use Rattle.base.specs.Records.{is_committed}
 use Rattle.base.specs.Lists.{replaced}
@@ -106,7 +107,7 @@ begins s ts n snapshot h lowest is sets holds = record {
   drawers = same-drawers s.drawn.commits;
   agrees = agrees-changed s h ts s.slots seen h.held n (Some (Active snapshot [])) holds.agrees sets (λ slot. inl refl) (λ m apart. replaced-other n m (length h.history) h.seen apart)
       (subst (λ (k : ℕ). HoldsSession h.origin (plain_of (record s { transactions = ts }) (record h { seen = seen })) n k (Some (Active snapshot []))) (sym (replaced-same n (length h.history) h.seen)) (sees, All-nil _))
-      (λ k d lt there. absurd (cc (lowest.free, there))) holds.agrees.free holds.agrees.counted;
+      (λ m writes at. inl (begun m writes at)) (λ k d lt there. absurd (cc (lowest.free, there))) holds.agrees.free holds.agrees.counted;
   stepped =
       let free = free-at s h n lowest in
       answered (refusal-begin (plain_of s h) false holds.works (ap (λ (o : Option ℕ). is_none o) free)) (ap (λ (o : Option ℕ). reply.Began (unwrap_or o 0)) (sym free))
@@ -117,6 +118,9 @@ begins s ts n snapshot h lowest is sets holds = record {
   where
     seen : ℕ → ℕ
     seen = replaced n (length h.history) h.seen
+
+    begun : (m : ℕ) (writes : Writes) → Some (Reads (seen n) []) ≡ Some (Reads m writes) → m ≡ length h.history
+    begun m writes at = let same : seen n ≡ m = cc at in sym same ∙ replaced-same n (length h.history) h.seen
 
     sees : Sees h.origin (plain_of (record s { transactions = ts }) (record h { seen = seen })) snapshot (length h.history)
     sees =
@@ -142,7 +146,7 @@ ends s ts n h over sets holds = record {
   next = h;
   origin = refl;
   drawers = same-drawers s.drawn.commits;
-  agrees = agrees-changed s h ts s.slots h.seen h.held n None holds.agrees sets (λ slot. inl refl) (λ m apart. refl) tt (apart (transaction_at s.transactions n) refl over) holds.agrees.free holds.agrees.counted;
+  agrees = agrees-changed s h ts s.slots h.seen h.held n None holds.agrees sets (λ slot. inl refl) (λ m apart. refl) tt (λ m writes at. absurd (cc at)) (apart (transaction_at s.transactions n) refl over) holds.agrees.free holds.agrees.counted;
   stepped = answered (allowed (transaction_at s.transactions n) refl over) refl (λ i. record (plain_of s h) { sessions = λ m. sessions-kept s.transactions ts h.seen n None sets m i });
 }
   where

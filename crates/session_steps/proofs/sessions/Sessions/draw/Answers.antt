@@ -10,6 +10,8 @@ use Rattle.session_steps.proofs.transactions.Steps.{inactive, refuses}
 use Rattle.txn.specs.Transactions.{transaction_at}
 use Rattle.session_steps.specs.Steps.{is_active}
 use Rattle.session_steps.proofs.CodeTests.{nothing-is, some-is, barred}
+use Rattle.session_steps.specs.Replies.{drawn}
+use Rattle.session_steps.proofs.Settled.{takes-tidied}
 use Rattle.session_steps.proofs.sessions.Sessions.draw.Goals as goal
 
 pub returns-in-Err : goal.returns-in-Err
@@ -43,3 +45,6 @@ returns-then-is_near_limit c = record {
 
 pub is_near_limit-requires : goal.is_near_limit-requires
 is_near_limit-requires c = ∥∥₁_elim c.requires.shown le_prop (λ shown. next-below c.args.self.now shown.0 shown.1)
+
+pub returns : goal.returns
+returns c = record { step = takes-tidied c.args.self.now c.draw_next-drawn.new.self c.settle_next.new.self (Draw c.args.session) (drawn c.draw_next-drawn.result) c.settle_next.ensures c.draw_next-drawn.ensures.step }

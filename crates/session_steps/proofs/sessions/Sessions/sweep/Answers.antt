@@ -11,6 +11,7 @@ use Rattle.slot_alloc.specs.Free.{is_free}
 use Rattle.session_steps.specs.Collecting.{all_cover}
 use Rattle.session_steps.proofs.reads.Tables.{gaps-shown, words-shown}
 use Rattle.session_steps.proofs.collector.Visits.{collects-at, collects-end, collects-stopped, collects-shown, same-operations, shown-any, words-kept, counted-shown}
+use Rattle.session_steps.proofs.Settled.{collects-tidied}
 use Rattle.session_steps.proofs.sessions.Sessions.sweep.Goals as goal
 
 pub of-gaps-requires : goal.of-gaps-requires
@@ -22,16 +23,17 @@ tick-requires-clause-slots g c = ∥∥₁_elim c.requires.shown (ℕ_set _ _) (
 pub tick-requires-clause-size : goal.tick-requires-clause-size
 tick-requires-clause-size g c = ∥∥₁_elim c.requires.shown (ℕ_set _ _) (λ some. words-shown c.args.self.now (g.D.Pmem.state c.args.device.now) (g.met.D.Pmem.orderly _) (shown-any _ _ some))
 
-pub forget_freed-requires-clause-device : goal.forget_freed-requires-clause-device
-forget_freed-requires-clause-device g c = words-kept c.args.self.now.numbers.geometry _ _ _ _ _ c.in-Ok-Slot.ensures.run ∙ ∥∥₁_elim c.requires.shown (ℕ_set _ _) (λ some. words-shown c.args.self.now (g.D.Pmem.state c.args.device.now) (g.met.D.Pmem.orderly _) (shown-any _ _ some))
+pub forget_freed-place-requires-clause-device : goal.forget_freed-place-requires-clause-device
+forget_freed-place-requires-clause-device g c = words-kept c.args.self.now.numbers.geometry _ _ _ _ _ c.in-Ok-Slot.ensures.run ∙ ∥∥₁_elim c.requires.shown (ℕ_set _ _) (λ some. words-shown c.args.self.now (g.D.Pmem.state c.args.device.now) (g.met.D.Pmem.orderly _) (shown-any _ _ some))
 
 pub returns-in-Ok-Slot-clause-step : goal.returns-in-Ok-Slot-clause-step
 returns-in-Ok-Slot-clause-step g c =
-    collects-shown c.args.self.now _ (g.D.Pmem.state c.args.device.now) (g.D.Pmem.state c.tick.new.device) _
-    (λ h holds. collects-at c.args.self.now h (g.D.Pmem.state c.args.device.now) (g.D.Pmem.state c.tick.new.device) holds (g.met.D.Pmem.orderly _) (g.met.D.Pmem.orderly _) c.in-Ok-Slot.slot (seen_by c.args.self.now.numbers.record) c.tick.new.self c.is_free-was_free.result c.tick.new.slots c.forget_freed.new.index
+    collects-tidied c.args.self.now _ c.settle.new.self (g.D.Pmem.state c.args.device.now) (g.D.Pmem.state c.tick.new.device) _ c.settle.ensures
+    (collects-shown c.args.self.now _ (g.D.Pmem.state c.args.device.now) (g.D.Pmem.state c.tick.new.device) _
+    (λ h holds. collects-at c.args.self.now h (g.D.Pmem.state c.args.device.now) (g.D.Pmem.state c.tick.new.device) holds (g.met.D.Pmem.orderly _) (g.met.D.Pmem.orderly _) c.in-Ok-Slot.slot (seen_by c.args.self.now.numbers.record) c.tick.new.self c.is_free-was_free.result c.tick.new.slots c.forget_freed-place.new.index
     refl (sym c.in-Ok-Slot.field-0-is ∙ c.in-Ok-Slot.ensures.visit) c.in-Ok-Slot.ensures.moved c.in-Ok-Slot.ensures.freed
     (subst (λ (ops : List Operation). Runs ops (g.D.Pmem.state c.args.device.now) (g.D.Pmem.state c.tick.new.device)) (same-operations c.args.self.now.numbers.geometry c.of-gaps.result c.args.self.now.numbers.record.gaps c.args.self.now.collector.swept c.args.self.now.collector.place (value_of (g.D.Pmem.state c.args.device.now)) (λ unswept. c.of-gaps.ensures ∙ c.gaps.ensures)) c.in-Ok-Slot.ensures.run)
-    (c.is_free-was_free.ensures ∙ ap (is_free c.args.self.now.slots) c.place.ensures) c.forget_freed.ensures.forgets c.forget_freed.ensures.room)
+    (c.is_free-was_free.ensures ∙ ap (is_free c.args.self.now.slots) c.place.ensures) c.forget_freed-place.ensures.forgets c.forget_freed-place.ensures.room))
 
 pub returns-in-Ok-SweepEnd-clause-step : goal.returns-in-Ok-SweepEnd-clause-step
 returns-in-Ok-SweepEnd-clause-step g c =

@@ -6,6 +6,7 @@ use Rattle.slot_alloc.specs.Free.{is_free}
 use Rattle.session_steps.specs.Collecting.{all_cover}
 use Rattle.session_steps.proofs.reads.Tables.{words-shown}
 use Rattle.session_steps.proofs.collector.Visits.{collects-at, collects-end, collects-shown, counted-shown, shown-any, swept-runs}
+use Rattle.session_steps.proofs.Settled.{collects-tidied}
 use Rattle.session_steps.proofs.sessions.Sessions.visit.Goals as goal
 
 pub visit-requires-clause-slots : goal.visit-requires-clause-slots
@@ -14,16 +15,17 @@ visit-requires-clause-slots g c = ∥∥₁_elim c.requires.shown (ℕ_set _ _) 
 pub visit-requires-clause-size : goal.visit-requires-clause-size
 visit-requires-clause-size g c = ∥∥₁_elim c.requires.shown (ℕ_set _ _) (λ some. words-shown c.args.self.now (g.D.Pmem.state c.args.device.now) (g.met.D.Pmem.orderly _) (shown-any _ _ some))
 
-pub forget_freed-requires-clause-device : goal.forget_freed-requires-clause-device
-forget_freed-requires-clause-device g c = ∥∥₁_elim c.requires.shown (ℕ_set _ _) (λ some. words-shown c.args.self.now (g.D.Pmem.state c.args.device.now) (g.met.D.Pmem.orderly _) (shown-any _ _ some))
+pub forget_freed-place-requires-clause-device : goal.forget_freed-place-requires-clause-device
+forget_freed-place-requires-clause-device g c = ∥∥₁_elim c.requires.shown (ℕ_set _ _) (λ some. words-shown c.args.self.now (g.D.Pmem.state c.args.device.now) (g.met.D.Pmem.orderly _) (shown-any _ _ some))
 
 pub returns-in-Slot : goal.returns-in-Slot
 returns-in-Slot g c =
-    collects-shown c.args.self.now _ (g.D.Pmem.state c.args.device.now) (g.D.Pmem.state c.args.device.now) _
-    (λ h holds. collects-at c.args.self.now h (g.D.Pmem.state c.args.device.now) (g.D.Pmem.state c.args.device.now) holds (g.met.D.Pmem.orderly _) (g.met.D.Pmem.orderly _) c.in-Slot.slot (seen_by c.args.self.now.numbers.record) c.visit.new.self c.is_free-was_free.result c.visit.new.slots c.forget_freed.new.index
+    collects-tidied c.args.self.now _ c.settle.new.self (g.D.Pmem.state c.args.device.now) (g.D.Pmem.state c.args.device.now) _ c.settle.ensures
+    (collects-shown c.args.self.now _ (g.D.Pmem.state c.args.device.now) (g.D.Pmem.state c.args.device.now) _
+    (λ h holds. collects-at c.args.self.now h (g.D.Pmem.state c.args.device.now) (g.D.Pmem.state c.args.device.now) holds (g.met.D.Pmem.orderly _) (g.met.D.Pmem.orderly _) c.in-Slot.slot (seen_by c.args.self.now.numbers.record) c.visit.new.self c.is_free-was_free.result c.visit.new.slots c.forget_freed-place.new.index
     refl (sym c.in-Slot.is ∙ c.visit.ensures.visit) c.visit.ensures.moved c.visit.ensures.freed
     (swept-runs c.args.self.now.numbers.geometry c.args.self.now.numbers.record.gaps c.args.self.now.collector.swept c.args.self.now.collector.place (g.D.Pmem.state c.args.device.now) (g.met.D.Pmem.orderly _) c.requires.swept)
-    (c.is_free-was_free.ensures ∙ ap (is_free c.args.self.now.slots) c.place.ensures) c.forget_freed.ensures.forgets c.forget_freed.ensures.room)
+    (c.is_free-was_free.ensures ∙ ap (is_free c.args.self.now.slots) c.place.ensures) c.forget_freed-place.ensures.forgets c.forget_freed-place.ensures.room))
 
 pub returns-in-SweepEnd : goal.returns-in-SweepEnd
 returns-in-SweepEnd g c =

@@ -1,0 +1,75 @@
+use Rattle.std.proofs.Common.{◌≡◌, ℕ, ◌-◌, ◌<◌, Some, None, cond, List, length, take, set, get_or, sym, ◌∙◌, ap, subst, arith, rules}
+use Rattle.std.specs.Prelude.{Option, slice_get}
+use Rattle.std.proofs.lemmas.Option.{slice_get_read, slice_get_within, get_or_from_slice_get}
+use Rattle.base.specs.declared.key.Key.{Key}
+use Rattle.base.specs.Keys.{key_eq}
+use Rattle.base.proofs.KeyOrder.{looked-up}
+use Rattle.index.specs.declared.entry.Entry.{Entry}
+use Rattle.index.specs.Entries.{blank, entry_at, IsAt, Sets, LosesRoom}
+use Rattle.index.proofs.Changes.{updated}
+use Rattle.index.proofs.Removals.{removed-placed, removed-sets, removed-loses, updated-out}
+use Rattle.index.proofs.map.Index.take_out.Goals as goal
+
+abbrev Entries : Type 0
+Entries = List (Key × Entry)
+
+here : (now inside : Entries) (place : ℕ) (key : Key) → inside ≡ now → IsAt now place key → IsAt inside place key
+here now inside place key is there = subst (λ (es : Entries). IsAt es place key) (sym is) there
+
+within : (entries : Entries) (place : ℕ) (key : Key) → IsAt entries place key → place < length entries
+within entries place key at = slice_get_within entries place (key, entry_at entries key) at
+
+-- the last entry, and its key
+last-is : (entries : Entries) (place n : ℕ) (x : Key × Entry) (moved : Key) → place < length entries → n ≡ length entries → x ≡ get_or entries (n - 1) x → moved ≡ x.0 → slice_get entries (length entries - 1) ≡ Some (moved, x.1)
+last-is entries place n x moved lt counted read is =
+    ap (λ (k : ℕ). slice_get entries (k - 1)) (sym counted) ∙ slice_get_read entries n (n - 1) x counted (omega (arith, lt, counted)) read ∙ (λ i. Some (sym is i, x.1))
+
+-- what is left
+left-is : (entries left : Entries) (place : ℕ) (d x : Key × Entry) → slice_get entries (length entries - 1) ≡ Some x → left ≡ take (length entries - 1) (set entries place (get_or entries (length entries - 1) d)) → left ≡ take (length entries - 1) (set entries place x)
+left-is entries left place d x last is = is ∙ ap (λ (y : Key × Entry). take (length entries - 1) (set entries place y)) (get_or_from_slice_get entries (length entries - 1) x d last)
+
+pub unreachable-requires : goal.unreachable-requires
+unreachable-requires c =
+    let entries = c.self.inside.entries.items in
+    let at = here c.args.self.now entries c.args.place c.args.key c.self.view_is c.requires in
+    let counted : c.len-last.result ≡ length entries = search rules in
+    let last = last-is entries c.args.place c.len-last.result c.index.result.now c.key-moved.result (within entries c.args.place c.args.key at) counted c.index.ensures c.key-moved.ensures in
+    absurd (cc (sym (c.self.invariant.once c.key-moved.result (length entries - 1) c.index.result.now.1 last) ∙ looked-up c.self.inside.places.entries c.key-moved.result ∙ c.in_default.ensures.absent))
+
+pub swap_remove-requires : goal.swap_remove-requires
+swap_remove-requires c = grind (arith, within, here)
+
+pub invariant_of-self : goal.invariant_of-self
+invariant_of-self c =
+    let entries = c.self.inside.entries.items in
+    let places = c.self.inside.places.entries in
+    let at = here c.args.self.now entries c.args.place c.args.key c.self.view_is c.requires in
+    let counted : c.len-last.result ≡ length entries = search rules in
+    let last = last-is entries c.args.place c.len-last.result c.index.result.now c.key-moved.result (within entries c.args.place c.args.key at) counted c.index.ensures c.key-moved.ensures in
+    removed-placed places entries c.self.invariant c.args.key c.args.place at c.key-moved.result c.index.result.now.1 last c.swap_remove.new.self.items
+    (left-is entries c.swap_remove.new.self.items c.args.place c.swap_remove.result (c.key-moved.result, c.index.result.now.1) last c.swap_remove.ensures.items) c.remove.new.self.entries
+    (λ k. updated-out c.insert.new.self.entries c.remove.new.self.entries c.args.key c.remove.ensures.updates.0 k ∙ ap (λ (o : Option ℕ). cond (key_eq c.args.key k) None o) (updated places c.insert.new.self.entries c.key-moved.result c.args.place c.in-Ok.ensures.updates.0 k))
+
+pub returns-clause-entries : goal.returns-clause-entries
+returns-clause-entries c =
+    let entries = c.self.inside.entries.items in
+    let places = c.self.inside.places.entries in
+    let at = here c.args.self.now entries c.args.place c.args.key c.self.view_is c.requires in
+    let counted : c.len-last.result ≡ length entries = search rules in
+    let last = last-is entries c.args.place c.len-last.result c.index.result.now c.key-moved.result (within entries c.args.place c.args.key at) counted c.index.ensures c.key-moved.ensures in
+    subst (λ (es : Entries). Sets es c.swap_remove.new.self.items c.args.key blank) c.self.view_is
+    (removed-sets places entries c.self.invariant c.args.key c.args.place at c.key-moved.result c.index.result.now.1 last c.swap_remove.new.self.items
+    (left-is entries c.swap_remove.new.self.items c.args.place c.swap_remove.result (c.key-moved.result, c.index.result.now.1) last c.swap_remove.ensures.items) c.remove.new.self.entries
+    (λ k. updated-out c.insert.new.self.entries c.remove.new.self.entries c.args.key c.remove.ensures.updates.0 k ∙ ap (λ (o : Option ℕ). cond (key_eq c.args.key k) None o) (updated places c.insert.new.self.entries c.key-moved.result c.args.place c.in-Ok.ensures.updates.0 k)))
+
+pub returns-clause-room : goal.returns-clause-room
+returns-clause-room c =
+    let entries = c.self.inside.entries.items in
+    let places = c.self.inside.places.entries in
+    let at = here c.args.self.now entries c.args.place c.args.key c.self.view_is c.requires in
+    let counted : c.len-last.result ≡ length entries = search rules in
+    let last = last-is entries c.args.place c.len-last.result c.index.result.now c.key-moved.result (within entries c.args.place c.args.key at) counted c.index.ensures c.key-moved.ensures in
+    subst (λ (es : Entries). LosesRoom es c.swap_remove.new.self.items c.args.key) c.self.view_is
+    (removed-loses places entries c.self.invariant c.args.key c.args.place at c.key-moved.result c.index.result.now.1 last c.swap_remove.new.self.items
+    (left-is entries c.swap_remove.new.self.items c.args.place c.swap_remove.result (c.key-moved.result, c.index.result.now.1) last c.swap_remove.ensures.items) c.remove.new.self.entries
+    (λ k. updated-out c.insert.new.self.entries c.remove.new.self.entries c.args.key c.remove.ensures.updates.0 k ∙ ap (λ (o : Option ℕ). cond (key_eq c.args.key k) None o) (updated places c.insert.new.self.entries c.key-moved.result c.args.place c.in-Ok.ensures.updates.0 k)))
