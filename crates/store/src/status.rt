@@ -1,4 +1,5 @@
-ghost use Rattle.std.specs.Prelude.{◌≡◌};
+ghost use Rattle.std.specs.Prelude.{◌≡◌, ◌≤◌, min};
+ghost use Rattle.store.specs.Status.{draws_left, records_left};
 
 use base::geometry::Geometry;
 use base::{NUMBER_LIMIT, Ts};
@@ -26,7 +27,8 @@ pub struct Status {
     pub longs: usize,
     /// How many ranges of timestamps that never counted are left to be swept.
     pub gaps: usize,
-    /// How many timestamps are left to be drawn.
+    /// How many commits may still be made: as many timestamps may be drawn, and as many records may follow. A record may cover
+    /// more commits than one.
     pub left: u64,
     /// How many rows are committed, of all tables.
     pub rows: usize,
@@ -37,7 +39,7 @@ pub struct Status {
 }
 
 impl Status {
-    ghost use Rattle.std.specs.Prelude.{◌≡◌, ◌-◌};
+    ghost use Rattle.std.specs.Prelude.{◌-◌};
     ghost use Rattle.machine.specs.Machine.{State};
     ghost use Rattle.room.specs.Room.{ShowsStatus};
     ghost use Rattle.room.specs.Usage.{ShowsUsage};
@@ -59,10 +61,20 @@ impl Status {
             persisted: numbers.persisted,
             longs: numbers.longs.as_slice().len(),
             gaps: numbers.gaps.as_slice().len(),
-            left: NUMBER_LIMIT.saturating_sub(numbers.next),
+            left: commits_left(geometry.window(), numbers.next, numbers.gate),
             rows: usage.rows,
             versions: geometry.slots().saturating_sub(usage.free),
             free: usage.free,
         }
     }
+}
+
+// How many commits may still be made, by their timestamps and by the numbers of their records.
+fn commits_left(window: u64, next: Ts, gate: u64) -> u64
+    requires { window ≤ 1024 }
+    ensures { result ≡ min (draws_left window next) (records_left gate) }
+{
+    let draws = NUMBER_LIMIT.saturating_sub(next.saturating_add(2 * window));
+    let records = NUMBER_LIMIT.saturating_sub(gate.saturating_add(1));
+    draws.min(records)
 }

@@ -27,7 +27,7 @@ pub fn make_each<R: Print + Wait + Drop>(rt: &R, store: &Store<R>) -> Result<(),
     show_numbers(rt, store)
 }
 
-// The layout, and how far it has come. The timestamps that are left are those below 2^62 but for the one that is drawn.
+// The layout, and how far it has come. Commits are left up to two windows before 2^62: timestamp 1 is drawn, so 2^62 - 2 - 2 * 64.
 fn show_numbers<R: Print + Wait + Drop>(rt: &R, store: &Store<R>) -> Result<(), Error> {
     let status = store.status();
     println!(rt;
