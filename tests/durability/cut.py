@@ -5,7 +5,7 @@ import signal
 import subprocess
 
 from journal import bytes_of, has_no_journal, tail_of
-from store import Lost, rows_in
+from store import SMALL, Lost, rows_in
 
 ROWS = {at: f"{at:02x}" for at in range(1, 9)}
 LAYOUTS = (("--slots", "16", "--places", "2", "--window", "8"), ("--slots", "16", "--places", "2", "--window", "8", "--wide"), ("--slots", "40", "--places", "5", "--window", "16"))
@@ -25,9 +25,9 @@ def contents(file):
 def left_open(kv, file, is_made):
     """The bytes of a file whose journal has rows that its image doesn't have in place; it was made and closed before, or not."""
     if is_made:
-        subprocess.run([kv, file], input="", capture_output=True, text=True, timeout=60, check=True)
+        subprocess.run([kv, *SMALL, file], input="", capture_output=True, text=True, timeout=60, check=True)
     lines = "".join(f"put 1 {at} {row}\n" for at, row in ROWS.items())
-    with subprocess.Popen([kv, file], stdin=subprocess.PIPE, stdout=subprocess.PIPE, stderr=subprocess.DEVNULL, text=True) as run:
+    with subprocess.Popen([kv, *SMALL, file], stdin=subprocess.PIPE, stdout=subprocess.PIPE, stderr=subprocess.DEVNULL, text=True) as run:
         run.stdin.write(lines)
         run.stdin.flush()
         for _ in range(1 + len(ROWS)):

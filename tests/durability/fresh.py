@@ -4,7 +4,7 @@ import re
 import subprocess
 import time
 
-from store import Lost
+from store import SMALL, Lost
 
 
 def run(kv, folder, rng, kills, most_seconds=0.05):
@@ -13,7 +13,7 @@ def run(kv, folder, rng, kills, most_seconds=0.05):
     for kill in range(kills):
         if os.path.exists(file):
             os.remove(file)
-        child = subprocess.Popen([kv, file], stdin=subprocess.PIPE, stdout=subprocess.PIPE, stderr=subprocess.DEVNULL, text=True)
+        child = subprocess.Popen([kv, *SMALL, file], stdin=subprocess.PIPE, stdout=subprocess.PIPE, stderr=subprocess.DEVNULL, text=True)
         time.sleep(rng.uniform(0.0, most_seconds))
         child.kill()
         output = child.stdout.read()
@@ -26,7 +26,7 @@ def run(kv, folder, rng, kills, most_seconds=0.05):
             missing += 1
         else:
             within += 1
-        again = subprocess.run([kv, file], input="scan 1 0 100\nput 1 1 aa\nget 1 1\n", capture_output=True, text=True)
+        again = subprocess.run([kv, *SMALL, file], input="scan 1 0 100\nput 1 1 aa\nget 1 1\n", capture_output=True, text=True)
         answers = re.sub(r"committed \d+", "committed", again.stdout).split("\n")[:-1]
         if again.returncode != 0 or answers != ["ready", "end 0", "committed", "row aa", "closed"]:
             raise Lost(f"kill {kill}: {again.stdout} {again.stderr}")

@@ -318,7 +318,7 @@ def numbers_end(wbl, kv, folder):
     words = list(struct.unpack(f"<{len(image) // 8}Q", image))
     words[8:11] = [2**62 - 2, 5, 6]
     image = struct.pack(f"<{len(words)}Q", *words)
-    runs = ([wbl, "run", file], COMMIT, "refused 15 TimestampsOut"), ([wbl, "threads", file, "--sessions", "2", "--commits", "2"], "", "refused 15 TimestampsOut"), ([kv, file, "--slots", "4", "--places", "2", "--window", "8"], "put 1 1 aa\nget 1 1\n", "")
+    runs = ([wbl, "run", file], COMMIT, "refused 15 TimestampsOut"), ([wbl, "threads", file, "--sessions", "2", "--commits", "2"], "", "refused 15 TimestampsOut"), ([kv, file], "put 1 1 aa\nget 1 1\n", "")
     for program, text, said in runs:
         with open(file, "wb") as out:
             out.write(image)

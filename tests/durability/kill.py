@@ -12,7 +12,7 @@ import threading
 import time
 
 from journal import shorten
-from store import IN_HAND, MOST_UNANSWERED, Lost, Transactions, acknowledged, after, rows_in, send_and_wait
+from store import IN_HAND, MOST_UNANSWERED, SMALL, Lost, Transactions, acknowledged, after, rows_in, send_and_wait
 
 KEYS = 40
 
@@ -22,7 +22,7 @@ def live(kv, file, transactions, delay, from_ready):
     transactions."""
     sent = [transactions.next() for _ in range(400)]
     text = "".join("\n".join(lines) + "\n" for _, lines in sent)
-    child = subprocess.Popen([kv, file], stdin=subprocess.PIPE, stdout=subprocess.PIPE, stderr=subprocess.STDOUT, text=True)
+    child = subprocess.Popen([kv, *SMALL, file], stdin=subprocess.PIPE, stdout=subprocess.PIPE, stderr=subprocess.STDOUT, text=True)
 
     def feed():
         try:
@@ -46,7 +46,7 @@ def live(kv, file, transactions, delay, from_ready):
 def live_waiting(kv, file, transactions, delay):
     """A life whose sender waits for each answer, ended by a kill so many seconds after its start: the same."""
     sent = [transactions.next() for _ in range(400)]
-    child = subprocess.Popen([kv, file], stdin=subprocess.PIPE, stdout=subprocess.PIPE, stderr=subprocess.STDOUT, text=True)
+    child = subprocess.Popen([kv, *SMALL, file], stdin=subprocess.PIPE, stdout=subprocess.PIPE, stderr=subprocess.STDOUT, text=True)
     killer = threading.Timer(delay, child.kill)
     killer.start()
     output = send_and_wait(child, sent)
@@ -63,7 +63,7 @@ def live_waiting(kv, file, transactions, delay):
 
 def open_in_vain(kv, file, delay):
     """An opening that a kill ends."""
-    with subprocess.Popen([kv, file], stdin=subprocess.PIPE, stdout=subprocess.DEVNULL, stderr=subprocess.DEVNULL) as child:
+    with subprocess.Popen([kv, *SMALL, file], stdin=subprocess.PIPE, stdout=subprocess.DEVNULL, stderr=subprocess.DEVNULL) as child:
         time.sleep(delay)
         child.kill()
 
@@ -95,7 +95,7 @@ def run(kv, folder, rng, kills, most_seconds=0.6):
         for _ in range(rng.choice([0, 0, 1, 2])):
             open_in_vain(kv, file, rng.uniform(0.0, 0.03))
             kills_done += 1
-        found, answered, more = rows_in(kv, file), model, 0
+        found, answered, more = rows_in(kv, file, SMALL), model, 0
         while found != model:
             if more == most or done + more == len(sent):
                 raise Lost(f"kill {kill}: expected {sorted(answered.items())}, found {sorted(found.items())}")

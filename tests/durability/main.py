@@ -17,6 +17,7 @@ import fresh
 import image
 import kill
 import power
+import protocol
 import readme
 import shell
 import twice
@@ -74,7 +75,7 @@ def main():
         print("strace is missing: no power failures, and no failing writes")
     kv = os.path.abspath(words.kv)
     tests = [(name, lambda folder, test=test, count=count: test(kv, folder, random.Random(words.seed), count)) for name, test, count in tests]
-    tests += [(case.__name__, lambda folder, case=case: case(kv, folder)) for case in (*shell.CASES, *readme.CASES)]
+    tests += [(case.__name__, lambda folder, case=case: case(kv, folder)) for case in (*shell.CASES, *protocol.CASES, *readme.CASES)]
     wbl = os.path.abspath(words.wbl)
     tests += [(case.__name__, lambda folder, case=case: case(kv, wbl, folder)) for case in cut.CASES]
     tests += [(f"wbl_{case.__name__}", lambda folder, case=case: case(wbl, kv, folder)) for case in image.CASES]

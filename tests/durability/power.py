@@ -10,7 +10,7 @@ import re
 import subprocess
 
 from journal import is_append, shorten
-from store import IN_HAND, MOST_UNANSWERED, Lost, Transactions, acknowledged, after, may_be_found, rows_in, send_and_wait
+from store import IN_HAND, MOST_UNANSWERED, SMALL, Lost, Transactions, acknowledged, after, may_be_found, rows_in, send_and_wait
 
 KEYS = 12
 CALLS = "trace=openat,fcntl,ftruncate,pwrite64,fdatasync,fsync,write"
@@ -129,10 +129,10 @@ def without_syncs(_first, events):
             yield event
 
 
-def traced(kv, file, sent, waits):
-    """The events of a run of kv, whose sender waits for the answer of each of these transactions or for none."""
+def traced(kv, file, sent, waits, options=()):
+    """The events of a run of kv with these options, whose sender waits for the answer of each of these transactions or for none."""
     trace = file + ".trace"
-    with subprocess.Popen(["strace", "-f", "-xx", "-s", "50000000", "-e", CALLS, "-o", trace, kv, file],
+    with subprocess.Popen(["strace", "-f", "-xx", "-s", "50000000", "-e", CALLS, "-o", trace, kv, *options, file],
                           stdin=subprocess.PIPE, stdout=subprocess.PIPE, stderr=subprocess.DEVNULL, text=True) as run:
         if waits:
             send_and_wait(run, sent)
@@ -151,7 +151,8 @@ def fail_power(kv, folder, rng, images, transactions, first, spoil, waits=False)
         out.write(first)
     source = Transactions(rng, KEYS, 3)
     sent = [source.next() for _ in range(transactions)]
-    events = traced(kv, file, sent, waits)
+    options = () if first else SMALL
+    events = traced(kv, file, sent, waits, options)
     if spoil:
         events = list(spoil(first, events))
     models = [{}]
@@ -166,7 +167,7 @@ def fail_power(kv, folder, rng, images, transactions, first, spoil, waits=False)
         torn += changes > 0
         with open(left, "wb") as out:
             out.write(image)
-        rows = rows_in(kv, left)
+        rows = rows_in(kv, left, options)
         if rows not in may_be_found(models, done, unanswered):
             raise Lost(f"image {number}, before event {stop}, {done} acknowledged: found {sorted(rows.items())}")
         ahead += rows != models[done]

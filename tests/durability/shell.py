@@ -8,7 +8,7 @@ import shutil
 import subprocess
 
 from journal import tail_of
-from store import Lost, acknowledged, may_be_found, rows_in
+from store import SMALL, Lost, acknowledged, may_be_found, rows_in
 
 DOCS = os.path.join(os.path.dirname(os.path.dirname(os.path.dirname(os.path.abspath(__file__)))), "docs")
 BYTES = 66_112
@@ -19,10 +19,10 @@ MODELS = [ROWS, {1: "a1", 2: "b2", 3: "b3"}, {2: "b2", 3: "b3"}]
 NOBODY = 65_534
 
 
-def kv_on(kv, file, text, before=(), **more):
+def kv_on(kv, file, text, before=(), options=(), **more):
     """A run of kv with this input."""
     given = text if isinstance(text, bytes) else text.encode()
-    ended = subprocess.run([*before, kv, file], input=given, stdout=subprocess.PIPE, stderr=subprocess.PIPE, timeout=120, check=False, **more)
+    ended = subprocess.run([*before, kv, *options, file], input=given, stdout=subprocess.PIPE, stderr=subprocess.PIPE, timeout=120, check=False, **more)
     ended.output, ended.told = ended.stdout.decode(), ended.stderr.decode()
     return ended
 
@@ -37,9 +37,9 @@ def made(kv, folder, name="shell.img"):
     file = os.path.join(folder, name)
     if os.path.exists(file):
         os.remove(file)
-    ended = kv_on(kv, file, FIRST)
+    ended = kv_on(kv, file, FIRST, options=SMALL)
     want(ended.returncode == 0 and acknowledged(ended.output) == 2, "a new store takes two rows", ended)
-    want("made" in ended.told, "a new store is told of", ended)
+    want(ended.told.startswith(f"created {file}: at most 1024 rows, and 1024 versions"), "a new store is told of", ended)
     return file
 
 
@@ -62,7 +62,7 @@ def closed_streams(kv, folder):
             file = made(kv, folder)
             if is_new:
                 os.remove(file)
-            subprocess.run([kv, file], input=NEXT.encode() if 0 not in closed else None, stdout=subprocess.DEVNULL, stderr=subprocess.DEVNULL,
+            subprocess.run([kv, *SMALL, file], input=NEXT.encode() if 0 not in closed else None, stdout=subprocess.DEVNULL, stderr=subprocess.DEVNULL,
                            preexec_fn=lambda: [os.close(it) for it in closed], timeout=120, check=False)
             want(not os.path.exists(file) or is_whole(file), f"closed {closed}: {os.path.getsize(file)} bytes")
             rows = rows_in(kv, file)
@@ -119,10 +119,10 @@ def small_disk(kv, folder):
         return "left out: it takes leave to mount a disk"
     try:
         file = os.path.join(place, "new.img")
-        ended = kv_on(kv, file, FIRST)
+        ended = kv_on(kv, file, FIRST, options=SMALL)
         want(ended.returncode == 1 and "No space left on device" in ended.told, "a small disk", ended)
         subprocess.run(["mount", "-o", "remount,size=4m", place], check=True)
-        ended = kv_on(kv, file, FIRST)
+        ended = kv_on(kv, file, FIRST, options=SMALL)
         want(ended.returncode == 0 and rows_in(kv, file) == ROWS, "once there is room", ended)
     finally:
         subprocess.run(["umount", place], check=True)
@@ -184,7 +184,7 @@ def odd_names(kv, folder):
         want(ended.returncode == status, f"kv {words}: status {ended.returncode}, {ended.stderr[-300:]}")
         want(sorted(os.listdir(place)) == held, f"kv {words} made {os.listdir(place)}")
         want((ended.stdout if status == 0 else ended.stderr) != b"", f"kv {words} said nothing")
-    ended = subprocess.run([kv, "./-x"], input=FIRST.encode(), capture_output=True, cwd=place, timeout=20, check=False)
+    ended = subprocess.run([kv, *SMALL, "./-x"], input=FIRST.encode(), capture_output=True, cwd=place, timeout=20, check=False)
     want(ended.returncode == 0 and os.path.getsize(os.path.join(place, "-x")) == BYTES, "kv ./-x")
     return "10 words that name no store made none"
 
@@ -219,23 +219,26 @@ def lines(kv, folder):
     """A line that isn't obeyed is refused by its number, and the next one is read; a transaction with one isn't committed."""
     file = made(kv, folder)
     for text, status, answers, told in (
-        (b"get 1 1\n\xff\xfe\nget 1 2\n", 3, ["row a1", "row a2"], ["line 2: it isn't UTF-8"]),
-        (b"get 1 1\n" + b"x" * 5_000 + b"\nget 1 2\n", 3, ["row a1", "row a2"], ["line 2: it has more than 4096 bytes"]),
-        (b"get 1 1\n" + b"x " * 8_000_000 + b"\nget 1 2", 3, ["row a1", "row a2"], ["line 2: it has more than 4096 bytes"]),
+        (b"get 1 1\nput 1 1 \xff\xfe\nget 1 2\n", 3, ["row a1", "NotText", "row a2"], ["line 2: the line is not valid UTF-8"]),
+        (b"get 1 1\n" + b"x" * 5_000 + b"\nget 1 2\n", 3, ["row a1", "LineTooLong", "row a2"], ["line 2: the line is longer than 4096 bytes"]),
+        (b"get 1 1\n" + b"x " * 8_000_000 + b"\nget 1 2\n", 3, ["row a1", "LineTooLong", "row a2"], ["line 2: the line is longer than 4096 bytes"]),
         (b"get 1 1" + b" " * 4_089 + b"\nget 1 2\r\n", 0, ["row a1", "row a2"], []),
-        (b"begin\nput 1 1 zz\nput 1 2 99\ncommit\nget 1 2\n", 3, ["begun", "row a2"], ["line 2: put: ROW", "line 3: line 2 of", "line 4: nothing was committed, since line 2"]),
-        (b"begin\n" + b"".join(b"put 2 %d 00\n" % it for it in range(33)) + b"commit\nscan 2 0 99\n", 3, ["begun", *["written"] * 32, "end 0"], ["line 34: ", "nothing was committed, since line 34"]),
-        (b"begin\nbegin\nabort\ncommit\nabort\n", 3, ["begun", "aborted"], ["line 2: a transaction is open", "line 4: no transaction is open", "line 5: no transaction is open"]),
-        (b"begin\nput 1 9 99\n", 3, ["begun", "written"], ["the input ended within a transaction"]),
-        (b"begin x\nput 1 9 99\ncommit\nget 1 9\n", 3, ["none"], ["line 1: begin takes no words", "line 2: line 1 of", "line 3: nothing was committed, since line 1"]),
+        (b"get 1 2\ndel 1 1", 3, ["row a2", "LineCut"], ["line 2: the input ended within this line"]),
+        (b"begin\nput 1 1 b1\ncommit", 3, ["begun", "written", "LineCut"], ["line 3: the input ended within", "the input ended inside a transaction"]),
+        (b"begin\nput 1 1 zz\nput 1 2 99\ncommit\nget 1 2\n", 3, ["begun", "BadWords", "TransactionBroken", "NotCommitted", "row a2"], ["line 2: put: ROW", "line 3: line 2 was refused, and its transaction", "line 4: nothing was committed, because line 2"]),
+        (b"begin\n" + b"".join(b"put 2 %d 00\n" % it for it in range(33)) + b"commit\nscan 2 0 99\n", 3, ["begun", *["written"] * 32, "WriteSetFull", "NotCommitted", "end 0"], ["line 34: a transaction writes at most 32 keys: write this one in the next", "nothing was committed, because line 34"]),
+        (b"begin\nbegin\nabort\ncommit\nabort\n", 3, ["begun", "TransactionOpen", "aborted", "NoTransaction", "NoTransaction"], ["line 2: a transaction is open", "line 4: no transaction is open", "line 5: no transaction is open"]),
+        (b"begin\nput 1 9 99\n", 3, ["begun", "written"], ["the input ended inside a transaction"]),
+        (b"begin x\nput 1 9 99\ncommit\nget 1 9\n", 3, ["BadWords", "TransactionBroken", "NotCommitted", "none"], ["line 1: begin takes no other words", "line 2: line 1 was", "line 3: nothing was committed, because line 1"]),
+        (b"BEGIN\nPut 1 9 99\nABORT\nGet 1 1\nCount 1\n", 0, ["begun", "written", "aborted", "row a1", "count 2"], []),
         (b"put 1 9 -\nget 1 9\ndel 1 9\n", 0, ["committed", "row -", "committed"], []),
     ):
         ended = kv_on(kv, file, text)
-        found = re.sub(r"committed \d+", "committed", ended.output).splitlines()
+        found = re.sub(r"^refused (\w+) .*$|(committed) \d+", r"\1\2", ended.output, flags=re.M).splitlines()
         want(ended.returncode == status and found == ["ready", *answers, "closed"], f"{text[:60]!r}", ended)
         want(all(it in ended.told for it in told) and (bool(told) or ended.told == ""), f"{text[:60]!r} told", ended)
     want(rows_in(kv, file) == ROWS, "the rows stay")
-    return "10 inputs with wrong lines: each line was told by its number, the others were obeyed, and no transaction was kept in part"
+    return "13 inputs with wrong lines: each line was told by its number, the others were obeyed, and no transaction was kept in part"
 
 
 def words(kv, folder):
@@ -245,25 +248,26 @@ def words(kv, folder):
     ended = kv_on(kv, file, text)
     found = re.sub(r"committed \d+", "committed", ended.output).splitlines()
     wanted = ["ready", "committed", "row 6120226222205c20630a", "row 1 a1", "row 2 a2", "end 2", "row 2 a2", "end 1", "row 1 a1", "end 1",
-              "row 2 a2", "end 1", "count 2", "table 1 2", "table 2 1", "closed"]
+              "row 2 a2", "end 1", "count 2", "table 1 2", "table 2 1", "end 2", "closed"]
     want(ended.returncode == 0 and found == wanted, "each kind of line", ended)
     for wrong, told in (
-        ('get 1 "a"', 'get: KEY "\\"a\\"" is no number'), ('put 1 1 "a', "put: ROW has no quotation mark at its end"), ('put 1 1 "a"b"', "put: ROW has a quotation mark"),
-        ('put 1 1 "a\\x"', "put: ROW has a backslash"), ("scan", "scan: expected scan TABLE"), ("scan 1 2 3 4", "scan: expected scan TABLE"), ("count", "count: expected count TABLE"),
-        ("tables 1", "tables takes no words"), ("scan 1 --limit x", 'scan: --limit "x" is no number'), ("put x 1 00", 'put: TABLE "x" is no number'),
+        ('get 1 "a"', 'get: KEY "\\"a\\"" is not a number'), ('put 1 1 "a', "put: ROW has no quotation mark at its end"), ('put 1 1 "a"b"', "put: ROW has a quotation mark"),
+        ('put 1 1 "a\\x"', "put: ROW has an unknown escape"), ("scan", "scan: expected scan TABLE"), ("scan 1 2 3 4", "scan: expected scan TABLE"), ("count", "count: expected count TABLE"),
+        ("tables 1", "tables takes no other words"), ("scan 1 --limit x", 'scan: --limit "x" is not a number'), ("put x 1 00", 'put: TABLE "x" is not a number'), ("scan 1 --limit", "scan: expected scan TABLE"),
         ("get 1 18446744073709551616", "get: KEY 18446744073709551616 is greater than 18446744073709551615"), ("del 65536 1", "del: TABLE 65536 is greater than 65535"),
-        ("put 1 1 abc", 'put: ROW "abc" is neither hexadecimal digits'), ("put 1 1 " + "00" * 97, "put: ROW has 97 bytes, and may have 96"),
-        ("put 1 1 " + "00" * 33, "32"), ("help foo", 'help: "foo" is no command'), ("timing", "timing: expected timing on|off"), ("check", "wbl check FILE"), ("PUT 1 1 00", '"PUT" is no command'),
+        ("put 1 1 abc", "put: ROW abc: bytes are two hexadecimal digits each"), ("put 1 1 " + "00" * 97, "put: ROW has 97 bytes: at most 32 are allowed, or 96"),
+        ("put 1 1 " + "00" * 33, "a row of this store has at most 32 bytes"), ("help foo", 'help: unknown command "foo"'), ("timing", "timing: expected timing on|off"), ("check", "wbl check FILE"), ("set 1 1 00", 'unknown command "set"'), ("end 3", "end is not a command"),
     ):
         ended = kv_on(kv, file, wrong + "\n")
-        want(ended.returncode == 3 and ended.output == "ready\nclosed\n" and "line 1: " in ended.told and told in ended.told, wrong, ended)
+        want(ended.returncode == 3 and "line 1: " in ended.told and told in ended.told, wrong, ended)
+        want(re.fullmatch(r"ready\nrefused (BadWords|UnknownCommand|TooLong) .*\nclosed\n", ended.output) and told in ended.output, wrong, ended)
     kv_on(kv, file, "".join(f"put 9 {it} {it:02x}\n" for it in range(70)))
-    dumped = kv_on(kv, file, "dump\n").output.splitlines()[1:-1]
-    want(dumped.count("commit") == 3, f"73 rows in {dumped.count('commit')} transactions")
+    *dumped, end = kv_on(kv, file, "dump\n").output.splitlines()[1:-1]
+    want(dumped.count("commit") == 3 and end == "end 73", f"73 rows in {dumped.count('commit')} transactions, {end}")
     larger = os.path.join(folder, "larger.img")
     ended = subprocess.run([kv, larger, "--slots", "4096", "--wide"], input="\n".join(dumped) + "\n", capture_output=True, text=True, timeout=60, check=False)
-    want(ended.returncode == 0 and "room for 4096 rows" in ended.stderr, f"a larger store: {ended.stderr}")
-    want(kv_on(kv, larger, "dump\n").output.splitlines()[1:-1] == dumped, "the copy dumps the same")
+    want(ended.returncode == 0 and "at most 4096 rows" in ended.stderr, f"a larger store: {ended.stderr}")
+    want(kv_on(kv, larger, "dump\n").output.splitlines()[1:-2] == dumped, "the copy dumps the same")
     ended = kv_on(kv, larger, "put 1 1 " + "ab" * 96 + "\nget 1 1\n")
     want(ended.returncode == 0 and "row " + "ab" * 96 in ended.output, "a wide row", ended)
     for bad in (["--slots", "0"], ["--slots", "70000"], ["--slots"], ["--slots", "x"], ["--places", "1"]):
@@ -274,7 +278,7 @@ def words(kv, folder):
 
 def one(kv, file, *words, text=""):
     """A run of kv with these words behind the file's name."""
-    ended = subprocess.run([kv, file, *words], input=text, capture_output=True, text=True, timeout=120, check=False)
+    ended = subprocess.run([kv, file, *words], input=text, capture_output=True, text=True, timeout=900, check=False)
     ended.output, ended.told = ended.stdout, ended.stderr
     return ended
 
@@ -285,10 +289,10 @@ def one_command(kv, folder):
     for words, status, output in (
         (["put", "1", "5", '"two words"'], 0, "committed 1\n"), (["get", "1", "5"], 0, "row 74776f20776f726473\n"), (["--text", "get", "1", "5"], 0, 'row "two words"\n'),
         (["put", "1", "6", "-"], 0, "committed 2\n"), (["scan", "1", "--limit", "1", "--reverse"], 0, "row 6 -\nend 1\n"), (["count", "1"], 0, "count 2\n"), (["del", "1", "5"], 0, "committed 3\n"),
-        (["get", "1", "5"], 0, "none\n"), (["tables"], 0, "table 1 1\n"), (["dump"], 0, "begin\nput 1 6 -\ncommit\n"), (["put", "1", "5", "00" * 33], 3, ""),
+        (["get", "1", "5"], 0, "none\n"), (["tables"], 0, "table 1 1\nend 1\n"), (["dump"], 0, "begin\nput 1 6 -\ncommit\nend 1\n"), (["put", "1", "5", "00" * 33], 3, "refused TooLong "),
     ):
         ended = one(kv, file, *words)
-        want(ended.returncode == status and ended.output == output and "kv: line" not in ended.told, f"{words}", ended)
+        want(ended.returncode == status and ended.output[:len(output) or None] == output and "kv: line" not in ended.told, f"{words}", ended)
     none = os.path.join(folder, "none.img")
     for words in (["putt"], ["put", "1", "x", "00"], ["begin"], ["quit"], ["timing", "on"], ["help", "foo"], ["get", "1"], ["check"], ["get", "1", "5", "--slots", "8"]):
         ended = one(kv, none, *words)
@@ -323,39 +327,51 @@ def loading(kv, folder):
     file = os.path.join(folder, "load.img")
     puts = [f"put 1 {at} {at:02x}" for at in range(70)]
     for text, status, output, told in (
-        ("\n".join(puts), 0, "loaded 70\n", ""),
+        ("\n".join(puts) + "\n", 0, "loaded 70\n", ""),
         ("sound gate 4 p 1 d 2 gaps -\n2 1 aa\n2 2 -\nend 2\n\nready\nbegin\ncommit\nclosed\n", 0, "loaded 2\n", ""),
-        ("\n".join([*puts[:40], "put 1 x 00", "put 3 1 00"]), 3, "loaded 32\n", 'line 41: load: KEY "x" is no number'),
-        ("get 1 1\n", 3, "loaded 0\n", 'line 1: load: TABLE "get" is no number'),
-        ("put 1 1\n", 3, "loaded 0\n", "line 1: load: expected put TABLE KEY ROW"),
-        ("x" * 5_000, 3, "loaded 0\n", "line 1: it has more than 4096 bytes"),
+        ("\n".join([*puts[:40], "put 1 x 00", "put 3 1 00", ""]), 3, "BadWords\nloaded 32\n", 'line 41: load: KEY "x" is not a number'),
+        ("get 1 1\n", 3, "BadWords\nloaded 0\n", "line 1: load: expected put TABLE KEY ROW, or TABLE KEY ROW"),
+        ("put 1 1\n", 3, "BadWords\nloaded 0\n", "line 1: load: expected put TABLE KEY ROW"),
+        ("x" * 5_000, 3, "LineTooLong\nloaded 0\n", "line 1: the line is longer than 4096 bytes"),
         ("", 0, "loaded 0\n", ""),
+        # What a dump that was cut short loses: the end of a line, a commit, rows before it.
+        ("\n".join(["begin", *puts[:2], "commit", "begin", *puts[2:5]])[:-1], 3, "LineCut\nloaded 2\n", "line 8: the input ended within"),
+        ("\n".join(["begin", *puts[:2], "commit", "begin", *puts[2:5], ""]), 3, "Unfinished\nloaded 2\n", "line 8: load: the input ended between begin and commit"),
+        ("\n".join(["begin", *puts[:2], "commit", "end 3", ""]), 3, "BadWords\nloaded 2\n", "line 5: load: the list had 3 rows, and 2 of them came"),
+        ("\n".join([*puts[:2], "commit", ""]), 3, "BadWords\nloaded 0\n", "line 3: load: commit without begin"),
+        ("begin\nbegin\n", 3, "BadWords\nloaded 0\n", "line 2: load: begin within begin"),
+        ("Begin\n" + "".join(f"PUT 5 {at} 00\n" for at in range(33)) + "COMMIT\n", 3, "WriteSetFull\nloaded 0\n", "line 34: a transaction writes at most 32 keys"),
     ):
         ended = one(kv, file, "load", text=text)
-        want(ended.returncode == status and ended.output == output and told in ended.told, f"{text[-40:]!r}", ended)
-    want(one(kv, file, "tables").output == "table 1 70\ntable 2 2\n", "what was loaded is there, and no more")
+        found = re.sub(r"^refused (\w+) .*$", r"\1", ended.output, flags=re.M)
+        want(ended.returncode == status and found == output and told in ended.told, f"{text[-40:]!r}", ended)
+    want(one(kv, file, "tables").output == "table 1 70\ntable 2 2\nend 2\n", "what was loaded is there, and no more")
     ended = kv_on(kv, file, "begin\nload\nabort\nload\nput 4 1 aa\n4 2 bb\n")
-    want(ended.returncode == 3 and ended.output == "ready\nbegun\naborted\nloaded 2\nclosed\n" and "line 2: a transaction is open" in ended.told, "load as a line", ended)
+    want(ended.returncode == 3 and re.fullmatch(r"ready\nbegun\nrefused TransactionOpen .*\naborted\nloaded 2\nclosed\n", ended.output) and "line 2: a transaction is open" in ended.told, "load as a line", ended)
     want(one(kv, file, "count", "4").output == "count 2\n", "the lines behind it are in")
-    return "7 loads, of which those with a wrong line end there and say what is kept"
+    return "13 loads, of which those with a wrong line end there and say what is kept"
 
 
 def full_store(kv, folder):
     """A full store says so, and how to get a larger one works."""
     full, large = os.path.join(folder, "full.img"), os.path.join(folder, "large.img")
     ended = one(kv, full, "--slots", "8", "--window", "8", "load", text="".join(f"1 {at} {at:02x}\n" for at in range(1, 9)))
-    want(ended.returncode == 0 and ended.output == "loaded 8\n" and "room for 8 rows" in ended.told, "it takes 8 rows", ended)
+    want(ended.returncode == 0 and ended.output == "loaded 8\n" and "at most 8 rows, and 8 versions" in ended.told, "it takes 8 rows", ended)
     want("rows 8\nversions 8\nfree 0\n" in one(kv, full, "stat").output, "none is free")
     for words in (["put", "1", "9", "09"], ["put", "1", "8", "ff"]):
         ended = one(kv, full, *words)
-        want(ended.returncode == 3 and ended.output == "" and "no slot is free: delete rows, or copy them into a larger store" in ended.told, f"{words}", ended)
+        want(ended.returncode == 3 and ended.output == "refused SlotsOut " + ended.told[4:], f"{words}", ended)
+        want(ended.told == "kv: no slot is free, and an update needs one too: delete a row, or copy all rows into a store with more slots, as help shows\n", f"{words}", ended)
     ended = one(kv, full, "load", text="1 9 09\n")
-    want(ended.returncode == 3 and ended.output == "loaded 0\n" and "line 1: no slot is free" in ended.told, "load", ended)
+    want(ended.returncode == 3 and ended.output.startswith("refused SlotsOut ") and ended.output.endswith("\nloaded 0\n") and "line 1: no slot is free" in ended.told, "load", ended)
     copied = subprocess.run(f"{kv} {full} dump | {kv} {large} --slots 65536 load", shell=True, capture_output=True, text=True, timeout=120, check=False)
-    want(copied.returncode == 0 and copied.stdout == "loaded 8\n" and "room for 65536 rows" in copied.stderr, f"the copy: {copied}")
+    want(copied.returncode == 0 and copied.stdout == "loaded 8\n" and "at most 65536 rows" in copied.stderr, f"the copy: {copied}")
     want(one(kv, large, "put", "1", "9", "09").returncode == 0 and rows_in(kv, large) == {at: f"{at:02x}" for at in range(1, 10)}, "the larger one takes more")
     want("slots 65536\n" in one(kv, large, "stat").output and one(kv, full, "del", "1", "1").returncode == 0 and one(kv, full, "put", "1", "9", "09").returncode == 0, "a deletion makes room")
-    return "a store with 8 slots refuses the ninth row, and its copy with 65,536 takes it"
+    want(one(kv, large, "load", text="".join(f"2 {at} 00\n" for at in range(65_536 - 9))).returncode == 0, "it takes 65,536 rows")
+    ended = kv_on(kv, large, "put 1 9 ff\ndel 2 0\nput 1 9 ff\nput 1 8 ff\nget 1 9\n")
+    want(ended.returncode == 3 and re.search(r"refused SlotsOut no slot is free, and an update needs one too: delete a row\n(committed \d+\n){3}row ff\nclosed\n$", ended.output), "a full store of 65,536", ended)
+    return "a store with 8 slots refuses the ninth row, and its copy with 65,536 takes it; a full one of these is updated once a row is deleted"
 
 
 def timed(kv, folder):
@@ -433,7 +449,7 @@ def at_terminal(kv, folder):
         want(run.wait(timeout=60) == 3, "its status")
     os.close(ours)
     text = text.decode().replace("\r\n", "\n")
-    for part in ("kv> put 1 7", "begun\nkv*> ", 'row "milk"\nkv*> ', 'refused: "gte" is no command: help lists them\nkv*> ', "done\nkv> ",
+    for part in ("kv> put 1 7", "begun\nkv*> ", 'row "milk"\nkv*> ', 'refused: unknown command "gte": help lists the commands\nkv*> ', "done\nkv> ",
                  '                 key | row\n---------------------+----\n                   1 | a1\n', '                   7 | "milk"\nend 3\n', "table | rows\n------+------\n    1 |     3\n"):
         want(part in text, f"at a terminal {part!r} in {text!r}")
     return "a prompt that shows a transaction, tables with headers, and a misspelt line that may be typed again"
@@ -470,6 +486,7 @@ def unlinked(kv, folder):
             way(file)
             output, told = run.communicate("put 1 3 c3\n", timeout=60)
             want(run.returncode == status and ("closed" in output) == (status == 0), f"{name}: status {run.returncode}, {output} {told}")
+            want(("the file was removed while it was open" in told) == (status == 1), f"{name}: {told}")
     want(rows_in(kv, os.path.join(folder, "moved.img.moved")) == {3: "c3"}, "the moved file has the row")
     return "a store that was unlinked isn't closed, and one that was moved is"
 

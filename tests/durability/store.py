@@ -9,6 +9,10 @@ IN_HAND = 1
 MOST_UNANSWERED = 16 + IN_HAND
 
 
+# The layout of the stores that tests make, which are read and written whole. A run over one that exists may ask for what it has.
+SMALL = ("--slots", "1024")
+
+
 class Lost(Exception):
     """What was acknowledged isn't found, or something else is."""
 
@@ -73,9 +77,9 @@ def may_be_found(models, done, unanswered=MOST_UNANSWERED):
     return models[done:done + 1 + unanswered]
 
 
-def rows_in(kv, file):
+def rows_in(kv, file, options=()):
     """The rows that kv finds in the file."""
-    run = subprocess.run([kv, file], input="scan 1 0 100000\n", capture_output=True, text=True, timeout=120)
+    run = subprocess.run([kv, *options, file], input="scan 1 0 100000\n", capture_output=True, text=True, timeout=120)
     lines = run.stdout.splitlines()
     if run.returncode != 0 or "closed" not in lines:
         raise Lost(f"it isn't opened: status {run.returncode}, {run.stdout[-200:]} {run.stderr[-300:]}")

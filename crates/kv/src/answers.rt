@@ -1,7 +1,9 @@
 use crate::help::{LARGER, ROWS, TOPICS, Topic, Word};
 use crate::load::MOST_PUTS;
+use crate::refusal::Sentence;
 use crate::rows::Shown;
 use crate::session::Answer;
+use crate::statistics::Statistics;
 use base::key::Key;
 use base::row::Row;
 use std::alloc::Global;
@@ -36,7 +38,7 @@ pub struct Manner {
 }
 
 impl Manner {
-    /// As it befits those that are at the ends.
+    /// As it suits those that are at the ends.
     pub fn of(terminals: Terminals, reads_lines: bool, wants_text: bool) -> Manner {
         let is_table = terminals.output && (terminals.input || !reads_lines);
         Manner {
@@ -119,8 +121,32 @@ impl<'a, R: Print> Printer<'a, R> {
             Answer::Count(count) => println!(self.rt; "count {count}"),
             Answer::Tables(rows) => self.print_tables(rows.as_slice()),
             Answer::Dump(rows) => self.print_dump(rows.as_slice()),
-            Answer::Status(statistics) => println!(self.rt; "{statistics}"),
+            Answer::Status(statistics) => self.print_status(statistics),
             _ => Ok(()),
+        }
+    }
+
+    fn print_status(&self, statistics: &Statistics) -> io::Result<()> {
+        println!(self.rt; "{statistics}")?;
+        self.end_list(Statistics::LINES)
+    }
+
+    // Ends a list of this many lines, unless a person sees its end.
+    fn end_list(&self, count: usize) -> io::Result<()> {
+        if self.manner.is_table {
+            Ok(())
+        } else {
+            println!(self.rt; "end {count}")
+        }
+    }
+
+    /// Prints that a line is refused, if a program reads what is printed. What is held is printed before it.
+    pub fn refuse(&mut self, name: &str, sentence: &Sentence<'_>) -> io::Result<()> {
+        self.flush()?;
+        if self.manner.is_table {
+            Ok(())
+        } else {
+            println!(self.rt; "refused {name} {sentence}")
         }
     }
 
@@ -157,15 +183,17 @@ impl<'a, R: Print> Printer<'a, R> {
             println!(self.rt; "table | rows")?;
             println!(self.rt; "------+------")?;
         }
+        let mut tables: usize = 0;
         let mut count: u64 = 0;
         for (place, (key, _)) in rows.iter().enumerate() {
             count = count.saturating_add(1);
             if is_last_of_table(rows, place, key.table) {
                 self.print_count(key.table, count)?;
+                tables = tables.saturating_add(1);
                 count = 0;
             }
         }
-        Ok(())
+        println!(self.rt; "end {tables}")
     }
 
     fn print_count(&self, table: u16, count: u64) -> io::Result<()> {
@@ -189,10 +217,10 @@ impl<'a, R: Print> Printer<'a, R> {
                 println!(self.rt; "commit")?;
             }
         }
-        if puts == 0 {
-            return Ok(());
+        if puts != 0 {
+            println!(self.rt; "commit")?;
         }
-        println!(self.rt; "commit")
+        println!(self.rt; "end {}", rows.len())
     }
 
     /// Explains a command, or lists them.
@@ -202,6 +230,12 @@ impl<'a, R: Print> Printer<'a, R> {
             Some(word) => self.explain_word(word),
             None => self.list(),
         }
+    }
+
+    /// The same as the answer to a line.
+    pub fn answer_help(&mut self, word: Option<Word>) -> io::Result<()> {
+        self.help(word)?;
+        self.end_list(if word.is_some() { 1 } else { TOPICS.len() })
     }
 
     fn explain_word(&self, word: Word) -> io::Result<()> {

@@ -55,13 +55,26 @@ impl Range {
 }
 
 impl Command {
-    /// Whether it may be given behind the file's name, where nothing follows it.
-    pub fn stands_alone(&self) -> bool {
-        !matches!(
-            self,
-            Command::Quit
-                | Command::Timing(_)
-                | Command::Ask(Request::Begin | Request::Commit | Request::Abort)
-        )
+    /// Why it can't be given behind the file's name, since nothing follows it there.
+    pub fn why_not_alone(&self) -> Option<&'static str> {
+        match self {
+            Command::Quit => Some(
+                "quit ends lines of standard input; a command after FILE ends by itself",
+            ),
+            Command::Timing(_) => Some(
+                "timing is about the lines that follow it, and nothing follows a command after FILE: use standard input",
+            ),
+            Command::Ask(Request::Begin | Request::Commit | Request::Abort) => {
+                Some(
+                    "a command after FILE is a transaction by itself: begin, commit and abort work on standard input",
+                )
+            }
+            _ => None,
+        }
+    }
+
+    /// Whether it creates a store if there is none: if it puts rows.
+    pub fn creates(&self) -> bool {
+        matches!(self, Command::Load | Command::Ask(Request::Put { .. }))
     }
 }

@@ -29,18 +29,19 @@ pub struct Topic {
     pub short: &'static str,
     /// A sentence on it.
     pub long: &'static str,
-    /// Lines that show it. Those of all topics, in their order, are obeyed by a new store.
+    /// Lines that show it. A new store runs those of all topics, in their order.
     pub example: &'static str,
 }
 
 /// What is said before the commands.
 pub const ROWS: &str =
-    "Rows stand under a table (0 to 65535) and a key (0 to 18446744073709551615). A row is text in quotation marks,
-as \"milk\", two hexadecimal digits for each byte, as 6d696c6b, or - for no bytes.";
+    "Each row has a table (0 to 65535) and a key (0 to 18446744073709551615). A row is text in quotation marks, as \"milk\",
+two hexadecimal digits for each byte, as 6d696c6b, or - for no bytes. Commands may be in capital letters too.";
 
 /// What is said after them.
 pub const LARGER: &str =
-    "help WORD has a sentence and an example of each. A store that is full takes no row more: copy it into a larger one,
+    "help WORD explains one, with an example. A full store accepts no more rows and no updates: delete a row, or copy all into a
+store with more slots,
     kv old.img dump | kv new.img --slots 65536 load";
 
 /// The commands.
@@ -50,16 +51,16 @@ pub const TOPICS: [Topic; 15] = [
         name: "put",
         form: "put TABLE KEY ROW",
         short: "writes a row",
-        long: "Writes the row under the table and the key, in the place of one that is there. Outside a transaction it is one by
-itself: what is answered committed persists.",
+        long: "Writes the row under the table and the key, and replaces one that is there. Outside begin and commit it is a transaction by
+itself. Once committed is printed, the change survives a kill or a power failure.",
         example: "put 1 5 \"milk\"",
     },
     Topic {
         word: Word::Get,
         name: "get",
         form: "get TABLE KEY",
-        short: "answers a row",
-        long: "Answers the row under the table and the key, or none.",
+        short: "prints a row",
+        long: "Prints the row under the table and the key, or none.",
         example: "get 1 5",
     },
     Topic {
@@ -74,8 +75,8 @@ itself: what is answered committed persists.",
         word: Word::Scan,
         name: "scan",
         form: "scan TABLE [LO [HI]] [--limit N] [--reverse]",
-        short: "answers the rows of a table",
-        long: "Answers the rows of the table at the keys from LO to HI, both included, by rising key, and how many. --reverse begins
+        short: "prints the rows of a table",
+        long: "Prints the rows of the table at the keys from LO to HI, both included, in ascending order, and how many. --reverse begins
 with the last key, and --limit ends after N rows.",
         example: "scan 1 0 9 --limit 2 --reverse",
     },
@@ -83,40 +84,40 @@ with the last key, and --limit ends after N rows.",
         word: Word::Count,
         name: "count",
         form: "count TABLE",
-        short: "answers how many rows a table has",
-        long: "Answers how many rows the table has.",
+        short: "counts the rows of a table",
+        long: "Prints how many rows the table has.",
         example: "count 1",
     },
     Topic {
         word: Word::Tables,
         name: "tables",
         form: "tables",
-        short: "answers which tables have rows",
-        long: "Answers each table that has rows, and how many.",
+        short: "lists the tables that have rows",
+        long: "Prints each table that has rows, and how many.",
         example: "tables",
     },
     Topic {
         word: Word::Begin,
         name: "begin",
         form: "begin",
-        short: "opens a transaction",
-        long: "Opens a transaction, of at most 32 keys: what is written until its commit is kept together or not at all, and what is
-read is of one moment.",
+        short: "begins a transaction",
+        long: "Begins a transaction of at most 32 keys: what is written until its commit is kept together or not at all, and all reads
+see the same moment.",
         example: "begin\n    put 1 6 \"tea\"\n    get 1 6\n    commit",
     },
     Topic {
         word: Word::Commit,
         name: "commit",
         form: "commit",
-        short: "keeps what a transaction wrote",
-        long: "Ends the transaction and keeps what it wrote. It is answered once that persists.",
+        short: "commits the transaction",
+        long: "Ends the transaction and keeps what it wrote. committed is printed once that is durable.",
         example: "begin\n    put 1 7 \"jam\"\n    put 1 8 -\n    commit",
     },
     Topic {
         word: Word::Abort,
         name: "abort",
         form: "abort",
-        short: "gives a transaction up",
+        short: "rolls the transaction back",
         long: "Ends the transaction, and keeps nothing of it.",
         example: "begin\n    del 1 7\n    abort",
     },
@@ -124,8 +125,9 @@ read is of one moment.",
         word: Word::Stat,
         name: "stat",
         form: "stat",
-        short: "answers the layout and how full it is",
-        long: "Answers the layout of the store, how many rows and versions of rows it has, how many slots are free, and what is left of its timestamps.",
+        short: "prints the layout and how full it is",
+        long: "Prints the layout of the store, how many rows and versions of rows it has, how many slots are free, and how many commits may
+still be made.",
         example: "stat",
     },
     Topic {
@@ -133,7 +135,7 @@ read is of one moment.",
         name: "dump",
         form: "dump",
         short: "prints all rows, as load takes them",
-        long: "Prints the rows of all tables of one moment, as lines that load and another store take.",
+        long: "Prints the rows of all tables at one moment, as lines that load takes.",
         example: "dump",
     },
     Topic {
@@ -141,16 +143,16 @@ read is of one moment.",
         name: "load",
         form: "load",
         short: "puts the rows of the lines that follow",
-        long: "Puts the rows of all further lines of the input, in transactions of 32: lines of dump, and TABLE KEY ROW, as wbl check
-prints them. It ends at the first line that it can't take, and what it has committed until then is kept.",
+        long: "Puts the rows of all further lines of the input: what dump prints, and lines TABLE KEY ROW, as wbl check prints them. It
+ends at the first line that it can't take, and keeps what it has committed until then.",
         example: "kv old.img dump | kv new.img --slots 65536 load",
     },
     Topic {
         word: Word::Timing,
         name: "timing",
         form: "timing on|off",
-        short: "tells how long each line takes",
-        long: "Tells on standard error how long each further line took, or no more.",
+        short: "prints how long each later line takes",
+        long: "Prints on standard error how long each later line took; off stops it.",
         example: "timing on",
     },
     Topic {
@@ -166,23 +168,26 @@ prints them. It ends at the first line that it can't take, and what it has commi
         name: "quit",
         form: "quit",
         short: "ends, as the end of the input does",
-        long: "Ends, as exit does. A transaction that is open isn't kept.",
+        long: "Ends, as exit does. A transaction that is open is rolled back.",
         example: "quit",
     },
 ];
 
-/// The command whose first word is spelt so.
+/// The command whose first word is this one, in capital letters or not.
 pub fn find_word(name: &str) -> Option<Word> {
-    match TOPICS.iter().find(|topic| topic.name == name) {
+    if name.eq_ignore_ascii_case("exit") {
+        return Some(Word::Quit);
+    }
+    match TOPICS
+        .iter()
+        .find(|topic| topic.name.eq_ignore_ascii_case(name))
+    {
         Some(topic) => Some(topic.word),
         None => None,
     }
 }
 
-/// The words of the command whose first one is spelt so.
-pub fn find_form(name: &str) -> Option<&'static str> {
-    match TOPICS.iter().find(|topic| topic.name == name) {
-        Some(topic) => Some(topic.form),
-        None => None,
-    }
+/// What is said about a command.
+pub fn topic_of(word: Word) -> Option<&'static Topic> {
+    TOPICS.iter().find(|topic| topic.word == word)
 }

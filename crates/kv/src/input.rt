@@ -8,12 +8,14 @@ pub const MOST_BYTES: usize = 4_096;
 
 const LINE_FEED: u8 = b'\n';
 
-/// A line of the input.
+/// A line of the input, or its bytes if it can't be read.
 #[derive(Clone, Copy)]
 pub enum Line<'a> {
     Text(&'a str),
-    NotText,
-    TooLong,
+    NotText(&'a [u8]),
+    TooLong(&'a [u8]),
+    /// The input ended within it: the rest may be missing.
+    Cut,
 }
 
 /// The lines of an input. They take no more memory than one line may have.
@@ -45,23 +47,30 @@ impl<R: BufRead + Drop> Lines<R> {
 
     /// Reads the next line, without its line feed. `None` at the end.
     pub fn next_line(&mut self) -> io::Result<Option<Line<'_>>> {
-        self.number = self.number.saturating_add(1);
         self.line.clear();
         let most = MOST_BYTES as u64 + 1;
         let mut start = self.input.by_ref().take(most);
         if start.read_until(LINE_FEED, &mut self.line)? == 0 {
             return Ok(None);
         }
+        self.number = self.number.saturating_add(1);
         if self.line.last() == Some(&LINE_FEED) {
             self.line.pop();
-        } else if self.line.len() > MOST_BYTES {
-            self.input.skip_until(LINE_FEED)?;
-            return Ok(Some(Line::TooLong));
+            return Ok(Some(decoded(self.line.as_slice())));
         }
-        match str::from_utf8(self.line.as_slice()) {
-            Ok(text) => Ok(Some(Line::Text(text))),
-            Err(_) => Ok(Some(Line::NotText)),
+        if self.line.len() <= MOST_BYTES {
+            return Ok(Some(Line::Cut));
         }
+        self.input.skip_until(LINE_FEED)?;
+        Ok(Some(Line::TooLong(self.line.as_slice())))
+    }
+}
+
+// A whole line.
+fn decoded(bytes: &[u8]) -> Line<'_> {
+    match str::from_utf8(bytes) {
+        Ok(text) => Line::Text(text),
+        Err(_) => Line::NotText(bytes),
     }
 }
 
@@ -69,7 +78,22 @@ impl<R: BufRead + Drop> Lines<R> {
 pub fn text_of(line: Line<'_>) -> Result<&str, Refusal> {
     match line {
         Line::Text(text) => Ok(text),
-        Line::NotText => Err(Refusal::NotText),
-        Line::TooLong => Err(Refusal::TooLong(MOST_BYTES)),
+        Line::NotText(_) => Err(Refusal::NotText),
+        Line::TooLong(_) => Err(Refusal::LineTooLong(MOST_BYTES)),
+        Line::Cut => Err(Refusal::Cut),
+    }
+}
+
+/// The bytes of a line's first word.
+pub fn first_word<'a>(line: Line<'a>) -> &'a [u8] {
+    let bytes = match line {
+        Line::Text(text) => text.as_bytes(),
+        Line::NotText(bytes) | Line::TooLong(bytes) => bytes,
+        Line::Cut => &[],
+    };
+    let word = bytes.trim_ascii_start();
+    match word.iter().position(|byte| byte.is_ascii_whitespace()) {
+        Some(end) => &word[..end],
+        None => word,
     }
 }

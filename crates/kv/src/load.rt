@@ -1,10 +1,13 @@
+use crate::help::{Word, find_word};
 use crate::input::{Line, Lines, text_of};
+use crate::numbers::parse_number;
 use crate::opening::Device;
 use crate::progress::Progress;
 use crate::refusal::{Refusal, Stop};
 use crate::session::{Failed, commit};
 use crate::words::{parse_key_and_row, split_line};
-use anyhow::{Error, bail};
+use anyhow::anyhow;
+use base::fault::Fault;
 use base::key::Key;
 use base::row::Row;
 use database::{Database, Transaction};
@@ -23,8 +26,12 @@ pub struct Loader<'a, R: Eprint + Clock + Wait + Drop> {
     database: &'a Database<Device, R>,
     progress: Progress<'a, R>,
     open: Option<Transaction<'a, Device, R>>,
+    // A begin was read, and its commit wasn't yet.
+    is_begun: bool,
     // How many rows the transaction has.
     puts: u64,
+    // How many rows were read since the last end of a list.
+    listed: u64,
     // How many rows are committed.
     kept: u64,
 }
@@ -40,7 +47,9 @@ impl<'a, R: Eprint + Clock + Wait + Drop> Loader<'a, R> {
             database,
             progress,
             open: None,
+            is_begun: false,
             puts: 0,
+            listed: 0,
             kept: 0,
         }
     }
@@ -57,11 +66,23 @@ impl<'a, R: Eprint + Clock + Wait + Drop> Loader<'a, R> {
             let Some(line) = lines.next_line().map_err(Stop::Input)? else {
                 break;
             };
-            if let Some((key, row)) = row_of(self.alloc, line)? {
-                self.put(key, row)?;
-            }
+            let part = part_of(self.alloc, line)?;
+            self.take(part)?;
+        }
+        if self.is_begun {
+            return Err(Failed::Refused(Refusal::Unfinished));
         }
         self.keep()
+    }
+
+    fn take(&mut self, part: Part) -> Result<(), Failed> {
+        match part {
+            Part::Row(key, row) => self.put(key, row),
+            Part::Begin => self.begin(),
+            Part::Commit => self.commit(),
+            Part::End(rows) => Ok(self.end_list(rows)?),
+            Part::Other => Ok(()),
+        }
     }
 
     fn put(&mut self, key: Key, row: Row) -> Result<(), Failed> {
@@ -72,10 +93,42 @@ impl<'a, R: Eprint + Clock + Wait + Drop> Loader<'a, R> {
         transaction.put(key, row)?;
         self.open = Some(transaction);
         self.puts = self.puts.saturating_add(1);
-        if self.puts < MOST_PUTS {
+        self.listed = self.listed.saturating_add(1);
+        if self.is_begun || self.puts < MOST_PUTS {
             return Ok(());
         }
         self.keep()
+    }
+
+    // What is put from here on is kept by the commit alone.
+    fn begin(&mut self) -> Result<(), Failed> {
+        if self.is_begun {
+            return Err(refused("load: begin within begin"));
+        }
+        self.keep()?;
+        self.is_begun = true;
+        Ok(())
+    }
+
+    fn commit(&mut self) -> Result<(), Failed> {
+        if !self.is_begun {
+            return Err(refused("load: commit without begin"));
+        }
+        self.keep()?;
+        self.is_begun = false;
+        Ok(())
+    }
+
+    // A list ends, which had this many rows.
+    fn end_list(&mut self, rows: u64) -> Result<(), Refusal> {
+        let listed = self.listed;
+        if listed != rows {
+            return Err(Refusal::Words(anyhow!(
+                "load: the list had {rows} rows, and {listed} of them came"
+            )));
+        }
+        self.listed = 0;
+        Ok(())
     }
 
     // Commits the rows that are put.
@@ -90,21 +143,58 @@ impl<'a, R: Eprint + Clock + Wait + Drop> Loader<'a, R> {
     }
 }
 
-// The row that a line puts. None is put by the other lines that dump and wbl check print, nor by one without words.
-fn row_of(alloc: Global, line: Line<'_>) -> Result<Option<(Key, Row)>, Refusal> {
-    let text = text_of(line)?;
-    let words = split_line(alloc, text).map_err(Refusal::Spelling)?;
-    parse_row_line(words.as_slice()).map_err(Refusal::Spelling)
+fn refused(reason: &'static str) -> Failed {
+    Failed::Refused(Refusal::Words(anyhow!("{reason}")))
 }
 
-fn parse_row_line(words: &[&str]) -> Result<Option<(Key, Row)>, Error> {
-    match words {
-        ["put", table, key, row] => Ok(Some(parse_key_and_row("load", table, key, row)?)),
-        [] | ["begin"] | ["commit"] | ["ready"] | ["closed"] | ["end", _] => Ok(None),
-        ["sound", ..] => Ok(None),
-        [table, key, row] if *table != "put" => Ok(Some(parse_key_and_row(
-            "load", table, key, row,
-        )?)),
-        _ => bail!("load: expected put TABLE KEY ROW, or TABLE KEY ROW"),
+// What a line means to a load.
+#[derive(Clone, Copy)]
+enum Part {
+    Row(Key, Row),
+    Begin,
+    Commit,
+    /// The end of a list of this many rows.
+    End(u64),
+    /// What else dump and wbl check print, or no words.
+    Other,
+}
+
+fn part_of(alloc: Global, line: Line<'_>) -> Result<Part, Refusal> {
+    let text = text_of(line)?;
+    match split_line(alloc, text) {
+        Ok(words) => parse_part(words.as_slice()),
+        Err(_) => Err(Refusal::Fault(Fault::OutOfMemory)),
     }
+}
+
+fn parse_part(words: &[&str]) -> Result<Part, Refusal> {
+    let Some((name, rest)) = words.split_first() else {
+        return Ok(Part::Other);
+    };
+    match (find_word(name), rest) {
+        (Some(Word::Put), [table, key, row]) => parse_put(table, key, row),
+        (Some(Word::Begin), []) => Ok(Part::Begin),
+        (Some(Word::Commit), []) => Ok(Part::Commit),
+        (Some(_), _) => Err(wrong_part()),
+        (None, _) => parse_other(name, rest),
+    }
+}
+
+// What begins with a table's number, or with a word of wbl's.
+fn parse_other(name: &str, rest: &[&str]) -> Result<Part, Refusal> {
+    match (name, rest) {
+        ("ready" | "closed", []) | ("sound", _) => Ok(Part::Other),
+        ("end", [rows]) => Ok(Part::End(parse_number("load", "end", rows)?)),
+        (table, [key, row]) => parse_put(table, key, row),
+        _ => Err(wrong_part()),
+    }
+}
+
+fn parse_put(table: &str, key: &str, row: &str) -> Result<Part, Refusal> {
+    let (key, row) = parse_key_and_row("load", table, key, row)?;
+    Ok(Part::Row(key, row))
+}
+
+fn wrong_part() -> Refusal {
+    Refusal::Words(anyhow!("load: expected put TABLE KEY ROW, or TABLE KEY ROW"))
 }

@@ -25,7 +25,7 @@ pub fn parse_number(command: &str, name: &str, word: &str) -> Result<u64, Error>
             "{command}: {name} {word} is greater than {}",
             u64::MAX
         ),
-        Err(_) => bail!("{command}: {name} {word:?} is no number"),
+        Err(_) => bail!("{command}: {name} {word:?} is not a number"),
     }
 }
 

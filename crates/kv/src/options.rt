@@ -1,6 +1,9 @@
-use crate::command::Command;
+use crate::command::{Command, Request};
+use crate::refusal::Refusal;
+use crate::rows::may_be_text;
 use crate::words::parse_words;
-use anyhow::{Error, bail};
+use anyhow::anyhow;
+use base::fault::Fault;
 use base::geometry::Geometry;
 use clap::{Arg, ArgAction, ArgMatches, value_parser};
 use std::alloc::{AllocError, Global};
@@ -9,29 +12,75 @@ use std::alloc::{AllocError, Global};
 #[derive(Clone, Copy)]
 pub struct Options<'a> {
     pub file: &'a str,
-    /// Of a store that is made.
-    pub geometry: Geometry,
+    pub layout: Layout,
     /// Rows that are text are printed as that.
     pub is_text: bool,
-    /// What alone is obeyed, in the place of lines.
-    pub command: Option<Command>,
+    /// The first line that is refused ends the run.
+    pub bails: bool,
+    /// What alone is run, instead of lines.
+    pub command: Option<Given>,
 }
 
+impl Options<'_> {
+    /// Whether the file has to be a store already: only lines and commands that put rows create one.
+    pub fn needs_store(&self) -> bool {
+        match &self.command {
+            Some(given) => !given.command.creates(),
+            None => false,
+        }
+    }
+}
+
+/// That of a new store: what is asked for, and else the default.
+#[derive(Clone, Copy)]
+pub struct Layout {
+    slots: Option<u64>,
+    places: Option<u64>,
+    window: Option<u64>,
+    is_wide: bool,
+    pub geometry: Geometry,
+}
+
+impl Layout {
+    /// Whether a store of this layout is one that is asked for.
+    pub fn allows(&self, found: &Geometry) -> bool {
+        self.slots.unwrap_or(found.slots()) == found.slots()
+            && self.places.unwrap_or(found.places()) == found.places()
+            && self.window.unwrap_or(found.window()) == found.window()
+            && (found.is_wide() || !self.is_wide)
+    }
+}
+
+/// A command behind the file's name.
+#[derive(Clone, Copy)]
+pub struct Given {
+    pub command: Command,
+    /// Its last word is a row of hexadecimal digits that may have been meant as text.
+    pub is_doubtful: bool,
+}
+
+// The layout of a new store, unless options say otherwise.
+const DEFAULT_SLOTS: u64 = 65_536;
+
+const DEFAULT_PLACES: u64 = 2;
+
+const DEFAULT_WINDOW: u64 = 1_024;
+
 const ABOUT: &str =
-    "Keeps rows under keys in FILE, which is made where it is missing. It obeys COMMAND, or where there is none the lines of standard input, \
-and answers each; kv FILE help says which there are. What is answered committed persists.";
+    "Key-value store in FILE. Runs COMMAND, or else the lines of standard input, and prints an answer to each; kv FILE help lists the \
+commands. Only put, load and lines create FILE. Once \"committed\" is printed, a change survives a kill or a power failure.";
 
 const AFTER: &str =
-    "Status: 0 where all was obeyed, 3 where a line was refused, 1 where FILE or the output failed, 2 for wrong words.
-For example:     kv shop.img put 1 5 '\"milk\"'
-A larger store:  kv old.img dump | kv new.img --slots 65536 load";
+    "Exit status: 0 success, 3 a line or the command was refused, 1 FILE or the output failed, 2 wrong words.
+For example:         kv shop.img put 1 5 '\"milk\"'
+To change a layout:  kv old.img dump | kv new.img --slots 65536 load";
 
 /// What the command line takes.
 pub fn command_line<'a>(alloc: Global) -> Result<clap::Command<'a>, AllocError> {
     let command = clap::Command::new(alloc, "kv")
         .about(ABOUT)
         .after_help(AFTER);
-    with_numbers(alloc, with_words(alloc, command)?)
+    with_layout(alloc, with_words(alloc, command)?)
 }
 
 // What is worked on, and what is done.
@@ -42,83 +91,119 @@ fn with_words<'a>(
     let file = Arg::new(alloc, "FILE")
         .required(true)
         .action(ArgAction::Set)
-        .help("the store; one whose name begins with - is ./-NAME");
+        .help("the store file (write ./-NAME if it begins with -)");
     let words = Arg::new(alloc, "COMMAND")
         .num_args(0..)
         .trailing_var_arg(true)
         .action(ArgAction::Append)
-        .help("a line that is obeyed alone, as get 1 5; options stand before it");
-    let text = Arg::new(alloc, "text")
-        .long("text")
-        .action(ArgAction::SetTrue)
-        .help("prints rows that are text in quotation marks, as at a terminal");
-    command.arg(file)?.arg(words)?.arg(text)
+        .help("a single command, e.g. get 1 5; put options before it");
+    let text = flag(
+        alloc,
+        "text",
+        "prints rows that are text in quotation marks, as at a terminal",
+    );
+    let bail = flag(alloc, "bail", "ends at the first line that is refused");
+    command.arg(file)?.arg(words)?.arg(text)?.arg(bail)
 }
 
-// How a store is made.
-fn with_numbers<'a>(
+// How a store is created.
+fn with_layout<'a>(
     alloc: Global,
     command: clap::Command<'a>,
 ) -> Result<clap::Command<'a>, AllocError> {
-    let slots = number(alloc, "slots", "1024").help(
-        "how many rows a new store has room for, up to 65536",
+    let slots = number(alloc, "slots")
+        .value_parser(value_parser!(u64).range(1..=65_536))
+        .help("number of row versions that a new store has room for, 1 to 65536 (default 65536)");
+    let places = number(alloc, "places")
+        .value_parser(value_parser!(u64).range(2..=64))
+        .help("number of commit records that a new store keeps, 2 to 64 (default 2)");
+    let window = number(alloc, "window")
+        .value_parser(value_parser!(u64).range(4..=1_024))
+        .help("number of timestamps that a new store reserves at a time, 4 to 1024 (default 1024)");
+    let wide = flag(
+        alloc,
+        "wide",
+        "creates a store for rows of up to 96 bytes instead of 32",
     );
-    let places = number(alloc, "places", "2").help(
-        "how many records of a new store have a place, 2 to 64",
-    );
-    let window = number(alloc, "window", "1024").help(
-        "how many timestamps a new store reserves, 4 to 1024",
-    );
-    let wide = Arg::new(alloc, "wide")
-        .long("wide")
-        .action(ArgAction::SetTrue)
-        .help("a new store takes rows of up to 96 bytes, and not of 32");
     command.arg(slots)?.arg(places)?.arg(window)?.arg(wide)
 }
 
-fn number<'a>(alloc: Global, name: &'a str, default: &'a str) -> Arg<'a> {
+fn flag<'a>(alloc: Global, name: &'a str, help: &'a str) -> Arg<'a> {
     Arg::new(alloc, name)
         .long(name)
-        .value_name("N")
-        .value_parser(value_parser!(u64))
-        .default_value(default)
+        .action(ArgAction::SetTrue)
+        .help(help)
+}
+
+fn number<'a>(alloc: Global, name: &'a str) -> Arg<'a> {
+    Arg::new(alloc, name).long(name).value_name("N")
 }
 
 /// What the words gave.
-pub fn read_options<'a>(matches: &ArgMatches<'a>) -> Result<Options<'a>, Error> {
+pub fn read_options<'a>(matches: &ArgMatches<'a>) -> Result<Options<'a>, Refusal> {
     let Some(file) = matches.get_str("FILE") else {
-        bail!("no file is named");
+        return Err(Refusal::Words(anyhow!("no file is named")));
     };
-    let geometry = read_geometry(matches)?;
+    let layout = read_layout(matches)?;
     let command = read_command(matches.get_strs("COMMAND").unwrap_or(&[]))?;
-    let is_text = matches.get_flag("text");
     Ok(Options {
         file,
-        geometry,
-        is_text,
+        layout,
+        is_text: matches.get_flag("text"),
+        bails: matches.get_flag("bail"),
         command,
     })
 }
 
-fn read_geometry(matches: &ArgMatches<'_>) -> Result<Geometry, Error> {
-    let slots = matches.get_one::<u64>("slots").unwrap_or(0);
-    let places = matches.get_one::<u64>("places").unwrap_or(0);
-    let window = matches.get_one::<u64>("window").unwrap_or(0);
-    if matches.get_flag("wide") {
-        Ok(Geometry::wide(slots, places, window)?)
+fn read_layout(matches: &ArgMatches<'_>) -> Result<Layout, Fault> {
+    let slots = matches.get_one::<u64>("slots");
+    let places = matches.get_one::<u64>("places");
+    let window = matches.get_one::<u64>("window");
+    let is_wide = matches.get_flag("wide");
+    Ok(Layout {
+        slots,
+        places,
+        window,
+        is_wide,
+        geometry: geometry_of(slots, places, window, is_wide)?,
+    })
+}
+
+fn geometry_of(
+    slots: Option<u64>,
+    places: Option<u64>,
+    window: Option<u64>,
+    is_wide: bool,
+) -> Result<Geometry, Fault> {
+    let slots = slots.unwrap_or(DEFAULT_SLOTS);
+    let places = places.unwrap_or(DEFAULT_PLACES);
+    let window = window.unwrap_or(DEFAULT_WINDOW);
+    if is_wide {
+        Geometry::wide(slots, places, window)
     } else {
-        Ok(Geometry::new(slots, places, window)?)
+        Geometry::new(slots, places, window)
     }
 }
 
 // The command that stands behind the file, if one does.
-fn read_command(words: &[&str]) -> Result<Option<Command>, Error> {
+fn read_command(words: &[&str]) -> Result<Option<Given>, Refusal> {
     if words.is_empty() {
         return Ok(None);
     }
     let command = parse_words(words)?;
-    if !command.stands_alone() {
-        bail!("one command is a transaction by itself: lines of standard input make a longer one");
+    match command.why_not_alone() {
+        Some(reason) => Err(Refusal::Words(anyhow!("{reason}"))),
+        None => Ok(Some(Given {
+            command,
+            is_doubtful: is_doubtful(&command, words),
+        })),
     }
-    Ok(Some(command))
+}
+
+// Whether a put has a row of digits that may have been meant as text, whose quotation marks a shell took.
+fn is_doubtful(command: &Command, words: &[&str]) -> bool {
+    match (command, words.last()) {
+        (Command::Ask(Request::Put { .. }), Some(row)) => may_be_text(row),
+        _ => false,
+    }
 }

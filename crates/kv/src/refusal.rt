@@ -1,33 +1,123 @@
 use anyhow;
 use base::fault::Fault;
+use base::geometry::Geometry;
 use pmem_file::OpenError;
-use std::io;
+use std::{fmt, io};
 use thiserror::Error;
 
-/// Why a line isn't obeyed. The next is.
+/// Why a line isn't run. The next one may be.
 #[derive(Debug, Drop, Error)]
 pub enum Refusal {
+    /// Its first word is not a command's.
     #[error("{0}")]
-    Spelling(#[from] anyhow::Error),
+    Unknown(anyhow::Error),
+    /// Its words are not those of its command.
     #[error("{0}")]
-    Fault(Fault),
-    #[error("no slot is free: delete rows, or copy them into a larger store")]
-    Full,
-    #[error("a transaction is open: commit or abort ends it")]
+    Words(#[from] anyhow::Error),
+    /// Its row is neither digits nor text.
+    #[error("{0}: bytes are two hexadecimal digits each, and text needs quotation marks, which a shell takes away: '\"text\"'")]
+    Row(anyhow::Error),
+    #[error("{0}")]
+    Fault(#[from] Fault),
+    #[error("a transaction is open: end it with commit or abort")]
     Open,
     #[error("no transaction is open: begin opens one")]
     NotOpen,
-    #[error("line {0} of the transaction was refused: commit or abort ends it, and nothing of it is kept")]
+    #[error("line {0} was refused, and its transaction with it: end it with commit or abort; nothing of it is kept")]
     Broken(u64),
-    #[error("nothing was committed, since line {0} of the transaction was refused")]
+    #[error("nothing was committed, because line {0} was refused")]
     NotCommitted(u64),
-    #[error("it isn't UTF-8")]
+    #[error("the line is not valid UTF-8")]
     NotText,
-    #[error("it has more than {0} bytes")]
-    TooLong(usize),
+    #[error("the line is longer than {0} bytes")]
+    LineTooLong(usize),
+    #[error("the input ended within this line: without its line feed, part of it may be missing")]
+    Cut,
+    #[error("load: the input ended between begin and commit: nothing of that transaction is kept")]
+    Unfinished,
 }
 
-/// Why no further line is obeyed.
+impl Refusal {
+    /// By which programs know it: of a fault its own name.
+    pub fn name(&self) -> &'static str {
+        match self {
+            Refusal::Unknown(_) => "UnknownCommand",
+            Refusal::Words(_) | Refusal::Row(_) => "BadWords",
+            Refusal::Fault(fault) => fault.name(),
+            Refusal::Open => "TransactionOpen",
+            Refusal::NotOpen => "NoTransaction",
+            Refusal::Broken(_) => "TransactionBroken",
+            Refusal::NotCommitted(_) => "NotCommitted",
+            Refusal::NotText => "NotText",
+            Refusal::LineTooLong(_) => "LineTooLong",
+            Refusal::Cut => "LineCut",
+            Refusal::Unfinished => "Unfinished",
+        }
+    }
+
+    /// Whether it leaves a transaction as it was, so that a person may type another line.
+    pub fn is_harmless(&self) -> bool {
+        matches!(
+            self,
+            Refusal::Unknown(_)
+                | Refusal::Words(_)
+                | Refusal::Row(_)
+                | Refusal::NotText
+                | Refusal::LineTooLong(_)
+                | Refusal::Open
+                | Refusal::Fault(Fault::TooLong | Fault::WriteSetFull)
+        )
+    }
+}
+
+/// A refusal by a store of this layout, as a sentence that says what can be done there.
+#[derive(Clone, Copy)]
+pub struct Sentence<'a> {
+    pub refusal: &'a Refusal,
+    pub geometry: Geometry,
+}
+
+impl fmt::Display for Sentence<'_> {
+    fn fmt<W: fmt::Write>(&self, f: &mut fmt::Formatter<W>) -> fmt::Result {
+        match self.refusal {
+            Refusal::Fault(Fault::SlotsOut) => write_full(f, self.geometry.slots()),
+            Refusal::Fault(Fault::TooLong) => write_too_long(f, &self.geometry),
+            Refusal::Fault(Fault::WriteSetFull) => write!(
+                f,
+                "a transaction writes at most 32 keys: write this one in the next transaction"
+            ),
+            refusal => write!(f, "{refusal}"),
+        }
+    }
+}
+
+fn write_full<W: fmt::Write>(f: &mut fmt::Formatter<W>, slots: u64) -> fmt::Result {
+    write!(
+        f,
+        "no slot is free, and an update needs one too: delete a row"
+    )?;
+    if slots < Geometry::MOST_SLOTS {
+        write!(
+            f,
+            ", or copy all rows into a store with more slots, as help shows"
+        )?;
+    }
+    Ok(())
+}
+
+fn write_too_long<W: fmt::Write>(f: &mut fmt::Formatter<W>, geometry: &Geometry) -> fmt::Result {
+    let limit = geometry.row_limit();
+    write!(
+        f,
+        "the row is too long: a row of this store has at most {limit} bytes"
+    )?;
+    if !geometry.is_wide() {
+        write!(f, " (96 in a store that is created with --wide)")?;
+    }
+    Ok(())
+}
+
+/// Why no further line is run.
 #[derive(Debug, Drop, Error)]
 pub enum Stop {
     #[error("standard input: {0}")]
@@ -40,7 +130,7 @@ pub enum Stop {
     /// It failed while a commit was in hand.
     #[error("whether the last commit is kept is known when the file is opened again; those before it are")]
     InCommit,
-    /// It failed once all lines were obeyed.
+    /// It failed after all lines.
     #[error("what was committed is kept, and the file isn't closed")]
     AtClose,
 }
@@ -57,14 +147,31 @@ pub enum Reason {
 /// Why a store couldn't be used to the end.
 #[derive(Debug, Drop, Error)]
 pub enum Failure {
+    #[error("no such file: only put, load and lines of standard input create a store")]
+    Missing,
+    #[error("the file is empty: only put, load and lines of standard input create a store in it")]
+    Empty,
+    #[error("it has {slots} slots of {width} bytes, {places} places and a window of {window}, and keeps them: leave out the options that differ")]
+    HasLayout {
+        slots: u64,
+        width: usize,
+        places: u64,
+        window: u64,
+    },
     #[error("{0}")]
     File(#[from] OpenError),
     #[error("{0}")]
-    Geometry(#[from] Fault),
-    #[error("{0}")]
     NotOpened(Reason),
     #[error("{reason}: {stop}")]
-    NotClosed { reason: Reason, stop: Stop },
+    NotClosed {
+        reason: Reason,
+        stop: Stop,
+    },
+    #[error("the file was removed while it was open, and what it held is gone")]
+    Unlinked,
+    /// A line was refused for the same reason, and it was printed.
+    #[error("the file isn't closed")]
+    Told,
     #[error("{0}")]
     Stopped(#[from] Stop),
 }

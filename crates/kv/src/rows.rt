@@ -1,31 +1,34 @@
-use anyhow::{Error, bail};
+use crate::refusal::Refusal;
+use anyhow::{Error, anyhow, bail};
 use base::row::Row;
 use hex::decode_to_slice;
 use std::{fmt, str};
 
+const LIMITS: &str = "at most 32 are allowed, or 96 in a store that is created with --wide";
+
+/// Whether a row in hexadecimal digits may have been meant as a word, as `beef`: it has letters alone, and more than two.
+pub fn may_be_text(word: &str) -> bool {
+    2 < word.len() && word.bytes().all(|byte| byte.is_ascii_alphabetic())
+}
+
 /// The row that a word spells: text in quotation marks, two hexadecimal digits for each byte, or `-` for no bytes.
-pub fn parse_row(command: &str, word: &str) -> Result<Row, Error> {
+pub fn parse_row(command: &str, word: &str) -> Result<Row, Refusal> {
     match word.strip_prefix('"') {
-        Some(text) => parse_text(command, text),
+        Some(text) => Ok(parse_text(command, text)?),
         None if word == "-" => Ok(Row::new(&[])?),
         None => parse_digits(command, word),
     }
 }
 
-fn parse_digits(command: &str, word: &str) -> Result<Row, Error> {
+fn parse_digits(command: &str, word: &str) -> Result<Row, Refusal> {
     let length = word.len() / 2;
-    if length > Row::LIMIT {
-        bail!(
-            "{command}: ROW has {length} bytes, and may have {}",
-            Row::LIMIT
-        );
-    }
     let mut bytes = [0; Row::LIMIT];
+    if length > Row::LIMIT {
+        return Err(Refusal::Words(anyhow!("{command}: ROW has {length} bytes: {LIMITS}")));
+    }
     match decode_to_slice(word, &mut bytes[..length]) {
         Ok(()) => Ok(Row::new(&bytes[..length])?),
-        Err(_) => bail!(
-            "{command}: ROW {word:?} is neither hexadecimal digits, two for each byte, nor text in quotation marks"
-        ),
+        Err(_) => Err(Refusal::Row(anyhow!("{command}: ROW {}", Bare(word)))),
     }
 }
 
@@ -62,10 +65,27 @@ enum Read {
 fn read_escaped(is_escaped: bool, byte: u8) -> Read {
     match (is_escaped, byte) {
         (false, b'\\') => Read::Escape,
-        (false, b'"') => Read::Wrong("has a quotation mark within the text without a backslash"),
+        (false, b'"') => Read::Wrong("has a quotation mark within the text: write it \\\" there"),
         (true, b'n') => Read::Byte(b'\n'),
         (true, b'"' | b'\\') | (false, _) => Read::Byte(byte),
-        (true, _) => Read::Wrong("has a backslash before something else than \", \\ and n"),
+        (true, _) => Read::Wrong("has an unknown escape: only \\\", \\\\ and \\n are allowed"),
+    }
+}
+
+// A word as it was given, without control characters.
+#[derive(Clone, Copy)]
+struct Bare<'a>(&'a str);
+
+impl fmt::Display for Bare<'_> {
+    fn fmt<W: fmt::Write>(&self, f: &mut fmt::Formatter<W>) -> fmt::Result {
+        for character in self.0.chars() {
+            f.write_char(if character.is_control() {
+                '?'
+            } else {
+                character
+            })?;
+        }
+        Ok(())
     }
 }
 
@@ -86,7 +106,7 @@ impl Bytes {
 
     fn push(&mut self, command: &str, byte: u8) -> Result<(), Error> {
         let Some(place) = self.bytes.get_mut(self.length) else {
-            bail!("{command}: ROW has more than {} bytes", Row::LIMIT);
+            bail!("{command}: ROW is too long: {LIMITS}");
         };
         *place = byte;
         self.length = self.length.saturating_add(1);

@@ -30,7 +30,7 @@ pub enum Answer {
     Status(Statistics),
 }
 
-/// A line that isn't obeyed: it is refused, or no further one can be obeyed either.
+/// A line that isn't run: it is refused, or no further one can be run either.
 #[derive(Drop)]
 pub enum Failed {
     Refused(Refusal),
@@ -53,7 +53,6 @@ impl From<Fault> for Failed {
     fn from(fault: Fault) -> Failed {
         match fault {
             Fault::Device | Fault::Failed => Failed::Stopped(Stop::Device),
-            Fault::SlotsOut => Failed::Refused(Refusal::Full),
             fault => Failed::Refused(Refusal::Fault(fault)),
         }
     }
@@ -92,8 +91,8 @@ impl<'a, R: Wait + Drop> Session<'a, R> {
         }
     }
 
-    /// Obeys a request. Outside a transaction it is one by itself.
-    pub fn obey(&mut self, request: &Request) -> Result<Answer, Failed> {
+    /// Does what is asked. Outside a transaction it is one by itself.
+    pub fn answer(&mut self, request: &Request) -> Result<Answer, Failed> {
         match request {
             Request::Begin => self.begin(),
             Request::Commit => self.commit(),

@@ -1,12 +1,13 @@
 use crate::answers::{Manner, Printer};
 use crate::command::{Command, Request};
-use crate::input::{Line, Lines};
+use crate::input::Lines;
 use crate::load::Loader;
 use crate::opening::Device;
 use crate::progress::Progress;
-use crate::refusal::{Refusal, Stop};
+use crate::refusal::{Refusal, Sentence, Stop};
 use crate::session::{Failed, Session};
 use crate::words::parse_line;
+use base::fault::Fault;
 use database::Database;
 use std::alloc::Global;
 use std::io;
@@ -15,14 +16,36 @@ use std::rt::Clock;
 use std::sync::Wait;
 use std::time::Instant;
 
-/// Answers each line of the input, and whether one was refused. A transaction that is open at the end is aborted.
+/// What came of the lines.
+#[derive(Clone, Copy)]
+pub struct Outcome {
+    /// A line was refused.
+    pub was_refused: bool,
+    /// One was refused because no timestamps or record numbers are left.
+    pub is_spent: bool,
+}
+
+impl Outcome {
+    /// Nothing was refused.
+    pub fn new() -> Outcome {
+        Outcome {
+            was_refused: false,
+            is_spent: false,
+        }
+    }
+}
+
+/// Replies to each line of the input. A transaction that is open at the end is rolled back. With `bails` it ends at the first line that
+/// is refused.
 pub fn answer_lines<'a, R: Input + Print + Eprint + Clock + Wait + Drop>(
     rt: &'a R,
     alloc: Global,
     database: &'a Database<Device, R>,
     manner: Manner,
-) -> Result<bool, Stop> {
+    bails: bool,
+) -> Result<Outcome, Stop> {
     let mut shell = Shell::new(rt, alloc, database, manner).map_err(Stop::Output)?;
+    shell.bails = bails;
     let mut lines = Lines::new(alloc, rt.reader()).map_err(Stop::Input)?;
     println!(rt; "ready").map_err(Stop::Output)?;
     let answered = shell.answer_each(&mut lines);
@@ -32,21 +55,21 @@ pub fn answer_lines<'a, R: Input + Print + Eprint + Clock + Wait + Drop>(
     Ok(shell.leave())
 }
 
-/// Obeys one command, and whether it was refused.
+/// Runs one command.
 pub fn answer_command<'a, R: Input + Print + Eprint + Clock + Wait + Drop>(
     rt: &'a R,
     alloc: Global,
     database: &'a Database<Device, R>,
     manner: Manner,
     command: &Command,
-) -> Result<bool, Stop> {
+) -> Result<Outcome, Stop> {
     let mut shell = Shell::new(rt, alloc, database, manner).map_err(Stop::Output)?;
     let mut lines = Lines::new(alloc, rt.reader()).map_err(Stop::Input)?;
-    let obeyed = shell.obey(&mut lines, command);
+    let ran = shell.run(&mut lines, command);
     let flushed = shell.flush();
-    obeyed?;
+    ran?;
     flushed?;
-    Ok(shell.was_refused)
+    Ok(shell.outcome)
 }
 
 // What goes on between a store and whoever asks.
@@ -58,7 +81,8 @@ struct Shell<'a, R: Eprint + Clock + Wait + Drop> {
     session: Session<'a, R>,
     printer: Printer<'a, R>,
     is_timed: bool,
-    was_refused: bool,
+    bails: bool,
+    outcome: Outcome,
 }
 
 impl<'a, R: Print + Eprint + Clock + Wait + Drop> Shell<'a, R> {
@@ -75,7 +99,8 @@ impl<'a, R: Print + Eprint + Clock + Wait + Drop> Shell<'a, R> {
             session: Session::new(alloc, database),
             printer: Printer::new(alloc, rt, manner)?,
             is_timed: false,
-            was_refused: false,
+            bails: false,
+            outcome: Outcome::new(),
         })
     }
 
@@ -108,23 +133,22 @@ impl<'a, R: Print + Eprint + Clock + Wait + Drop> Shell<'a, R> {
         let Some(line) = lines.next_line().map_err(Stop::Input)? else {
             return Ok(false);
         };
-        let begins = begins(line);
         match parse_line(self.alloc, line) {
-            Ok(None) => Ok(true),
-            Ok(Some(Command::Quit)) => Ok(false),
-            Ok(Some(command)) => {
-                self.obey(lines, &command)?;
-                Ok(true)
-            }
-            Err(refusal) => {
-                self.refuse(lines.number(), begins, &refusal)?;
-                Ok(true)
-            }
+            Ok(None) => {}
+            Ok(Some(Command::Quit)) => return Ok(false),
+            Ok(Some(command)) => self.run(lines, &command)?,
+            Err(unread) => self.refuse(lines.number(), unread.may_begin, &unread.refusal)?,
         }
+        Ok(!self.has_bailed())
     }
 
-    // Obeys a command, and prints the answer.
-    fn obey<I: BufRead + Drop>(
+    // Whether no further line is read, since one was refused.
+    fn has_bailed(&self) -> bool {
+        self.bails && self.outcome.was_refused
+    }
+
+    // Runs a command, and prints the answer.
+    fn run<I: BufRead + Drop>(
         &mut self,
         lines: &mut Lines<I>,
         command: &Command,
@@ -150,13 +174,13 @@ impl<'a, R: Print + Eprint + Clock + Wait + Drop> Shell<'a, R> {
             Command::Ask(request) => self.ask(request),
             Command::Load => self.load(lines),
             Command::Timing(is_timed) => self.set_timing(*is_timed),
-            Command::Help(word) => Ok(self.printer.help(*word).map_err(Stop::Output)?),
+            Command::Help(word) => Ok(self.printer.answer_help(*word).map_err(Stop::Output)?),
             Command::Quit => Ok(()),
         }
     }
 
     fn ask(&mut self, request: &Request) -> Result<(), Failed> {
-        let answer = self.session.obey(request)?;
+        let answer = self.session.answer(request)?;
         self.printer.print(&answer).map_err(Stop::Output)?;
         Ok(())
     }
@@ -169,7 +193,7 @@ impl<'a, R: Print + Eprint + Clock + Wait + Drop> Shell<'a, R> {
         Ok(())
     }
 
-    // Puts the rows of the lines that are left.
+    // Puts the rows of the lines that are left, up to one that is refused. How many are kept ends the answer.
     fn load<I: BufRead + Drop>(&mut self, lines: &mut Lines<I>) -> Result<(), Failed> {
         if self.session.is_open() {
             return Err(Failed::Refused(Refusal::Open));
@@ -179,36 +203,57 @@ impl<'a, R: Print + Eprint + Clock + Wait + Drop> Shell<'a, R> {
         let mut loader = Loader::new(self.alloc, self.database, progress);
         let loaded = loader.load(lines);
         let kept = loader.end();
+        if let Err(failed) = loaded {
+            self.refuse_rest(lines.number(), failed)?;
+        }
         println!(self.rt; "loaded {kept}").map_err(Stop::Output)?;
-        loaded
+        Ok(())
     }
 
-    // Says why a line is refused, after the answers before it, and breaks off the transaction that it belongs to. A person may spell it
-    // again.
+    // Says why a load ended before the input did.
+    fn refuse_rest(&mut self, line: u64, failed: Failed) -> Result<(), Stop> {
+        match failed {
+            Failed::Stopped(stop) => Err(stop),
+            Failed::Refused(refusal) => self.refuse(line, false, &refusal),
+        }
+    }
+
+    // Says that a line is refused and why, and breaks off the transaction that it belongs to. A person may type another one.
     fn refuse(&mut self, line: u64, begins: bool, refusal: &Refusal) -> Result<(), Stop> {
-        self.was_refused = true;
-        self.flush()?;
+        self.note(refusal);
+        let geometry = self.database.geometry();
+        let sentence = Sentence { refusal, geometry };
+        self.printer
+            .refuse(refusal.name(), &sentence)
+            .map_err(Stop::Output)?;
         let is_prompted = self.printer.manner.is_prompted;
         let _ = match (is_prompted, line) {
-            (true, _) => eprintln!(self.rt; "refused: {refusal}"),
-            (false, 0) => eprintln!(self.rt; "kv: {refusal}"),
-            (false, _) => eprintln!(self.rt; "kv: line {line}: {refusal}"),
+            (true, _) => eprintln!(self.rt; "refused: {sentence}"),
+            (false, 0) => eprintln!(self.rt; "kv: {sentence}"),
+            (false, _) => eprintln!(self.rt; "kv: line {line}: {sentence}"),
         };
-        if !(is_prompted && is_spelling(refusal)) {
+        if !(is_prompted && refusal.is_harmless()) {
             self.session.break_off(line, begins && !is_prompted);
         }
         Ok(())
     }
 
-    // Says of a transaction that is open at the end that it is aborted. Whether a line was refused, or one is.
-    fn leave(&self) -> bool {
-        let is_open = self.session.is_open();
-        if is_open {
+    fn note(&mut self, refusal: &Refusal) {
+        self.outcome.was_refused = true;
+        if matches!(refusal, Refusal::Fault(Fault::TimestampsOut)) {
+            self.outcome.is_spent = true;
+        }
+    }
+
+    // Says of a transaction that is open at the end of the input that it is rolled back.
+    fn leave(&mut self) -> Outcome {
+        if self.session.is_open() && !self.has_bailed() {
+            self.outcome.was_refused = true;
             let _ = eprintln!(self.rt;
-                "kv: the input ended within a transaction, of which nothing is kept"
+                "kv: the input ended inside a transaction, which is rolled back"
             );
         }
-        self.was_refused | is_open
+        self.outcome
     }
 
     // When a command begins, if its time is to be printed.
@@ -235,19 +280,4 @@ impl<'a, R: Print + Eprint + Clock + Wait + Drop> Shell<'a, R> {
         }
         Ok(())
     }
-}
-
-// Whether the line was to begin a transaction.
-fn begins(line: Line<'_>) -> bool {
-    match line {
-        Line::Text(text) => text.trim_start().starts_with("begin"),
-        _ => false,
-    }
-}
-
-fn is_spelling(refusal: &Refusal) -> bool {
-    matches!(
-        refusal,
-        Refusal::Spelling(_) | Refusal::NotText | Refusal::TooLong(_) | Refusal::Open
-    )
 }

@@ -3,7 +3,7 @@ use base::geometry::Geometry;
 use room::{Status, Usage};
 use std::fmt;
 
-/// How a store is laid out, and how full it is.
+/// How a store is laid out, and how full it is: a name and a number on each line.
 #[derive(Clone, Copy)]
 pub struct Statistics {
     geometry: Geometry,
@@ -16,6 +16,9 @@ pub struct Statistics {
 }
 
 impl Statistics {
+    /// How many lines it has.
+    pub const LINES: usize = 11;
+
     pub fn of(geometry: &Geometry, status: &Status, usage: &Usage) -> Statistics {
         Statistics {
             geometry: *geometry,
@@ -24,12 +27,19 @@ impl Statistics {
             free: usage.free,
             gaps: status.gaps.as_slice().len() as u64,
             longs: status.longs.as_slice().len() as u64,
-            left: NUMBER_LIMIT.saturating_sub(status.next),
+            left: commits_left(geometry, status),
         }
     }
 }
 
-// A name and a number on each line.
+// How many commits may still be made. No timestamp of the last two windows is drawn, and each record has a number.
+fn commits_left(geometry: &Geometry, status: &Status) -> u64 {
+    let reserved = geometry.window().saturating_mul(2);
+    let draws = NUMBER_LIMIT.saturating_sub(status.next.saturating_add(reserved));
+    let records = NUMBER_LIMIT.saturating_sub(status.gate.saturating_add(1));
+    draws.min(records)
+}
+
 impl fmt::Display for Statistics {
     fn fmt<W: fmt::Write>(&self, f: &mut fmt::Formatter<W>) -> fmt::Result {
         let geometry = &self.geometry;

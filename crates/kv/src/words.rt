@@ -1,18 +1,32 @@
 use crate::command::{Command, Range, Request};
-use crate::help::{find_form, find_word};
-use crate::input::{Line, text_of};
+use crate::help::{Word, find_word, topic_of};
+use crate::input::{Line, first_word, text_of};
 use crate::numbers::{parse_key, parse_number, parse_table};
 use crate::refusal::Refusal;
 use crate::rows::parse_row;
 use anyhow::{Error, anyhow, bail};
+use base::fault::Fault;
 use base::key::Key;
 use base::row::Row;
-use std::alloc::Global;
+use std::alloc::{AllocError, Global};
+use std::str;
+use strsim::osa_distance;
+
+// A word that becomes `begin` by this many edits may be a misspelling of it.
+const MOST_EDITS: usize = 2;
+
+/// A line that isn't a command.
+#[derive(Drop)]
+pub struct Unread {
+    pub refusal: Refusal,
+    /// Its first word is `begin`, or can't be told to be another word.
+    pub may_begin: bool,
+}
 
 /// The words of a line. What stands from the first quotation mark on is one word, the last.
-pub fn split_line<'a>(alloc: Global, line: &'a str) -> Result<Vec<&'a str>, Error> {
+pub fn split_line<'a>(alloc: Global, line: &'a str) -> Result<Vec<&'a str>, AllocError> {
     let Some((start, _)) = line.split_once('"') else {
-        return Ok(line.split_whitespace().collect(alloc)?);
+        return line.split_whitespace().collect(alloc);
     };
     let mut words: Vec<&str> = start.split_whitespace().collect(alloc)?;
     if let Some(text) = line.strip_prefix(start) {
@@ -22,60 +36,109 @@ pub fn split_line<'a>(alloc: Global, line: &'a str) -> Result<Vec<&'a str>, Erro
 }
 
 /// The command that a line spells, or `None` for a line without words.
-pub fn parse_line(alloc: Global, line: Line<'_>) -> Result<Option<Command>, Refusal> {
+pub fn parse_line(alloc: Global, line: Line<'_>) -> Result<Option<Command>, Unread> {
+    match parse_text(alloc, line) {
+        Ok(command) => Ok(command),
+        Err(refusal) => {
+            let may_begin = may_begin(alloc, first_word(line));
+            Err(Unread { refusal, may_begin })
+        }
+    }
+}
+
+fn parse_text(alloc: Global, line: Line<'_>) -> Result<Option<Command>, Refusal> {
     let text = text_of(line)?;
-    let words = split_line(alloc, text)?;
+    let Ok(words) = split_line(alloc, text) else {
+        return Err(Refusal::Fault(Fault::OutOfMemory));
+    };
     if words.is_empty() {
         return Ok(None);
     }
     Ok(Some(parse_words(words.as_slice())?))
 }
 
-/// The command that some words spell.
-pub fn parse_words(words: &[&str]) -> Result<Command, Error> {
-    let Some((name, arguments)) = words.split_first() else {
-        bail!("no command: help lists them");
-    };
-    match *name {
-        "exit" => parse_own("quit", arguments),
-        "load" | "quit" | "help" | "timing" => parse_own(name, arguments),
-        _ => Ok(Command::Ask(parse_request(name, arguments)?)),
+// Whether the word is `begin` in any case, or a misspelling of it, as far as can be told.
+fn may_begin(alloc: Global, word: &[u8]) -> bool {
+    match str::from_utf8(word) {
+        Ok(word) => is_near_begin(alloc, word).unwrap_or(true),
+        Err(_) => true,
     }
 }
 
-// A command of the shell's own.
-fn parse_own(name: &str, arguments: &[&str]) -> Result<Command, Error> {
-    match (name, arguments) {
-        ("load", []) => Ok(Command::Load),
-        ("quit", []) => Ok(Command::Quit),
-        ("help", []) => Ok(Command::Help(None)),
-        ("help", [word]) => parse_help(word),
-        ("timing", ["on"]) => Ok(Command::Timing(true)),
-        ("timing", ["off"]) => Ok(Command::Timing(false)),
-        _ => Err(wrong_words(name)),
+fn is_near_begin(alloc: Global, word: &str) -> Result<bool, AllocError> {
+    let word = word.to_ascii_lowercase(alloc)?;
+    Ok(osa_distance(alloc, word.as_str(), "begin")? <= MOST_EDITS)
+}
+
+/// The command that some words spell.
+pub fn parse_words(words: &[&str]) -> Result<Command, Refusal> {
+    let Some((name, arguments)) = words.split_first() else {
+        return Err(Refusal::Words(anyhow!("no command: help lists the commands")));
+    };
+    match find_word(name) {
+        Some(word) => parse_command(word, arguments),
+        None => Err(Refusal::Unknown(unknown_word(name))),
+    }
+}
+
+// What is said about a first word that is not a command's.
+fn unknown_word(name: &str) -> Error {
+    if name.eq_ignore_ascii_case("check") {
+        anyhow!(
+            "check: each opening looks at every record and slot; wbl check FILE reads a closed store"
+        )
+    } else if name.eq_ignore_ascii_case("end") {
+        anyhow!("end is not a command: it ends a list, and load takes what dump prints")
+    } else if name.contains(' ') {
+        anyhow!(
+            "unknown command {name:?}: give its words one by one, without quotation marks around all"
+        )
+    } else {
+        anyhow!("unknown command {name:?}: help lists the commands")
+    }
+}
+
+fn parse_command(word: Word, arguments: &[&str]) -> Result<Command, Refusal> {
+    match (word, arguments) {
+        (Word::Load, []) => Ok(Command::Load),
+        (Word::Quit, []) => Ok(Command::Quit),
+        (Word::Help, []) => Ok(Command::Help(None)),
+        (Word::Help, [word]) => Ok(parse_help(word)?),
+        (Word::Timing, [word]) => Ok(parse_timing(word)?),
+        _ => Ok(Command::Ask(parse_request(word, arguments)?)),
     }
 }
 
 fn parse_help(word: &str) -> Result<Command, Error> {
     match find_word(word) {
         Some(word) => Ok(Command::Help(Some(word))),
-        None => bail!("help: {word:?} is no command: help lists them"),
+        None => bail!("help: unknown command {word:?}: help lists the commands"),
     }
 }
 
-fn parse_request(name: &str, arguments: &[&str]) -> Result<Request, Error> {
-    match (name, arguments) {
-        ("put", [table, key, row]) => parse_put(table, key, row),
-        ("del", [table, key]) => parse_delete(table, key),
-        ("get", [table, key]) => parse_get(table, key),
-        ("scan", _) => Ok(Request::Scan(parse_scan(arguments)?)),
-        ("count", [table]) => parse_count(table),
-        (_, []) => parse_word(name),
-        _ => Err(wrong_words(name)),
+fn parse_timing(word: &str) -> Result<Command, Error> {
+    if word.eq_ignore_ascii_case("on") {
+        Ok(Command::Timing(true))
+    } else if word.eq_ignore_ascii_case("off") {
+        Ok(Command::Timing(false))
+    } else {
+        Err(wrong_words(Word::Timing))
     }
 }
 
-fn parse_put(table: &str, key: &str, row: &str) -> Result<Request, Error> {
+fn parse_request(word: Word, arguments: &[&str]) -> Result<Request, Refusal> {
+    match (word, arguments) {
+        (Word::Put, [table, key, row]) => parse_put(table, key, row),
+        (Word::Del, [table, key]) => Ok(parse_delete(table, key)?),
+        (Word::Get, [table, key]) => Ok(parse_get(table, key)?),
+        (Word::Scan, _) => Ok(Request::Scan(parse_scan(arguments)?)),
+        (Word::Count, [table]) => Ok(parse_count(table)?),
+        (_, []) => Ok(parse_word(word)?),
+        _ => Err(Refusal::Words(wrong_words(word))),
+    }
+}
+
+fn parse_put(table: &str, key: &str, row: &str) -> Result<Request, Refusal> {
     let (key, row) = parse_key_and_row("put", table, key, row)?;
     Ok(Request::Put { key, row })
 }
@@ -86,7 +149,7 @@ pub fn parse_key_and_row(
     table: &str,
     key: &str,
     row: &str,
-) -> Result<(Key, Row), Error> {
+) -> Result<(Key, Row), Refusal> {
     let key = parse_key(command, table, key)?;
     let row = parse_row(command, row)?;
     Ok((key, row))
@@ -108,71 +171,98 @@ fn parse_count(table: &str) -> Result<Request, Error> {
 }
 
 // A request of one word.
-fn parse_word(name: &str) -> Result<Request, Error> {
-    match name {
-        "tables" => Ok(Request::Tables),
-        "dump" => Ok(Request::Dump),
-        "stat" => Ok(Request::Status),
-        "begin" => Ok(Request::Begin),
-        "commit" => Ok(Request::Commit),
-        "abort" => Ok(Request::Abort),
-        _ => Err(wrong_words(name)),
+fn parse_word(word: Word) -> Result<Request, Error> {
+    match word {
+        Word::Tables => Ok(Request::Tables),
+        Word::Dump => Ok(Request::Dump),
+        Word::Stat => Ok(Request::Status),
+        Word::Begin => Ok(Request::Begin),
+        Word::Commit => Ok(Request::Commit),
+        Word::Abort => Ok(Request::Abort),
+        _ => Err(wrong_words(word)),
     }
 }
 
 // What is wrong with words that begin with this one.
-fn wrong_words(name: &str) -> Error {
-    match find_form(name) {
-        Some(form) if form == name => anyhow!("{name} takes no words"),
-        Some(form) => anyhow!("{name}: expected {form}"),
-        None if name == "check" => anyhow!(
-            "check: an opening has looked at each record and row; wbl check FILE reads a closed store"
-        ),
-        None => anyhow!("{name:?} is no command: help lists them"),
+fn wrong_words(word: Word) -> Error {
+    match topic_of(word) {
+        Some(topic) if topic.form == topic.name => anyhow!("{} takes no other words", topic.name),
+        Some(topic) => anyhow!("{}: expected {}", topic.name, topic.form),
+        None => anyhow!("help lists the commands"),
     }
+}
+
+// The words of a scan, which come in any order but for the numbers.
+#[derive(Clone, Copy)]
+struct ScanWords<'a> {
+    // TABLE, LO and HI, and how many of them have come.
+    numbers: [Option<&'a str>; 3],
+    count: usize,
+    limit: u64,
+    is_reverse: bool,
+    awaits_limit: bool,
 }
 
 fn parse_scan(words: &[&str]) -> Result<Range, Error> {
-    let (words, is_reverse) = match words.split_last() {
-        Some((last, rest)) if *last == "--reverse" => (rest, true),
-        _ => (words, false),
+    let mut scan = ScanWords {
+        numbers: [None; 3],
+        count: 0,
+        limit: u64::MAX,
+        is_reverse: false,
+        awaits_limit: false,
     };
-    let (words, limit) = parse_limit(words)?;
-    let Some((table, ends)) = words.split_first() else {
-        return Err(wrong_words("scan"));
-    };
-    let (lo, hi) = parse_ends(ends)?;
-    Ok(Range {
-        table: parse_table("scan", table)?,
-        lo,
-        hi,
-        limit,
-        is_reverse,
-    })
+    for word in words {
+        scan.take(word)?;
+    }
+    scan.range()
 }
 
-// The first and the last key.
-fn parse_ends(words: &[&str]) -> Result<(u64, u64), Error> {
-    match words {
-        [] => Ok((0, u64::MAX)),
-        [lo] => Ok((parse_number("scan", "LO", lo)?, u64::MAX)),
-        [lo, hi] => Ok((
-            parse_number("scan", "LO", lo)?,
-            parse_number("scan", "HI", hi)?,
-        )),
-        _ => Err(wrong_words("scan")),
+impl<'a> ScanWords<'a> {
+    fn take(&mut self, word: &'a str) -> Result<(), Error> {
+        if self.awaits_limit {
+            self.limit = parse_number("scan", "--limit", word)?;
+            self.awaits_limit = false;
+        } else if word.eq_ignore_ascii_case("--limit") {
+            self.awaits_limit = true;
+        } else if word.eq_ignore_ascii_case("--reverse") {
+            self.is_reverse = true;
+        } else {
+            self.push(word)?;
+        }
+        Ok(())
+    }
+
+    fn push(&mut self, word: &'a str) -> Result<(), Error> {
+        let count = self.count;
+        let Some(number) = self.numbers.get_mut(count) else {
+            return Err(wrong_words(Word::Scan));
+        };
+        *number = Some(word);
+        self.count = count.saturating_add(1);
+        Ok(())
+    }
+
+    fn range(&self) -> Result<Range, Error> {
+        let [Some(table), lo, hi] = self.numbers else {
+            return Err(wrong_words(Word::Scan));
+        };
+        if self.awaits_limit {
+            return Err(wrong_words(Word::Scan));
+        }
+        Ok(Range {
+            table: parse_table("scan", table)?,
+            lo: parse_end("LO", lo, 0)?,
+            hi: parse_end("HI", hi, u64::MAX)?,
+            limit: self.limit,
+            is_reverse: self.is_reverse,
+        })
     }
 }
 
-// The words before a limit at their end, and it.
-fn parse_limit<'a, 'b>(words: &'a [&'b str]) -> Result<(&'a [&'b str], u64), Error> {
-    let Some((number, rest)) = words.split_last() else {
-        return Ok((words, u64::MAX));
-    };
-    match rest.split_last() {
-        Some((name, rest)) if *name == "--limit" => {
-            Ok((rest, parse_number("scan", "--limit", number)?))
-        }
-        _ => Ok((words, u64::MAX)),
+// The first or the last key, or this one if none is named.
+fn parse_end(name: &str, word: Option<&str>, default: u64) -> Result<u64, Error> {
+    match word {
+        Some(word) => parse_number("scan", name, word),
+        None => Ok(default),
     }
 }

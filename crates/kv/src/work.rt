@@ -1,11 +1,12 @@
 use crate::answers::{Manner, Printer, Terminals};
 use crate::command::Command;
 use crate::help::Word;
-use crate::opening::{Device, open, reason_of};
+use crate::opening::{Device, open, reason_of, test_exists};
 use crate::options::{Options, command_line, read_options};
-use crate::refusal::{Failure, Reason, Stop};
-use crate::shell::{answer_command, answer_lines};
-use anyhow::Error;
+use crate::refusal::{Failure, Reason, Refusal, Stop};
+use crate::shell::{Outcome, answer_command, answer_lines};
+use base::fault::Fault;
+use base::geometry::Geometry;
 use clap::error::ErrorKind;
 use database::{Database, Refused};
 use pmem_file::OpenError;
@@ -52,8 +53,13 @@ pub fn obey_words<
         Err(error) => return report_bad_words(rt, &error),
     };
     let manner = Manner::of(terminals, options.command.is_none(), options.is_text);
-    if let Some(Command::Help(word)) = &options.command {
-        return explain(rt, alloc, manner, *word);
+    if let Some(given) = &options.command {
+        if let Command::Help(word) = given.command {
+            return explain(rt, alloc, manner, word);
+        }
+        if given.is_doubtful {
+            warn_of_row(rt, words);
+        }
     }
     match serve(rt, alloc, &options, manner) {
         Ok(false) => DONE,
@@ -68,9 +74,18 @@ pub fn report_failed(rt: &impl Eprint, error: &io::Error) -> u8 {
     FAILED
 }
 
-fn report_bad_words(rt: &impl Eprint, error: &Error) -> u8 {
+fn report_bad_words(rt: &impl Eprint, error: &Refusal) -> u8 {
     let _ = eprintln!(rt; "kv: {error}");
     BAD_WORDS
+}
+
+// Says how the row was read, which is the last word, since it may have been meant otherwise.
+fn warn_of_row(rt: &impl Eprint, words: &[String]) {
+    if let Some(row) = words.last() {
+        let _ = eprintln!(rt;
+            "kv: {row} was read as bytes, two hexadecimal digits each; text needs quotation marks, which a shell takes away: '\"{row}\"'"
+        );
+    }
 }
 
 // Says what is wrong with the words of the command line, or what they may be. The status.
@@ -103,11 +118,18 @@ fn print_help(
 
 // Says why the store couldn't be used to the end. The status.
 fn fail(rt: &impl Eprint, name: &str, failure: &Failure) -> u8 {
-    let _ = eprintln!(rt; "kv: {name}: {failure}");
-    if let Failure::File(OpenError::Trailing { length, .. }) = failure {
-        let _ = eprintln!(rt; "kv: truncate -s {length} {name} cuts them off");
+    if matches!(failure, Failure::Told) {
+        return FAILED;
     }
-    FAILED
+    let _ = eprintln!(rt; "kv: {name}: {failure}");
+    match failure {
+        Failure::HasLayout { .. } => BAD_WORDS,
+        Failure::File(OpenError::Trailing { length, .. }) => {
+            let _ = eprintln!(rt; "kv: truncate -s {length} {name} cuts them off");
+            FAILED
+        }
+        _ => FAILED,
+    }
 }
 
 // Opens the file, answers the command or each line of input, and closes the file. Whether a line was refused.
@@ -125,16 +147,14 @@ fn serve<
         + Sync
         + 'static,
 >(rt: &R, alloc: Global, options: &Options<'_>, manner: Manner) -> Result<bool, Failure> {
-    let device = open(rt, alloc, options.file, options.geometry)?;
-    let database = match Database::open(*rt, alloc, device) {
-        Ok(database) => database,
-        Err(Refused { fault, device }) => {
-            return Err(Failure::NotOpened(reason_of(device, fault)));
-        }
-    };
+    let database = open_database(rt, alloc, options)?;
+    let geometry = database.geometry();
+    if !options.layout.allows(&geometry) {
+        return refuse_layout(database, &geometry);
+    }
     let answered = match &options.command {
-        Some(command) => answer_command(rt, alloc, &database, manner, command),
-        None => answer_lines(rt, alloc, &database, manner),
+        Some(given) => answer_command(rt, alloc, &database, manner, &given.command),
+        None => answer_lines(rt, alloc, &database, manner, options.bails),
     };
     let was_refused = close(database, answered)?;
     if options.command.is_none() {
@@ -143,18 +163,56 @@ fn serve<
     Ok(was_refused)
 }
 
+// Opens the file, which a command may create if it puts rows.
+fn open_database<
+    R: Eprint + Clock + Files<File = File> + Threads + Wait + Copy + Drop + Send + Sync + 'static,
+>(rt: &R, alloc: Global, options: &Options<'_>) -> Result<Database<Device, R>, Failure> {
+    if options.needs_store() {
+        test_exists(rt, options.file)?;
+    }
+    let device = open(rt, alloc, options.file, options.layout.geometry)?;
+    match Database::open(*rt, alloc, device) {
+        Ok(database) => Ok(database),
+        Err(Refused { fault, device }) => Err(Failure::NotOpened(reason_of(device, fault))),
+    }
+}
+
+// Closes a store of another layout than is asked for.
+fn refuse_layout<R: Wait + Drop>(
+    database: Database<Device, R>,
+    found: &Geometry,
+) -> Result<bool, Failure> {
+    close(database, Ok(Outcome::new()))?;
+    Err(Failure::HasLayout {
+        slots: found.slots(),
+        width: found.row_limit(),
+        places: found.places(),
+        window: found.window(),
+    })
+}
+
 // Closes the store, and says what its use came to.
 fn close<R: Wait + Drop>(
     database: Database<Device, R>,
-    answered: Result<bool, Stop>,
+    answered: Result<Outcome, Stop>,
 ) -> Result<bool, Failure> {
     let reason = match database.close() {
         Ok(device) => match device.close() {
-            Ok(()) => return Ok(answered?),
+            Ok(()) => return Ok(answered?.was_refused),
+            Err(error) if error.kind() == io::ErrorKind::NotFound => return Err(Failure::Unlinked),
             Err(error) => Reason::Io(error),
         },
         Err(Refused { fault, device }) => reason_of(device, fault),
     };
+    if is_told(&answered, &reason) {
+        return Err(Failure::Told);
+    }
     let stop = answered.err().unwrap_or(Stop::AtClose);
     Err(Failure::NotClosed { reason, stop })
+}
+
+// Whether a line was refused for the same reason: no timestamps or record numbers are left.
+fn is_told(answered: &Result<Outcome, Stop>, reason: &Reason) -> bool {
+    let is_spent = matches!(answered, Ok(outcome) if outcome.is_spent);
+    is_spent && matches!(reason, Reason::Fault(Fault::TimestampsOut))
 }

@@ -1,7 +1,7 @@
 use denote.Param.Send.{sendable}
 use Rattle.std.proofs.Common.{rules}
 use Rattle.std.proofs.Crossing.{crosses}
-use Rattle.kv.proofs.work.serve.Goals as goal
+use Rattle.kv.proofs.work.open_database.Goals as goal
 
 pub open-requires-2-send-D : goal.open-requires-2-send-D
 open-requires-2-send-D g c κs within = search (rules, sendable, crosses) depth 60 fits 20000
