@@ -2,3 +2,4 @@ pub mod Sharing
 pub mod Conflicts
 pub mod Trying
 pub mod Opening
+pub mod Finding

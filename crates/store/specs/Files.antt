@@ -41,6 +41,10 @@ pub record IsFoundWith (layout : Layout) (device : Device) : Type 0 where
 abbrev pub OpensLayout : Layout → Type 0
 OpensLayout layout = (device : Device) × IsFoundWith layout device × (opening_fault (image_of device) ≡ None)
 
+-- such a device was opened, with the layout that it has
+abbrev pub OpensExisting : Type 0
+OpensExisting = (layout : Layout) × OpensLayout layout
+
 -- a device at rest has this layout, and it isn't the one that was asked for
 abbrev pub HasOtherThan : Layout → Layout → Type 0
 HasOtherThan layout found = (opened_layout found ≢ opened_layout layout) × ((device : Device) × IsAtRest device × IsLaidOut found (image_of device))
@@ -50,13 +54,23 @@ abbrev pub ReportsLayout : Layout → Refusal → Type 0
 ReportsLayout layout (Refusal.OtherLayout found) = HasOtherThan layout found
 ReportsLayout layout _ = Unit {0}
 
+-- a device at rest has this layout, and its opening as a database is refused so
+abbrev pub IsRefusedWith : Layout → Fault → Type 0
+IsRefusedWith layout fault = (device now : Device) × IsFoundWith layout device × IsOpeningRefusal device now fault
+
+-- what keeps a device of this layout from being opened: its opening is refused so, or its file has failed
+abbrev pub ReportsFound : Layout → Refusal → Type 0
+ReportsFound layout (Refusal.Fault fault) = IsRefusedWith layout fault
+ReportsFound layout (Refusal.Lost cause) = HasLost cause
+ReportsFound layout _ = ⊥
+
 -- Why a device at rest isn't opened: it isn't formatted with this layout, for this fault; or its superblock is wrong, so; or it has the layout that
 -- was asked for, and its opening as a database is refused so
 abbrev pub IsUnopened : Layout → Fault → Type 0
 IsUnopened layout fault =
     ((device now : Device) × IsAtRest device × IsFormatRefusal layout device now fault)
     ⊎ (((device : Device) × IsAtRest device × (layout_damage (image_of device) ≡ Some fault))
-    ⊎ ((device now : Device) × IsFoundWith layout device × IsOpeningRefusal device now fault))
+    ⊎ IsRefusedWith layout fault)
 
 -- a fault is reported only where it is the reason, and a file that failed only where one did
 abbrev pub ReportsFault : Layout → Refusal → Type 0

@@ -10,7 +10,7 @@ use Rattle.pmem.specs.Device.{Device}
 use Rattle.pmem.specs.Words.{image_of}
 use Rattle.database.specs.Closing.{ClosesRun, IsClosed, IsClosingRefused}
 use Rattle.pmem_file.specs.Devices.{failure_of, state_of}
-use Rattle.store.specs.Files.{FileDevice, HasLost, HasOtherThan, IsFoundWith, IsUnopened}
+use Rattle.store.specs.Files.{FileDevice, HasLost, HasOtherThan, IsFoundWith, IsRefusedWith, IsUnopened}
 use Rattle.store.specs.declared.error.StoreError.{StoreError}
 use Rattle.store.specs.Errors.{part_of}
 
@@ -28,6 +28,16 @@ IsOpeningError file layout (StoreError.NotOpened name fault) = (string_bytes nam
 IsOpeningError file layout (StoreError.Lost name cause) = (string_bytes name ≡ file) × HasLost cause
 IsOpeningError file layout StoreError.OutOfMemory = Unit {0}
 IsOpeningError file layout _ = ⊥
+
+-- The error names this file. The part that is damaged is that of the layout that a device has, and so is why else such a device isn't opened
+abbrev pub IsFindingError : List ℕ → StoreError → Type 0
+IsFindingError file (StoreError.Missing name) = string_bytes name ≡ file
+IsFindingError file (StoreError.File name cause) = string_bytes name ≡ file
+IsFindingError file (StoreError.Damaged name part) = (string_bytes name ≡ file) × ((layout : Layout) × (number : ℕ) × (part ≡ part_of layout number) × IsDamagedAt layout number)
+IsFindingError file (StoreError.NotOpened name fault) = (string_bytes name ≡ file) × ((layout : Layout) × IsRefusedWith layout fault) × ((number : ℕ) → fault ≢ Damaged number)
+IsFindingError file (StoreError.Lost name cause) = (string_bytes name ≡ file) × HasLost cause
+IsFindingError file StoreError.OutOfMemory = Unit {0}
+IsFindingError file _ = ⊥
 
 -- all that was covered and drawn since the opening of a device is covered on it
 abbrev pub IsCovered : Type 0

@@ -11,6 +11,11 @@ use thiserror::Error;
 /// Why a store isn't opened, a step isn't made, a commit isn't acknowledged or a store isn't closed.
 #[derive(Debug, Drop, Error)]
 pub enum StoreError {
+    /// No store has this name: there is no such file, or it is empty.
+    #[error("{name}: no store is there: check the name, or create one by `Store::open`")]
+    Missing {
+        name: String,
+    },
     /// The file isn't one that a store may be opened over.
     #[error("{name}: {cause}")]
     File {
@@ -18,7 +23,7 @@ pub enum StoreError {
         cause: OpenError,
     },
     /// The file holds a store of another layout. It is left as it is.
-    #[error("{name} has {found}, and {asked} are asked for: open it as it is, or copy its rows into a new one")]
+    #[error("{name} has {found}, and {asked} are asked for: open it as it is by `Store::open_existing`, or copy its rows into a new one")]
     OtherLayout {
         name: String,
         found: Layout,
@@ -58,16 +63,16 @@ pub enum StoreError {
         key: Key,
     },
     /// A put found no slot. A row takes one, and so does each row from before a change while an open transaction may read it.
-    #[error("no slot is free, since rows fill the store or an open transaction keeps old ones: end that transaction, delete rows, or copy the store into a larger one")]
+    #[error("no slot is free, since rows fill the store or an open transaction keeps old ones: end that transaction, or delete rows; one of fewer than 65,536 slots can be copied into a larger one")]
     Full,
     /// The row is none that `put_number` writes.
     #[error("the row under table and key {0} isn't a number, which has 8 bytes: read it as a row")]
     NotANumber(Key),
     /// The row has more bytes than a slot, 32 or 96 by the layout.
-    #[error("the row has more than {0} bytes: shorten it")]
+    #[error("the row has more than {0} bytes: shorten it (a store of `Geometry::wide` takes up to 96)")]
     RowTooLong(usize),
     /// A put or a deletion of another key than the 32 that the transaction has written.
-    #[error("the transaction has written 32 keys: commit it, and write the others in the next")]
+    #[error("the transaction has written 32 keys, the most that it may: write others in another transaction")]
     TooManyKeys,
     /// As many transactions and snapshots are open as there may be.
     #[error("62 transactions are open: end one first")]

@@ -2,10 +2,11 @@ ghost use Rattle.std.specs.Prelude.{◌≡◌, ◌↔◌, None, IfOk, IfErr, IfS
 ghost use Rattle.base.specs.Images.{opening_fault};
 ghost use Rattle.base.specs.Layout.{Layout, opened_layout};
 ghost use Rattle.log_area.specs.Rulings.{IsLaidOut};
+ghost use Rattle.pmem.specs.Device.{restarted};
 ghost use Rattle.pmem.specs.Words.{IsAtRest, image_of};
 ghost use Rattle.pmem_file.specs.Devices.{failure_of, places_of, state_of};
 ghost use Rattle.store.specs.declared.files.Refusal.{Refusal};
-ghost use Rattle.store.specs.Files.{IsFoundWith, IsUnopened, OpensLayout, ReportsFault, ReportsLayout};
+ghost use Rattle.store.specs.Files.{IsFoundWith, IsRefusedWith, IsUnopened, OpensLayout, ReportsFault, ReportsFound, ReportsLayout};
 
 use base::fault::Fault;
 use base::geometry::Geometry;
@@ -61,6 +62,29 @@ pub fn open_file<R: Files<File = File>>(
         return Err(Refusal::File(OpenError::Image(Fault::BadGeometry)));
     }
     Ok(device)
+}
+
+/// Opens the file with the layout that its image has, which is handed out too. None is made, and none is formatted.
+pub fn find_file<R: Files<File = File>>(
+    rt: &R,
+    alloc: Global,
+    name: &str,
+) -> Result<(Device, Geometry), OpenError>
+    ensures found { IfOk result (λ found. IsFoundWith found.1 (state_of found.0)) }
+    ensures untouched { IfOk result (λ found. state_of found.0 ≡ restarted (image_of (state_of found.0))) }
+    ensures places { IfOk result (λ found. places_of found.0 ≡ found.1.places) }
+{
+    let device = match FileDevice::open_existing(rt, alloc, name) {
+        Ok(device) => device,
+        Err(error) => return Err(error),
+    };
+    match read_geometry(&device) {
+        Ok(layout) => Ok((device, layout)),
+        Err(fault) => {
+            let _ = device.close();
+            Err(OpenError::Image(fault))
+        }
+    }
 }
 
 // The device of the file, which is made and formatted where it is missing or empty.
@@ -131,8 +155,8 @@ pub fn open_database<R: Files<File = File> + Threads + Wait + Copy + Drop + Send
     }
 }
 
-// The database over this device.
-fn open_over<R: Threads + Wait + Copy + Drop + Send + Sync + 'static>(
+/// The database over this device.
+pub fn open_over<R: Threads + Wait + Copy + Drop + Send + Sync + 'static>(
     rt: &R,
     alloc: Global,
     device: Device,
@@ -141,6 +165,7 @@ fn open_over<R: Threads + Wait + Copy + Drop + Send + Sync + 'static>(
     ensures ok { OnOk result (opening_fault (image_of (state_of device)) ≡ None) }
     ensures err { (layout : Layout) → IfErr result (ReportsLayout layout) }
     ensures fault { (layout : Layout) → IsFoundWith layout (state_of device) → IfErr result (ReportsFault layout) }
+    ensures found { (layout : Layout) → IsFoundWith layout (state_of device) → IfErr result (ReportsFound layout) }
 {
     match Database::open(*rt, alloc, device) {
         Ok(database) => Ok(database),
@@ -154,6 +179,7 @@ fn refusal_of(device: Device, fault: Fault) -> Refusal
     ensures lost { IfSome (failure_of device) (λ cause. result ≡ Refusal.Lost cause) }
     ensures fault { IfNone (failure_of device) (result ≡ Refusal.Fault fault) }
     ensures why { (layout : Layout) → IsUnopened layout fault → ReportsFault layout result }
+    ensures found { (layout : Layout) → IsRefusedWith layout fault → ReportsFound layout result }
 {
     match device.failure() {
         Some(cause) => Refusal::Lost(cause),

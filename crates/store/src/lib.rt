@@ -3,6 +3,7 @@
 
 mod error;
 mod files;
+mod layout;
 mod ranges;
 mod reading;
 mod row;
@@ -16,7 +17,8 @@ pub use base::geometry::Geometry;
 pub use base::key::Key;
 pub use base::row::Row;
 pub use error::{Layout, Part, StoreError};
-pub use files::{Device, Refusal, open_database, open_file};
+pub use files::{Device, Refusal, find_file, open_database, open_file};
+pub use layout::standard_layout;
 pub use reading::Snapshot;
 pub use row::{RowExt, key};
 pub use status::Status;

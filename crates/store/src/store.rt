@@ -3,13 +3,13 @@ ghost use Rattle.std.specs.String.{string_bytes};
 ghost use Rattle.base.specs.declared.fault.Fault.TheVariants.{Damaged};
 ghost use Rattle.pmem_file.specs.Devices.{failure_of, state_of};
 ghost use Rattle.database.specs.Closing.{ClosesRun, IsClosingRefused};
-ghost use Rattle.store.specs.Files.{IsUnopened, ReportsFault, ReportsLayout};
+ghost use Rattle.store.specs.Files.{IsRefusedWith, IsUnopened, ReportsFault, ReportsFound, ReportsLayout};
 ghost use Rattle.store.specs.declared.error.StoreError.{StoreError};
 ghost use Rattle.store.specs.Errors.{part_of};
-ghost use Rattle.store.specs.Opening.{IsOpeningError, IsClosingError};
+ghost use Rattle.store.specs.Opening.{IsFindingError, IsOpeningError, IsClosingError};
 
 use crate::error::{Layout, Part, StoreError};
-use crate::files::{Device, Refusal, open_database};
+use crate::files::{Device, Refusal, find_file, open_database, open_over};
 use crate::reading::Snapshot;
 use crate::status::Status;
 use crate::transaction::Transaction;
@@ -18,6 +18,7 @@ use base::fault::Fault;
 use base::geometry::Geometry;
 use base::key::Key;
 use database::{Database, Refused};
+use pmem_file::OpenError;
 use std::alloc::Global;
 use std::fs::File;
 use std::rt::Files;
@@ -46,11 +47,11 @@ pub struct Store<R: Wait + Drop> {
 impl<R: Files<File = File> + Threads + Wait + Copy + Drop + Send + Sync + 'static> Store<R> {
     ghost use Rattle.std.specs.Prelude.{◌≡◌, IfOk, IfErr, OnOk};
     ghost use Rattle.std.specs.String.{string_bytes};
-    ghost use Rattle.store.specs.Files.{OpensLayout};
-    ghost use Rattle.store.specs.Opening.{IsOpeningError};
+    ghost use Rattle.store.specs.Files.{OpensExisting, OpensLayout};
+    ghost use Rattle.store.specs.Opening.{IsFindingError, IsOpeningError};
 
     /// Opens the file, which is made with this layout where it is missing or empty. One that holds a store of another layout is
-    /// left as it is, and the error says both. It reads the whole file, and waits for its syncs, but not for another process:
+    /// left as it is, and the error says both: `open_existing` opens it. It reads the whole file, and waits for its syncs, but not for another process:
     /// that is `File`, as is a file that is no store. `Damaged`, `NotOpened`, `Lost` and `OutOfMemory` are its other errors.
     pub fn open(
         rt: R,
@@ -72,13 +73,38 @@ impl<R: Files<File = File> + Threads + Wait + Copy + Drop + Send + Sync + 'stati
             Err(refusal) => Err(not_opened(name, geometry, refusal)),
         }
     }
+
+    /// Opens the store that the file holds, with the layout that it has: `status` says which. No file is made: where there is
+    /// none, or an empty one, that is `Missing`. Its other errors are those of `open` but for `OtherLayout`, and it waits as
+    /// `open` does.
+    pub fn open_existing(rt: R, alloc: Global, name: &str) -> Result<Store<R>, StoreError>
+        ensures ok { OnOk result OpensExisting }
+        ensures name { IfOk result (λ store. string_bytes store.name ≡ name.now) }
+        ensures err { IfErr result (IsFindingError name.now) }
+    {
+        let name = String::from_str(alloc, name)?;
+        let (device, layout) = match find_file(&rt, alloc, name.as_str()) {
+            Ok(found) => found,
+            Err(OpenError::Missing) => return Err(StoreError::Missing { name }),
+            Err(cause) => return Err(StoreError::File { name, cause }),
+        };
+        match open_over(&rt, alloc, device) {
+            Ok(database) => Ok(Store {
+                alloc,
+                name,
+                database,
+            }),
+            Err(refusal) => Err(not_opened(name, layout, refusal)),
+        }
+    }
 }
 
-// The error that names the file, and the layout that was asked for.
+// The error that names the file, and the layout that was asked for or found.
 fn not_opened(name: String, geometry: Geometry, refusal: Refusal) -> StoreError
     requires layout { ReportsLayout geometry refusal }
     requires fault { ReportsFault geometry refusal }
-    ensures { IsOpeningError (string_bytes name) geometry result }
+    ensures opening { IsOpeningError (string_bytes name) geometry result }
+    ensures finding { ReportsFound geometry refusal → IsFindingError (string_bytes name) result }
 {
     match refusal {
         Refusal::File(cause) => StoreError::File { name, cause },
@@ -96,6 +122,7 @@ fn not_opened(name: String, geometry: Geometry, refusal: Refusal) -> StoreError
 fn refused(name: String, geometry: Geometry, fault: Fault) -> StoreError
     requires why { IsUnopened geometry fault }
     ensures names { IsOpeningError (string_bytes name) geometry result }
+    ensures finding { IsRefusedWith geometry fault → IsFindingError (string_bytes name) result }
     ensures part { (number : ℕ) → fault ≡ Damaged number → result ≡ StoreError.Damaged name (part_of geometry number) }
 {
     match fault {

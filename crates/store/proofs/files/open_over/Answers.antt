@@ -19,3 +19,11 @@ returns-in-Err-clause-fault g c layout found = c.refusal_of.ensures.why layout (
   found,
   subst (λ r. IfErr r (λ e. IsOpeningRefusal (state_of c.args.device) (state_of e.device) e.fault)) c.in-Err.is c.open.ensures.fault,
 )))
+
+pub returns-in-Err-clause-found : goal.returns-in-Err-clause-found
+returns-in-Err-clause-found g c layout found = c.refusal_of.ensures.found layout (
+  state_of c.args.device,
+  state_of c.in-Err.field-0.device,
+  found,
+  subst (λ r. IfErr r (λ e. IsOpeningRefusal (state_of c.args.device) (state_of e.device) e.fault)) c.in-Err.is c.open.ensures.fault,
+)

@@ -12,3 +12,14 @@ returns-in-Damaged-clause-names c = (
     damaged-so c.args.geometry c.in-Damaged.number (subst (λ f. IsUnopened c.args.geometry f) c.in-Damaged.is c.requires.why),
   ),
 )
+
+pub returns-in-Damaged-clause-finding : goal.returns-in-Damaged-clause-finding
+returns-in-Damaged-clause-finding c with_layout = (
+  refl,
+  (
+    c.args.geometry,
+    c.in-Damaged.number,
+    c.of.ensures,
+    damaged-so c.args.geometry c.in-Damaged.number (subst (λ f. IsUnopened c.args.geometry f) c.in-Damaged.is c.requires.why),
+  ),
+)

@@ -1,0 +1,15 @@
+ghost use Rattle.std.specs.Prelude.{◌≡◌};
+ghost use Rattle.base.specs.Layout.{layout_with, plain_version};
+
+use base::geometry::Geometry;
+
+/// The layout of a store for which no other is asked: 65,536 slots of one line, 2 places for
+/// records, and a window of 1,024 timestamps.
+pub fn standard_layout() -> Geometry
+    ensures { result ≡ layout_with plain_version 65536 2 1024 }
+{
+    match Geometry::new(65_536, 2, 1_024) {
+        Ok(geometry) => geometry,
+        Err(_) => unreachable!(),
+    }
+}
