@@ -1,0 +1,15 @@
+//! The binary form in which another program asks a store and is answered: requests and answers as frames of bytes, over any reader and
+//! any writer.
+#![tactic(auto)]
+
+mod answer;
+mod head;
+mod request;
+mod sending;
+mod status;
+
+pub use answer::Answer;
+pub use head::Head;
+pub use request::{KeyRange, Received, Request, receive};
+pub use sending::send;
+pub use status::Status;

@@ -1,0 +1,3 @@
+pub mod Conversations
+pub mod Exchanges
+pub mod Opened

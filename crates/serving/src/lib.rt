@@ -1,0 +1,10 @@
+//! Answers the requests of other programs over a store: each channel has at most one open transaction, and each request one answer.
+#![tactic(auto)]
+
+mod channel;
+mod refusal;
+mod session;
+
+pub use channel::serve;
+pub use refusal::{status_of, text_of};
+pub use session::Session;
