@@ -6,7 +6,7 @@ use Rattle.base.specs.declared.gap.Gap.{Gap}
 use Rattle.base.specs.Layout.{most_longs}
 use Rattle.base.specs.Records.{Record, is_in, are_apart, are_rising, is_well_formed}
 
--- each gap lies between 1 and the bound
+-- each gap is from 1 to the bound
 abbrev pub are_up_to : ℕ → List Gap → Bool
 are_up_to bound gaps = list_all (λ gap. nat_le 1 gap.first && nat_le gap.first gap.last && nat_le gap.last bound) gaps
 

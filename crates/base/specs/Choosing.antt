@@ -45,7 +45,7 @@ abbrev pub passed_over : ℕ → List Drawn → List ℕ
 passed_over reach drawn = map (λ d. d.commit.timestamp) (filter (is_passed reach) drawn)
 
 -- whether a record is due although there is nothing to cover: fewer timestamps than half a window are reserved, or
--- swept gaps stand, which the next record drops
+-- there are swept gaps, which the next record drops
 abbrev pub has_other_reason_to_write : Layout → Record → ℕ → Bool → Bool
 has_other_reason_to_write layout ruling next swept =
     nat_lt (2 * (ruling.dirty - next)) layout.window || swept && not (is_nil ruling.gaps)
@@ -69,7 +69,7 @@ target_of layout ruling next swept drawn = record {
   longs = passed_over (reach (most_longs layout.version) ruling.persisted drawn) drawn;
 }
 
--- the record that a close writes last, under this number: it persists all that is drawn, and reserves nothing
+-- the record that closing writes last, under this number: it persists all that is drawn, and reserves nothing
 abbrev pub closing_record : ℕ → Record → ℕ → Bool → Record
 closing_record gate ruling next swept = record { gate = gate; persisted = next - 1; dirty = next; gaps = standing_gaps swept ruling; longs = [] }
 

@@ -31,7 +31,7 @@ impl DirtyTable {
     ghost use Rattle.base.specs.declared.fault.Fault.TheVariants.{OutOfMemory};
     ghost use Rattle.dirty_table.specs.Touches.{has, is_touched, lines_touched, meets, sessions_at, Forgets, Touches, IsNextTouched, IsUntouchedFrom};
 
-    /// No session touches a line, of so many.
+    /// A table with this many lines; no session touches any of them.
     pub fn new(alloc: Global, lines: usize) -> Result<DirtyTable, Fault>
         requires { lines < 2 ^ 62 }
         ensures lines { IfOk result (λ table. length table ≡ lines) }

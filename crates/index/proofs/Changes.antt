@@ -24,7 +24,7 @@ same_or_not p q = grind (arith, cases_lt) steps 800000
 
 -- ---- lists of pairs
 
--- what is looked up stands somewhere
+-- what is found by a look-up is at some place
 pub stands : (entries : Entries) (key : Key) (entry : Entry) → lookup_key entries key ≡ Some entry → (place : ℕ) × (slice_get entries place ≡ Some (key, entry))
 stands [] key entry found = absurd (cc found)
 stands (e ∷ entries) key entry found = by (key_eq e.0 key) refl (stands entries key entry) found
@@ -36,7 +36,7 @@ stands (e ∷ entries) key entry found = by (key_eq e.0 key) refl (stands entrie
         (0, λ i. Some (key_eq-true e.0 key is i, same i))
     by false is rest found = let at = rest found in (suc at.0, at.1)
 
--- and what stands somewhere is there
+-- and what is at some place is found
 pub there-some : (entries : Entries) (key : Key) (entry : Entry) (place : ℕ) → slice_get entries place ≡ Some (key, entry) → is_some (lookup_key entries key) ≡ true
 there-some [] key entry place at = grind (arith) steps 800000
 there-some (e ∷ entries) key entry zero at = grind (arith, key_eq-same) steps 800000

@@ -89,7 +89,7 @@ live-members (e ∷ entries) apart key = by (live-members entries apart.1 key) (
         ∙ sym live
     by rest false live false same = rest
 
--- so many they are as any list has that has each of their keys once
+-- their number is the length of any list that has each of their keys once
 pub live-counted : (places : List (Key × ℕ)) (entries : Entries) → ArePlaced places entries → (keys : List Key) → AreLive keys entries → count_by is_live entries ≡ length keys
 live-counted places entries placed keys live =
     let apart : IsDistinct key_eq (keys_of entries) = distinct entries (once-placed places entries placed) in

@@ -44,7 +44,7 @@ module _ (device : Device) (a : Layout) (slot : ℕ) (size : device.words ≡ to
   fits-words : IsOrderly device → (w : ℕ) → get_or (image_of device) w 0 < 2 ^ 64
   fits-words orderly w = grind (arith, cases_lt, word-at, get_or_past, length-image) steps 800000
 
-  -- words that are no misfit hold something
+  -- words that aren't a misfit hold something
   pub no-slot : IsOrderly device → ((s : Slot) → IsSlot a (slot_at a slot (value_of device)) s → ⊥) → is_misfit (image_of device) slot ≡ false → ⊥
   no-slot orderly none fits =
       let image = image_of device in

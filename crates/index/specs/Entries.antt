@@ -1,4 +1,4 @@
--- Where the versions of each key are.
+-- The slots of each key's versions.
 use Rattle.std.specs.Prelude.{◌≡◌, ℕ, Bool, true, false, not, ◌&&◌, ◌||◌, List, Option, Some, None, is_some, unwrap_or, slice_get, nat_eq, if◌then◌else◌}
 use Rattle.std.specs.Option.{option_or, option_eq}
 use Rattle.std.specs.declared.cmp.Ordering.{Ordering}

@@ -18,7 +18,7 @@ pub record CountsAs (counts : ℕ → Bool) (s : Seen) (a : Layout) (image : Ima
   pub laid_out : layout_of image ≡ a
   pub live : (slot : ℕ) → slot < a.slots → is_live counts image slot ≡ is_live (covers s) image slot
 
--- a slot that is live, by the timestamps that count, and whose words are no misfit has this row at this key
+-- a slot that is live, by the timestamps that count, and whose words aren't a misfit has this row at this key
 pub record HasSeen (counts : ℕ → Bool) (image : Image) (slot : ℕ) (key : Key) (row : List ℕ) : Type 0 where
   pub within : slot < (layout_of image).slots
   pub live : is_live counts image slot ≡ true
@@ -36,7 +36,7 @@ abbrev pub contains : KeyRange → Key → Bool
 contains All key = true
 contains (Within table lo hi) key = is_in_range table lo hi key
 
--- from which key on its keys lie, and up to which
+-- the first and the last key of the range
 abbrev pub bounds_of : KeyRange → Bound Key × Bound Key
 bounds_of All = (Unbounded, Unbounded)
 bounds_of (Within table lo hi) = (Included (record { table = table; key = lo }), Included (record { table = table; key = hi }))

@@ -2,7 +2,7 @@ use base::key::Key;
 use base::{SlotNo, Ts};
 use std::marker::Model;
 
-/// Where a key's versions are.
+/// The slots of a key's versions.
 #[derive(Clone, Copy, Debug, PartialEq, Eq)]
 pub struct Entry {
     /// The newest covered version that has a row and isn't freed.
@@ -46,8 +46,8 @@ impl Entry {
     }
 }
 
-/// A key with its entry, in as little memory as that takes: an opening makes one for each live slot, and pages of fresh memory cost
-/// it more than what it writes there.
+/// A key with its entry, in as little memory as possible: opening makes one for each live slot, and pages of fresh memory cost
+/// more time than what is written there.
 #[derive(Drop)]
 pub struct KeyedEntry {
     key: u64,

@@ -4,12 +4,12 @@ use crate::entry::KeyedEntry;
 use base::key::Key;
 use std::alloc::AllocError;
 
-// Where the entries of keys may be, each under a remainder of its key's numbers. Nothing rests on a hint being right: keys that
+// Places at which the entries of keys may be, each under a remainder of its key's numbers. A hint needn't be right: keys that
 // share a remainder only cost a search by the order of keys.
 
 const FEWEST: usize = 16;
 
-// Under which of so many hints the key's is.
+// Which of this many hints is the key's.
 fn spot(key: Key, count: usize) -> usize
     requires { 0 < count }
     ensures { result < count }
@@ -18,7 +18,7 @@ fn spot(key: Key, count: usize) -> usize
     (number % count as u64) as usize
 }
 
-/// Where the key's entry may be.
+/// The place at which the key's entry may be.
 #[inline(always)]
 pub(crate) fn hint_for(hints: &[usize], key: Key) -> Option<usize> {
     if hints.is_empty() {
@@ -36,7 +36,7 @@ pub(crate) fn note(hints: &mut [usize], key: Key, place: usize) {
     }
 }
 
-/// Makes more hints, and all of them anew, where there are no more than entries.
+/// Renews all hints, with more of them, unless there are more hints than entries.
 #[inline(always)]
 pub(crate) fn widen(hints: &mut Vec<usize>, entries: &[KeyedEntry]) -> Result<(), AllocError> {
     if entries.len() < hints.len() {
@@ -45,7 +45,7 @@ pub(crate) fn widen(hints: &mut Vec<usize>, entries: &[KeyedEntry]) -> Result<()
     renew(hints, entries)
 }
 
-// Makes all hints anew, more than there are entries.
+// Renews all hints, with more of them than there are entries.
 #[cold]
 #[inline(never)]
 fn renew(hints: &mut Vec<usize>, entries: &[KeyedEntry]) -> Result<(), AllocError> {

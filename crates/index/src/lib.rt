@@ -1,4 +1,4 @@
-//! Where the versions of each key are, and reading rows as a snapshot sees them: links are followed from the newest on.
+//! The slots of each key's versions, and reading rows as a snapshot sees them: links are followed from the newest on.
 #![tactic(auto)]
 
 mod counting;

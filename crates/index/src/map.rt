@@ -7,21 +7,21 @@ use std::alloc::Global;
 use std::collections::BTreeMap;
 use std::marker::Model;
 
-/// Where the entry of a key is, if it has one, and the slot that a new version of it links to.
+/// The place of a key's entry, if it has one, and the slot that a new version of it links to.
 #[derive(Clone, Copy, Debug)]
 pub struct Known {
     pub place: Option<usize>,
     pub link: Option<SlotNo>,
 }
 
-/// Where the versions of each key are. A key that has no entry has a blank one.
+/// The entry of each key, which says where its versions are. A key that has no entry has a blank one.
 #[derive(Drop)]
 pub struct Index {
     // Each with its key. It stays at its place, but for the last where another is taken out.
     pub(crate) entries: Vec<KeyedEntry>,
     // By key the place of its entry.
     pub(crate) places: BTreeMap<Key, usize, Global>,
-    // Where an entry may be: tried first, and searched where it isn't.
+    // Places at which entries may be: tried first, with a search if the entry isn't there.
     hints: Vec<usize>,
 }
 

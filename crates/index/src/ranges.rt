@@ -18,7 +18,7 @@ use std::alloc::{AllocError, Global};
 use std::collections::BTreeMap;
 use std::ops::Bound;
 
-/// The keys whose rows are wanted.
+/// The keys whose rows are requested.
 #[derive(Clone, Copy, Debug, PartialEq, Eq)]
 pub enum KeyRange {
     All,
@@ -50,7 +50,7 @@ impl KeyRange {
         }
     }
 
-    // From which key on they lie, and up to which.
+    // The first and the last key of the range.
     fn bounds(self) -> (Bound<Key>, Bound<Key>)
         ensures { result ≡ bounds_of self }
     {
@@ -130,7 +130,7 @@ pub fn listed(alloc: Global, rows: BTreeMap<Key, Row>) -> Result<Vec<(Key, Row)>
 ghost use Rattle.std.specs.BTreeMap.{IsOrdered};
 ghost use Rattle.index.specs.Entries.{key_cmp};
 
-// Its entries as they stand.
+// Its entries as they are, in order.
 fn collected(alloc: Global, rows: BTreeMap<Key, Row>) -> Result<Vec<(Key, Row)>, AllocError>
     ensures same { IfOk result (λ list. list.items ≡ rows.entries) }
     ensures ordered { IfOk result (λ list. IsOrdered key_cmp rows) }

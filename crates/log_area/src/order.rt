@@ -53,7 +53,7 @@ pub fn are_longs(longs: &[Ts], gaps: &[Gap], persisted: u64) -> bool
     are_out_of(gaps, persisted, longs) && are_rising(longs)
 }
 
-// Does each lie from 1 to this timestamp, in no gap?
+// Is each from 1 to this timestamp, and in no gap?
 fn are_out_of(gaps: &[Gap], persisted: u64, longs: &[Ts]) -> bool
     ensures { result ≡ are_out_of gaps.now persisted longs.now }
 {
@@ -78,7 +78,7 @@ fn are_rising(timestamps: &[Ts]) -> bool
     true
 }
 
-// Does the timestamp lie in one of the gaps?
+// Is the timestamp in one of the gaps?
 pub fn is_in(gaps: &[Gap], timestamp: Ts) -> bool
     ensures { result ≡ is_in gaps.now timestamp }
 {

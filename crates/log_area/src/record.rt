@@ -58,7 +58,7 @@ impl Record {
         self.gate
     }
 
-    /// The last timestamp that is committed, lies in a gap or is a long commit's.
+    /// The last timestamp that is committed, is in a gap or belongs to a long commit.
     pub fn persisted(&self) -> u64
         ensures { result ≡ self.now.persisted }
     {

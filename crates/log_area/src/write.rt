@@ -1,4 +1,4 @@
-//! Where nobody steps meanwhile, at a format and at an opening, a record is written in one go, by the stages that the committer
+//! When nobody steps meanwhile, on formatting and on opening, a record is written in one go, by the stages that the committer
 //! has.
 
 ghost use Rattle.std.specs.Prelude.{◌≡◌, IfErr, OnOk, OnErr};

@@ -1,4 +1,4 @@
--- Which replies report a failing device, and what a failed state answers.
+-- Which replies report a failing device, and what a failed state replies.
 use Rattle.std.proofs.Common.{◌≡◌, Bool, true, false, cond, sym, ◌∙◌, ap, arith}
 use Rattle.std.specs.Prelude.{Option, Some, None}
 use Rattle.std.specs.Option.{option_or, option_map}

@@ -1,4 +1,4 @@
--- What the machine answers as a function is what it may answer, but for want of memory and a failing device.
+-- What the machine replies as a function is what it may reply, unless memory runs out or the device fails.
 use Rattle.std.proofs.Common.{◌≡◌, List, [], ◌∷◌, refl, ◌∙◌, ap, ◌⊎◌, arith}
 use Rattle.std.specs.Prelude.{Option, Some, None}
 use Rattle.base.specs.declared.fault.Fault.{Fault}
@@ -30,7 +30,7 @@ step_on : (q : State) (step : Step) (o : Option Fault) → refusal q step ≡ o 
 step_on q step None e = accepted q step e
 step_on q step (Some fault) e = refused fault e refl refl
 
--- what the function answers, the machine may answer
+-- what the function replies, the machine may reply
 pub stepped : (q : State) (step : Step) → Stepped q step (reply_of q step) (state_of q step)
 stepped q step = step_on q step (refusal q step) refl
 

@@ -10,7 +10,7 @@ use Rattle.base.specs.Replies.{note_of}
 use Rattle.machine.specs.Machine.{State, Stepped, Answers, Noted, Run, final, StandsAt, StandsWithin, StandsAlong, StandsClosing, covers_at, of_hand, present, closed}
 use Rattle.base.specs.Images.{Image}
 
--- a reply that is no refusal
+-- a reply that isn't a refusal
 abbrev pub IsAnswer : Reply → Type 0
 IsAnswer (Refused fault) = ⊥
 IsAnswer _ = Unit {0}
@@ -18,11 +18,11 @@ IsAnswer _ = Unit {0}
 along : (reply other : Reply) → reply ≡ other → IsAnswer other → IsAnswer reply
 along reply other e p = subst (λ r. IsAnswer r) (sym e) p
 
--- an answer is no refusal
+-- an answer isn't a refusal
 pub Answers-answer : (q : State) (step : Step) (reply : Reply) → Answers q step reply → IsAnswer reply
 Answers-answer q b reply a = grind (arith)
 
--- want of memory changes nothing
+-- a lack of memory changes nothing
 pub memory_unchanged : (q : State) (step : Step) (q' : State) → Stepped q step (Refused OutOfMemory) q' → q' ≡ q
 memory_unchanged q step q' b = grind (arith, Answers-answer)
 

@@ -54,13 +54,13 @@ sweep_ended q = record q { swept = true; place = 0 }
 abbrev pub visited : State → State
 visited q = if is_at_slot q then slot_visited q else sweep_ended q
 
--- what a visit answers: the slot of its place, or that the sweep ends
+-- what a visit replies: the slot of its place, or that the sweep ends
 abbrev pub collected : State → Reply
 collected q = if is_at_slot q then Visited q.place else SweepEnd
 
 -- ---- operations
 
--- gaps stand that aren't swept in this life, so the collector sweeps
+-- there are gaps that haven't been swept in this life, so the collector sweeps
 abbrev pub is_sweeping : State → Bool
 is_sweeping q = not q.swept && not (is_nil q.ruling.gaps)
 

@@ -1,4 +1,4 @@
--- What follows from the definitions of the machine. Each law stands here in words that need no proof, and a public function promises it.
+-- What follows from the definitions of the machine. Each law is stated here in words that need no proof, and a public function promises it.
 use Rattle.std.specs.Prelude.{ℕ, ◌≡◌, ◌≢◌, ◌⊎◌, ◌≤◌, ◌<◌, ◌+◌, Bool, false, true, if◌then◌else◌, List, [], ◌∷◌, ◌++◌, length, map, flat_map, replicate, slice_index, IsTrue, All, Contains, Option, Some, None, Result, Ok}
 use Rattle.base.specs.declared.key.Key.{Key}
 use Rattle.base.specs.declared.gap.Gap.{Gap}
@@ -21,7 +21,7 @@ use Rattle.machine.specs.Lives.{World, IsWorld, Numbers, Opening, Opens, Fails, 
 
 -- Openings
 
--- the joined gaps of a well formed record are those that an opening has
+-- the joined gaps of a well formed record are the gaps after opening
 abbrev pub OpenedGaps : Type 0
 OpenedGaps = (version : ℕ) (r : Record) → IsTrue (is_well_formed version r) → IsOpenedGaps r (opened_gaps r)
 
@@ -29,11 +29,11 @@ OpenedGaps = (version : ℕ) (r : Record) → IsTrue (is_well_formed version r) 
 abbrev pub OneGapList : Type 0
 OneGapList = (r : Record) (gaps gaps' : List Gap) → IsOpenedGaps r gaps → IsOpenedGaps r gaps' → gaps ≡ gaps'
 
--- so an opening gives one state
+-- so opening an image gives one state
 abbrev pub OneOpening : Type 0
 OneOpening = (image : Image) (history : List Commit) (lost : List ℕ) (q q' : State) → OpensAs image history lost q → OpensAs image history lost q' → q ≡ q'
 
--- with the version that an opening leaves, an image opens as before, stands for the same, and what stands within its
+-- with the version that opening writes, an image opens as before and stands for the same, and what stands within its
 -- opening stands within that of the image
 pub record OpensUpdated (image : Image) : Type 0 where
   pub opens : opening_fault (updated image) ≡ None
@@ -71,7 +71,7 @@ RefusedKeeps = (q : State) (step : Step) (fault : Fault) (q' : State) → Steppe
 abbrev pub FailedStays : Type 0
 FailedStays = (q : State) (step : Step) → q.failed ≡ true → refusal q step ≡ Some Failed
 
--- beside want of memory and a failing device, a step has one reply and leads to one state
+-- unless memory runs out or the device fails, a step has one reply and leads to one state
 abbrev pub OneReply : Type 0
 OneReply = (q : State) (step : Step) (reply : Reply) (q' : State) → Stepped q step reply q'
     → ((reply ≡ reply_of q step) × (q' ≡ state_of q step)) ⊎ (reply ≡ Refused OutOfMemory) ⊎ (reply ≡ Refused Device)
@@ -155,12 +155,12 @@ pub record CycleIsWhole (q : State) : Type 0 where
 abbrev pub CyclesAreWhole : Type 0
 CyclesAreWhole = (q : State) → q.hand ≡ None → IsTrue (chooses q CommitTick) → refusal q CommitTick ≡ None → CycleIsWhole q
 
--- the step is no tick of the committer
+-- the step isn't a tick of the committer
 abbrev pub is_no_tick : Step → Bool
 is_no_tick CommitTick = false
 is_no_tick _ = true
 
--- and no other step changes the batch in hand, nor what its lines are counted by
+-- and no other step changes the batch being written, nor what its lines are counted by
 pub record KeepsHand (q q' : State) : Type 0 where
   pub hand : q'.hand ≡ q.hand
   pub history : q'.history ≡ q.history
@@ -191,7 +191,7 @@ acknowledged_by (Committed t) = t ∷ []
 acknowledged_by (Covered batch) = map (λ commit. commit.timestamp) batch.commits
 acknowledged_by _ = []
 
--- a close succeeded
+-- closing succeeded
 abbrev pub has_closed : Option (Result Numbers Fault) → Bool
 has_closed (Some (Ok numbers)) = true
 has_closed _ = false
@@ -244,7 +244,7 @@ LivesAdd before _ _ after = ⊥
 abbrev pub WorldsAdd : Type 0
 WorldsAdd = (before : World) (asked : List Asked) (reports : List Report) (after : World) → IsWorld before → Lives before asked reports after → LivesAdd before asked reports after
 
--- lost timestamps lie below those drawn from now on, and the history has none of them
+-- lost timestamps are below those drawn from now on, and the history has none of them
 pub record StayOut (w : World) : Type 0 where
   pub below : All (λ t. t < w.next) w.lost
   pub out : All (λ t. has_timestamp w.history t ≡ false) w.lost
@@ -262,6 +262,6 @@ abbrev pub DrawnOnceOverLives : Type 0
 DrawnOnceOverLives = (before : World) (asked : List Asked) (reports : List Report) (after : World) → IsWorld before → Lives before asked reports after
     → RiseBetween before.next (drawn_over reports) after.next
 
--- a close that was asked is reported, unless the device had failed
+-- if closing was requested, its outcome is reported, unless the device had failed
 abbrev pub CloseReported : Type 0
 CloseReported = (q : State) (lost : List ℕ) (after : World) → q.failed ≡ false → EndsAs q true None lost after → ⊥

@@ -21,7 +21,7 @@ pub record World : Type 0 where
   pub next : ℕ
   pub lost : List ℕ  -- timestamps that some stop left out
 
--- the image stands for what is said of it
+-- the image stands for the history, the drawn commits and the next timestamp
 abbrev pub IsWorld : World → Type 0
 IsWorld w = Stands w.image w.history w.drawn w.next
 
@@ -37,7 +37,7 @@ pub record Numbers : Type 0 where
   pub persisted : ℕ
   pub dirty : ℕ
 
--- what an opening gave: the numbers, the next timestamp, the gaps and the rows; or its fault
+-- the outcome of opening: the numbers, the next timestamp, the gaps and the rows; or the fault
 pub data Opening : Type 0 where
   Opens : Numbers → ℕ → List Gap → List (Key × List ℕ) → Opening
   Fails : Fault → Opening
@@ -59,7 +59,7 @@ pub record Asked : Type 0 where
 abbrev pub numbers_of : State → Numbers
 numbers_of q = record { gate = q.ruling.gate; persisted = q.ruling.persisted; dirty = q.ruling.dirty }
 
--- those of the record that a close writes last
+-- those of the record that closing writes last
 abbrev pub closed_numbers : State → Numbers
 closed_numbers q = record { gate = (closed q).ruled_by.gate; persisted = (closed q).ruled_by.persisted; dirty = (closed q).ruled_by.dirty }
 
@@ -85,21 +85,21 @@ pub record StopsAt (q : State) (covers : List Cover) (lost : List ℕ) (after : 
   pub next : after.next ≡ q.next
   pub loses : after.lost ≡ lost ++ left_out after.history after.drawn
 
--- a close that is refused does nothing; one that the device stops leaves what it had come to
+-- if closing is refused, it does nothing; if the device stops it, what it had reached by then is left
 abbrev pub FailsToClose : State → Fault → List ℕ → World → Type 0
 FailsToClose q fault lost after =
     ((closing_fault q ≡ Some fault) × StopsAt q (covers_at q) lost after)
     ⊎ ((closing_fault q ≡ None) × (fault ≡ Device) × StopsAt q (covers_closing q) lost after)
 
--- How it ends: without a close, where none was asked or the device had failed before; within one that
--- failed; or after one that succeeded. Only on a device that hasn't failed is a close begun
+-- How a life ends: without closing, if that wasn't requested or the device had failed before; while closing,
+-- which failed; or after closing with success. Closing begins only on a device that hasn't failed
 abbrev pub EndsAs : State → Bool → Option (Result Numbers Fault) → List ℕ → World → Type 0
 EndsAs q closes None lost after = IsTrue (not closes || q.failed) × StopsAt q (covers_at q) lost after
 EndsAs q closes (Some (Err fault)) lost after = IsTrue closes × (q.failed ≡ false) × FailsToClose q fault lost after
 EndsAs q closes (Some (Ok numbers)) lost after =
     IsTrue closes × (q.failed ≡ false) × (closing_fault q ≡ None) × (numbers ≡ closed_numbers q) × StopsAt q (closed q ∷ []) lost after
 
--- an opening that the device stops leaves an image as within the opening, the history and what was lost
+-- if the device stops it, opening leaves an image as within the opening, the history and what was lost
 pub record StopsOpening (before after : World) : Type 0 where
   pub opens : opening_fault before.image ≡ None
   pub stands : StandsOpening before.image before.history before.next after.image
@@ -108,7 +108,7 @@ pub record StopsOpening (before after : World) : Type 0 where
   pub next : after.next ≡ before.next
   pub lost : after.lost ≡ before.lost
 
--- an opening that is refused leaves everything; it fails for want of memory only once its log is found whole
+-- if opening is refused, nothing changes; it runs out of memory only once the log is found whole
 abbrev pub FailsAs : Fault → World → World → Type 0
 FailsAs fault before after =
     ((opening_fault before.image ≡ Some fault) × (after ≡ before))

@@ -259,7 +259,7 @@ abbrev pub is_too_long : State → Step → Bool
 is_too_long q (Put n key row) = nat_lt (row_limit q.layout.version) (length row)
 is_too_long q _ = false
 
--- a slot is wanted, and none is free
+-- a slot is needed, and none is free
 abbrev pub lacks_slot : State → Step → Bool
 lacks_slot q (Put n key row) = is_none (own_slot q n key) && is_none (free_slot q)
 lacks_slot q _ = false
@@ -297,7 +297,7 @@ is_misplaced_in q step (Some session) = not (allows step (standing_of q session)
 abbrev pub is_misplaced : State → Step → Bool
 is_misplaced q step = option_map_or (λ n. is_misplaced_in q step (q.sessions n)) (session_of step) false
 
--- the reasons to refuse a step, want of memory and a failing device aside, in this order
+-- the reasons to refuse a step, in this order, leaving aside a lack of memory and a failing device
 abbrev pub refusals : State → Step → List (Option Fault)
 refusals q step =
     some_if q.failed Failed
@@ -316,7 +316,7 @@ refusals q step =
 abbrev pub refusal : State → Step → Option Fault
 refusal q step = first_of (refusals q step)
 
--- the steps that may be refused for want of memory: a draw only where it draws a timestamp
+-- the steps that may be refused for lack of memory: a draw only if it draws a timestamp
 abbrev pub takes_memory : State → Step → Bool
 takes_memory q Begin = true
 takes_memory q (Scan n table lo hi) = true
@@ -360,18 +360,18 @@ most_operations_along q _ _ = 0
 abbrev pub is_last_stamp : State → ℕ → Bool
 is_last_stamp q n = list_any (λ d. nat_eq d.commit.timestamp (timestamp_of (q.sessions n)) && nat_eq (d.stamped + 1) (length d.commit.writes)) q.drawn
 
--- what a poll answers
+-- what a poll replies
 abbrev pub polled : State → Option Session → Reply
 polled q (Some (Drew t)) = if has_timestamp q.history t then Committed t else Waiting
 polled q (Some WroteNothing) = Done
 polled q _ = Waiting
 
--- what a tick of a cycle answers: its stage, or the batch at the end
+-- what a tick of a cycle replies: its stage, or the batch at the end
 abbrev pub ticked_on : State → Hand → Option Stage → Reply
 ticked_on q hand (Some stage) = Ticked stage
 ticked_on q hand None = Covered (batch_of q hand)
 
--- what a committer's tick answers
+-- what a committer's tick replies
 abbrev pub ticked : State → Option Hand → Reply
 ticked q None = if is_idle q then Idle else Ticked Chosen
 ticked q (Some hand) = ticked_on q hand (next_stage q hand)
@@ -471,11 +471,11 @@ Noted q (entry ∷ entries) q' =
 abbrev pub drawn_of : State → List Commit
 drawn_of q = map (λ d. d.commit) q.drawn
 
--- the commits of the batch in hand
+-- the commits of the batch being written
 abbrev pub in_hand : State → List Commit
 in_hand q = option_map_or (λ hand. hand.commits) (q.hand) []
 
--- in log order the batch in hand comes first, and then timestamps decide
+-- in log order the batch being written comes first; after it timestamps decide
 abbrev pub uncovered : State → List Commit
 uncovered q = in_hand q ++ filter (λ commit. not (has_timestamp (in_hand q) commit.timestamp)) (drawn_of q)
 
@@ -488,16 +488,16 @@ pub record Cover : Type 0 where
 abbrev pub present : State → Cover
 present q = record { ruled_by = q.ruling; commits = q.history }
 
--- that of a batch in hand, laid over what the state has covered
+-- the cover of a batch being written, laid over what the state has covered
 abbrev pub of_hand : State → Option Hand → List Cover
 of_hand q None = []
 of_hand q (Some hand) = record { ruled_by = hand.target; commits = q.history ++ hand.commits } ∷ []
 
--- the number of the record that a close writes last
+-- the number of the record that closing writes last
 abbrev pub closing_gate : State → ℕ
 closing_gate q = q.ruling.gate + (if is_some q.hand then 2 else 1)
 
--- that of a close: all that was drawn is covered, no timestamp stays reserved, and swept gaps are dropped
+-- the cover after closing: all that was drawn is covered, no timestamp stays reserved, and swept gaps are dropped
 abbrev pub closed : State → Cover
 closed q = record {
   ruled_by = choosing.closing_record (closing_gate q) q.ruling q.next q.swept;
@@ -514,7 +514,7 @@ pub record StandsUnder (q : State) (cover : Cover) (image : Image) : Type 0 wher
 abbrev pub StandsAsOne : State → List Cover → Image → Type 0
 StandsAsOne q covers image = (cover : Cover) × Contains covers cover × StandsUnder q cover image
 
--- what may rule between two steps: the state's record, or that of the batch in hand
+-- what may rule between two steps: the state's record, or that of the batch being written
 abbrev pub covers_at : State → List Cover
 covers_at q = present q ∷ of_hand q q.hand
 
@@ -522,7 +522,7 @@ covers_at q = present q ∷ of_hand q q.hand
 abbrev pub StandsAt : State → Image → Type 0
 StandsAt q = StandsAsOne q (covers_at q)
 
--- within a step from q to q': those of q, a batch that is in hand after it, or the record of q'
+-- within a step from q to q': those of q, a batch that is being written after the step, or the record of q'
 abbrev pub StandsWithin : State → State → Image → Type 0
 StandsWithin q q' = StandsAsOne q (covers_at q ++ (of_hand q q'.hand ++ present q' ∷ []))
 
@@ -531,18 +531,18 @@ abbrev pub StandsAlong : State → List State → Image → Type 0
 StandsAlong q [] image = StandsAt q image
 StandsAlong q (q' ∷ states) image = StandsWithin q q' image ⊎ StandsAlong q' states image
 
--- within a close: those of q, or the record that the close writes last
+-- while closing: those of q, or the record that closing writes last
 abbrev pub covers_closing : State → List Cover
 covers_closing q = covers_at q ++ closed q ∷ []
 
--- within a close
+-- while closing
 abbrev pub StandsClosing : State → Image → Type 0
 StandsClosing q = StandsAsOne q (covers_closing q)
 
--- after it
+-- after closing
 abbrev pub StandsClosed : State → Image → Type 0
 StandsClosed q = StandsUnder q (closed q)
 
--- why a close is refused, a failing device aside: it takes no memory
+-- why closing is refused, leaving aside a failing device: it takes no memory
 abbrev pub closing_fault : State → Option Fault
 closing_fault q = first_of (some_if q.failed Failed ∷ some_if (nat_le (2 ^ 62) (closing_gate q)) TimestampsOut ∷ [])

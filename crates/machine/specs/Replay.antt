@@ -1,4 +1,4 @@
--- The machine as a function: what it answers where memory is ample and no device fails.
+-- The machine as a function: what it replies if memory is ample and no device fails.
 use Rattle.std.specs.Prelude.{ℕ, List, [], ◌∷◌, take, filter, Option, Some, None, unwrap_or, if◌then◌else◌}
 use Rattle.base.specs.declared.key.Key.{Key}
 use Rattle.base.specs.declared.fault.Fault.{Fault}

@@ -6,7 +6,7 @@ use Rattle.machine.specs.Machine.{State}
 use Rattle.machine.specs.Collecting.{visited, collected}
 use Rattle.machine.specs.Replay.{replies as replies_to, end}
 
--- the state after so many
+-- the state after this many visits
 abbrev pub visits : ℕ → State → State
 visits zero q = q
 visits (suc n) q = visits n (visited q)
@@ -25,8 +25,8 @@ pub record VisitsFollow : Type 0 where
   pub states : (q : State) (n : ℕ) → q.failed ≡ false → end q (replicate n Collect) ≡ visits n q
   pub replies : (q : State) (n : ℕ) → q.failed ≡ false → replies_to q (replicate n Collect) ≡ visits_answer n q
 
--- A second round changes nothing of the state, and what changes nothing is repeated by all later rounds: so many rounds and
--- more visits come to what the visits alone do
+-- A second round changes nothing in the state, and if a round changes nothing, all later ones repeat it: that many rounds and
+-- more visits give the same state as those visits alone
 pub record RoundsRepeat : Type 0 where
   pub settle : (q : State) → round_of (round_of q) ≡ round_of q
   pub repeat : (q : State) (rounds more : ℕ) → round_of q ≡ q → visits (rounds * (q.layout.slots + 1) + more) q ≡ visits more q

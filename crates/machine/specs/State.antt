@@ -1,4 +1,4 @@
--- The state of the machine: sessions, drawn commits, the batch in hand, and what takes each slot.
+-- The state of the machine: sessions, drawn commits, the batch being written, and what takes each slot.
 use Rattle.std.specs.Prelude.{ℕ, Bool, List, Option, Some, None}
 use Rattle.std.specs.List.{range_with_len}
 use Rattle.base.specs.declared.key.Key.{Key}

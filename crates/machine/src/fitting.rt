@@ -2,7 +2,7 @@
 
 ghost use Rattle.machine.specs.Notes.{StepsFit, RunsFit};
 
-/// A step has a note of its kind: what it answers where it isn't refused, or a refusal. The function does nothing: its
+/// A step has a note of its kind: what it replies if it isn't refused, or a refusal. The function does nothing: its
 /// contract is a law.
 pub fn notes_fit_steps()
     ensures steps { StepsFit }

@@ -3,7 +3,7 @@
 ghost use Rattle.machine.specs.Laws.{SnapshotsStay, CyclesAreWhole, OthersKeepHand, WorldsAdd, AcknowledgedStaysOverLives, OpenedGaps, OneGapList, OneOpening, UpdatedOpen, HasRun, RefusedKeeps, FailedStays, OneReply, HasReply, HistoryGrows, AcknowledgedStays, CoveredIsKept, DrawnOnce, WorldsStand, WorldsGrow, NeverReturns, DrawnOnceOverLives, CloseReported};
 ghost use Rattle.machine.specs.Rounds.{VisitsFollow, RoundsRepeat};
 
-/// An opening has one list of gaps, and so gives one state.
+/// Opening an image gives one list of gaps, and so one state.
 pub fn openings_are_decided()
     ensures gaps { OpenedGaps }
     ensures one_list { OneGapList }
@@ -17,7 +17,7 @@ pub fn refused_steps_change_nothing()
     ensures failed { FailedStays }
 {}
 
-/// What a step may answer is decided, but for want of memory and a failing device.
+/// What a step may reply is decided, unless memory runs out or the device fails.
 pub fn steps_are_decided()
     ensures one { OneReply }
     ensures some { HasReply }

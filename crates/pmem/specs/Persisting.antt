@@ -11,7 +11,7 @@ store_operations first value n = map (λ k. store_op (first + k) (value k)) (ran
 abbrev pub flush_operations : ℕ → ℕ → ℕ → List Operation
 flush_operations actor first n = map (λ k. flush_op actor (first + k)) (range_with_len 0 n)
 
--- n words from first on are stored and so many lines from line on are flushed, and a fence waits for them
+-- n words from first on are stored and this many lines from line on are flushed, and a fence waits for them
 abbrev pub persist_operations : ℕ → ℕ → (ℕ → ℕ) → ℕ → ℕ → ℕ → List Operation
 persist_operations actor first value n line lines = store_operations first value n ++ flush_operations actor line lines ++ fence_op actor ∷ []
 

@@ -93,7 +93,7 @@ shows-settled log from clock word a value actors history le shown = grind (arith
 pub settled-shows : (log : List Stored) (from clock word n value : ℕ) (actors : ℕ → Bool) (history : List Entry) → n ≤ from → IsSettled clock value history → Shows log from clock word n value actors history
 settled-shows log from clock word a value actors history le is = grind (arith)
 
--- where there is no store of the line
+-- if there is no store of the line
 pub shows-past : (log : List Stored) (from clock word m n value : ℕ) (actors : ℕ → Bool) (history : List Entry) → from ≤ m → m ≤ n → ((k : ℕ) → m ≤ k → k < n → (store_at log k).word / 8 ≢ word / 8)
     → Shows log from clock word m value actors history → Shows log from clock word n value actors history
 shows-past log from clock word m zero value actors history after le none shown = let same : m ≡ 0 = omega (arith, le) in subst (λ (k : ℕ). Shows log from clock word k value actors history) same shown
@@ -188,7 +188,7 @@ shows-cut log from cut clock word (suc n) value actor actors history small after
     still : cut ≤ n → (store_at log n).word / 8 ≡ word / 8 → also (store_at log n).flushed actors actor ≡ false
     still le line = (λ i. ne_eqb (bit_at (store_at log n).flushed actor) 1 (none n le (omega arith) line) i || untold i)
 
--- where nothing is taken
+-- if nothing is taken
 pub shows-passed : (log : List Stored) (from clock word n value actor : ℕ) (history : List Entry) → actor < 64 → NoneTakenIn log actor (word / 8) from n
     → Shows log from clock word n value nobody history → Shows log from clock word n value nobody (persisted actor clock history)
 shows-passed log from clock word n value actor history small none shown = grind (arith, shows-settled, shows-cut)
@@ -226,7 +226,7 @@ older_of : (clock value : ℕ) (flushed : ℕ → Bool) (rest : List Entry → T
 older_of clock value flushed rest [] is = absurd is
 older_of clock value flushed rest (entry ∷ older) is = record { older = older; rests = is.4; survivors = (λ i. is.0 i ∷ cond (is.1 i) [] (survivors_in older)) }
 
--- so many of the word's survivors are newer than those that the first stores show
+-- this many of the word's survivors are newer than those that the first stores show
 pub record IsAfter (log : List Stored) (from clock word place value newer : ℕ) (whole : List Entry) : Type 0 where
   pub actors : ℕ → Bool
   pub older : List Entry

@@ -1,4 +1,4 @@
--- Where the stores of a line lie in a log.
+-- The places of a line's stores in a log.
 use Rattle.std.specs.Prelude.{ℕ, ◌+◌, List, slice_index_or, if◌then◌else◌, nat_lt, nat_le}
 use Rattle.pmem_model.specs.declared.spans.Span.{Span}
 

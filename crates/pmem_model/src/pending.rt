@@ -9,7 +9,7 @@ use base::actor::Actor;
 use std::alloc::{AllocError, Global};
 
 /// For each actor a list of the lines that it flushed since its last fence, each as often as it was. Once a list has no room left,
-/// every line counts as pending: there are then so many that a fence may as well visit them all.
+/// every line counts as pending: there are then enough pending lines that a fence may as well visit them all.
 #[derive(Drop)]
 pub struct Pending {
     pub lines: usize,

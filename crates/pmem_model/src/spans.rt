@@ -18,7 +18,7 @@ fn weight(span: Span) -> usize
     if span.from < span.to { 1 } else { 0 }
 }
 
-/// For each line the places of its stores that aren't settled. All of them lie there, and others between them.
+/// For each line a span of places: all of its stores that aren't settled are in it, with others between them.
 #[derive(Drop)]
 pub struct Spans {
     pub items: Vec<Span>,

@@ -8,7 +8,7 @@ use Rattle.base.proofs.Search.{first_below-nowhere, first_below-found}
 use Rattle.number_set.specs.Numbers.{IsFirstFrom, IsNoneFrom}
 use Rattle.slot_alloc.specs.Free.{is_free, lowest_free}
 
--- it lies below the bound
+-- the slot is below the bound
 below_by : (n slot : ℕ) (o : Option ℕ) (b : Bool) → ((k : ℕ) → o ≡ Some k → k < n) → option_or o (cond b (Some n) None) ≡ Some slot → slot < suc n
 below_by n slot a b within e = grind (arith)
 

@@ -1,4 +1,4 @@
--- Where links lead from a key's newest version, in the words of an image.
+-- How links lead from a key's newest version to what a snapshot sees, in the words of an image.
 use Rattle.std.specs.Prelude.{ℕ, ◌+◌, ◌^◌, ◌-◌, ◌<◌, ◌≡◌, Bool, true, false, ◌&&◌, not, nat_lt, Option, Some}
 use Rattle.base.specs.declared.key.Key.{Key}
 use Rattle.base.specs.Records.{is_in}
@@ -11,7 +11,7 @@ pub record IsOfKey (image : Image) (slot : ℕ) (key : Key) : Type 0 where
   pub fits : is_misfit image slot ≡ false
   pub at : key_of image slot ≡ key
 
--- the timestamp isn't 0, and lies in no gap of the snapshot
+-- the timestamp isn't 0, and is in no gap of the snapshot
 abbrev pub is_counted : Seen → ℕ → Bool
 is_counted s t = nat_lt 0 t && not (is_in s.gaps t)
 

@@ -56,7 +56,7 @@ impl Snapshot {
         self.persisted = covered.record.persisted();
     }
 
-    /// The last timestamp that is covered, lies in a gap or is a long commit's.
+    /// The last timestamp that is covered, is in a gap or belongs to a long commit.
     pub fn persisted(&self) -> Ts
         ensures { result ≡ self.now.persisted }
     {
@@ -86,7 +86,7 @@ impl Snapshot {
     }
 }
 
-/// What a record covers, while it lies there: it is copied once, where it is held.
+/// What a record covers, borrowed from the record: it is copied once, into the place that keeps it.
 #[derive(Drop)]
 pub struct Covered<'a> {
     record: &'a Record,

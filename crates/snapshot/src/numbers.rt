@@ -16,7 +16,7 @@ pub struct Numbers {
 }
 
 impl Numbers {
-    /// What the record covers, where it lies.
+    /// What the record covers, borrowed from it.
     #[inline(always)]
     pub fn covered(&self) -> Covered<'_>
         requires { IsTrue (is_gap_list self.now.record.gaps) }
@@ -34,7 +34,7 @@ impl Numbers {
         self.covered().to_snapshot()
     }
 
-    /// Is no timestamp left that the record reserves?
+    /// Have all timestamps that the record reserves been drawn?
     pub fn is_window_full(&self) -> bool
         ensures { result ≡ nat_eq self.now.next self.now.record.dirty }
     {

@@ -12,8 +12,8 @@ pub trait SyncAhead: Pmem {
     /// A sync, which is made where the device isn't at hand, and what came of it.
     type Pending: Drop;
 
-    /// Where this actor's next fence would wait for a sync, hands that sync out, to be made and taken back before the fence. `None`
-    /// where the fence waits for nothing that can be made ahead of it. It counts as no operation.
+    /// If this actor's next fence would wait for a sync, hands that sync out, to be made and taken back before the fence. `None`
+    /// if the fence doesn't wait for anything that can be made ahead of it. The call doesn't count as an operation.
     fn begin_sync(&mut self, actor: Actor) -> Option<Self::Pending>
         ensures { Self.state self.new ≡ Self.state self.old };
 

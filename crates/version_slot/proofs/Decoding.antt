@@ -19,7 +19,7 @@ same_word xs ys same = grind (arith) steps 800000
 bytes_back : (n : ℕ) (f : ℕ → ℕ) → ((i : ℕ) → f i < 256) → n ≡ from_le_bytes w64 (map f (range_with_len 0 8)) → (i : ℕ) → i < 8 → get_or (to_le_bytes w64 n) i 0 ≡ f i
 bytes_back n f small is i lt = grind (arith, le_bytes_8, length-map-range_with_len, get_or-map-range_with_len, cases_lt, get_or_past)
 
--- each byte of the row, and 0 after it, stands in the words
+-- each byte of the row, and 0 after it, is in the words
 pub row_byte : (row : List ℕ) (words : ℕ → ℕ) (last i : ℕ) → ((k : ℕ) → k < last → words (4 + k) ≡ row_word row k) → ((k : ℕ) → get_or row k 0 < 256) → i / 8 < last → slot_byte words i ≡ get_or row i 0
 row_byte row words last i each small lt =
     bytes_back (words (4 + i / 8)) (λ j. get_or row (8 * (i / 8) + j) 0) (λ j. small (8 * (i / 8) + j))

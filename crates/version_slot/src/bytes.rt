@@ -42,7 +42,7 @@ pub fn row_bytes(words: &[u64; 16]) -> [u8; 96]
     bytes
 }
 
-// Whether the bytes from one on are 0, of the row words of a slot that has so many words in all.
+// Whether the row words of a slot of `count` words have only 0 bytes from byte `length` on.
 #[inline(always)]
 pub fn is_padded(words: &[u64; 16], length: usize, count: usize) -> bool
     requires few { (4 ≤ count) × (count ≤ 16) }

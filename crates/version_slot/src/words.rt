@@ -105,7 +105,7 @@ impl Version {
         [0, key, header, first, second, third, word_at(bytes, 24)]
     }
 
-    // Puts the words of a slot of so many that is filled with it, from the second on, into their places.
+    // Puts the words of a slot of `count` words that is filled with this version, from the second on, into their places.
     #[inline(always)]
     pub(crate) fn put_words(&self, count: usize, words: &mut [u64; 16])
         requires count { (4 ≤ count) × (count ≤ 16) }

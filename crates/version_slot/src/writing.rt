@@ -40,7 +40,7 @@ pub fn fill<D: Pmem>(
     }
 }
 
-// Stores the words of a slot of so many that is filled with the version, in the words from this one on.
+// Stores the words of a slot of `count` words that is filled with the version, in the words from `first` on.
 #[cold]
 #[inline(never)]
 fn store_lines<D: Pmem>(

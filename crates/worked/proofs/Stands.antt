@@ -33,7 +33,7 @@ below_one t true true e f = grind (arith, nat_tests)
 below_one t true false e f = refl
 below_one t false b e f = refl
 
--- no gap is opened where none is due
+-- no gap is opened if none is due
 pub no_gaps : IsOpenedGaps (ruling formatted_image) []
 no_gaps = record { ordered = refl; apart = refl; same = λ t. below_one t (nat_lt 0 t) (nat_lt t 1) refl refl }
 

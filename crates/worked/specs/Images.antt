@@ -15,7 +15,7 @@ use Rattle.machine.specs.Openings.{IsOpenedGaps, gaps_kept, opened_slots, words_
 abbrev pub Words : Type 0
 Words = List (ℕ × ℕ)
 
--- the image with these words in place of its own
+-- the image with these words instead of its own
 abbrev pub with_words : Words → Image → Image
 with_words [] image = image
 with_words (word ∷ words) image = with_words words (slice_set image word.0 word.1)
@@ -39,7 +39,7 @@ version_words = (74, 7) ∷ (75, 131073) ∷ (76, 25185) ∷ []
 abbrev pub formatted_image : Image
 formatted_image = image_with ((40, 1) ∷ (42, 1) ∷ [])
 
--- after an opening
+-- after opening
 abbrev pub opened_image : Image
 opened_image = with_words ((8, 2) ∷ (10, 9) ∷ []) formatted_image
 
@@ -82,11 +82,11 @@ pub record FirstRunImages : Type 0 where
   pub no_gap_due : IsOpenedGaps (ruling formatted_image) []
   pub gap_due : IsOpenedGaps (ruling covered_image) (gap 2 9 ∷ [])
 
--- changes of an image, each with an answer
+-- changes of an image, each with a result
 abbrev pub Table : Type 0
 Table = List (Words × Option Fault)
 
--- the test answers so
+-- the test returns these results
 abbrev pub IsTable : (Image → Option Fault) → Image → Table → Type 0
 IsTable test image table = map (λ row. test (with_words row.0 image)) table ≡ map (λ row. row.1) table
 
@@ -135,7 +135,7 @@ changed_row =
     ∷ ((80, 1) ∷ (82, 7) ∷ (83, 131073) ∷ (84, 25185) ∷ [], Some (Damaged 3))
     ∷ []
 
--- what an opening answers of a formatted image, changed
+-- the result of opening a formatted image, changed
 abbrev pub changed_opening : Table
 changed_opening =
     ([], None)
@@ -149,7 +149,7 @@ changed_opening =
 abbrev pub eight_gaps : Words
 eight_gaps = (43, 8) ∷ (44, 1) ∷ (45, 1) ∷ (46, 3) ∷ (47, 3) ∷ (48, 5) ∷ (49, 5) ∷ (50, 7) ∷ (51, 7) ∷ (52, 9) ∷ (53, 9) ∷ (54, 11) ∷ (55, 11) ∷ (56, 13) ∷ (57, 13) ∷ (58, 15) ∷ (59, 15) ∷ []
 
--- an opening adds a ninth gap; one that is joined to the eighth; none, since no timestamp is skipped
+-- images in which opening adds a ninth gap; one joined to the eighth; none, since no timestamp is skipped
 abbrev pub ninth_gap_image : Image
 ninth_gap_image = with_words ((41, 17) ∷ (42, 20) ∷ eight_gaps) formatted_image
 
@@ -160,7 +160,7 @@ abbrev pub eight_gaps_image : Image
 eight_gaps_image = with_words ((41, 17) ∷ (42, 18) ∷ eight_gaps) formatted_image
 
 -- Slot 0 begins in the third gap, slot 1 begins at 2 and ends in the ninth, slot 2 begins at 4 and ends at 6, and slot 3
--- lies in gaps with both
+-- has both in gaps
 abbrev pub marked_words : Words
 marked_words = (72, 5) ∷ (74, 5) ∷ (80, 2) ∷ (81, 19) ∷ (82, 7) ∷ (88, 4) ∷ (89, 6) ∷ (96, 1) ∷ (97, 15) ∷ []
 
@@ -181,8 +181,8 @@ pub record DamagedImages : Type 0 where
   pub opening : IsTable opening_fault formatted_image changed_opening
   pub cut_short : map (λ n. damage (take n formatted_image)) (range_with_len 0 105) ≡ replicate 8 (Some NotFormatted) ++ replicate 96 (Some BadGeometry) ++ None ∷ []
 
--- An image with a ninth gap opens, and is swept: 0 is stored in the begins and the ends that lie in a gap. With eight gaps
--- none is
+-- An image with a ninth gap opens, and is swept: 0 is stored in the begins and the ends that are in a gap. With eight gaps
+-- nothing is swept
 pub record NinthGap : Type 0 where
   pub opens : map opening_fault (ninth_gap_image ∷ joined_gap_image ∷ eight_gaps_image ∷ []) ≡ None ∷ None ∷ None ∷ []
   pub sweeps : map needs_sweep (ninth_gap_image ∷ joined_gap_image ∷ eight_gaps_image ∷ []) ≡ true ∷ false ∷ false ∷ []

@@ -23,7 +23,7 @@ numbers q = q.ruling.gate ∷ q.ruling.persisted ∷ q.ruling.dirty ∷ q.next �
 abbrev pub key_8 : Key
 key_8 = record { table = 1; key = 8 }
 
--- so many ticks of the committer
+-- this many ticks of the committer
 abbrev pub ticks : ℕ → List Step
 ticks n = replicate n CommitTick
 
@@ -101,7 +101,7 @@ pub record EmptyWriteSet : Type 0 where
 pub record HalfWritten : Type 0 where
   pub opens : numbers (opened half_written_image [] (4 ∷ []) (gap 4 11 ∷ [])) ≡ 6 ∷ 11 ∷ 20 ∷ 12 ∷ []
 
--- a close leaves no timestamp reserved, and the next opening has no gap
+-- closing leaves no timestamp reserved, and the next opening has no gap
 pub record CloseThenOpen : Type 0 where
   pub closes : (closed committed).ruled_by ≡ record_of 4 1 2 []
   pub covers_drawn : (closed inserted) ≡ record { ruled_by = record_of 3 1 2 []; commits = commit_1 ∷ [] }
@@ -219,7 +219,7 @@ pub record NoTimestampLeft : Type 0 where
 
 -- ---- the collector
 
--- so many visits of the collector
+-- this many visits of the collector
 abbrev pub collects : ℕ → List Step
 collects n = replicate n Collect
 
@@ -233,7 +233,7 @@ deleted_with session = record start {
   held = λ slot. replaced 0 (Some (record { key = key_7; writer = ByCommit 1 })) (λ m. None) slot;
 }
 
--- a slot is free once nobody reads its version: not while a session reads the tables of before the deletion
+-- a slot is free once nobody reads its version: not while a session reads the tables from before the deletion
 pub record FreedSlots : Type 0 where
   pub rounds : replies (deleted_with None) (collects 6) ≡ Visited 0 ∷ Visited 1 ∷ Visited 2 ∷ Visited 3 ∷ SweepEnd ∷ Visited 0 ∷ []
   pub frees : (end (deleted_with None) (collects 1)).held 0 ≡ None

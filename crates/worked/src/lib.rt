@@ -54,7 +54,7 @@ pub fn half_written_record()
     ensures { HalfWritten }
 {}
 
-/// A close covers what is drawn and leaves no timestamp reserved.
+/// Closing covers what is drawn and leaves no timestamp reserved.
 pub fn close_then_open()
     ensures { CloseThenOpen }
 {}

@@ -169,7 +169,7 @@ module _ (q : State) (past : q.layout.slots < q.place) where
 round-settles : (q : State) → IsSettled (round_of q)
 round-settles q = grind (arith, cases_lt, settled-past, settled-within)
 
--- ---- where nothing is left, only the place moves
+-- ---- if nothing is left, only the place moves
 
 settled-visit : (q : State) → IsSettled q → (visited q ≡ record q { place = (visited q).place }) × IsSettled (visited q)
 settled-visit q settled = grind (arith, cases_lt, clean-visited, slots-visited, at-slot, swept-visited, at-end)

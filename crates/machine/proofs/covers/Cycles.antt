@@ -15,7 +15,7 @@ use Rattle.machine.specs.Machine.{State, Hand, refusal, chooses, chosen, is_idle
 use Rattle.machine.specs.Replay.{reply_on, state_on, reply_of, state_of, replies, end}
 use Rattle.machine.specs.Laws.{CycleIsWhole}
 
--- the state with this batch in hand, after so many ticks
+-- the state with this batch being written, after this many ticks
 abbrev at : State → Hand → ℕ → State
 at q hand k = record q { hand = Some (record { commits = hand.commits; target = hand.target; ticks = k }) }
 

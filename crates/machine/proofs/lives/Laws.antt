@@ -51,6 +51,6 @@ lives-stand before (a ∷ asked) (r ∷ reports) after w (mid, life, lives) = li
 lives-stand before [] (r ∷ reports) after w none = absurd none
 lives-stand before (a ∷ asked) [] after w none = absurd none
 
--- a close that was asked is reported, unless the device had failed
+-- if closing was requested, its outcome is reported, unless the device had failed
 pub close-told : (q : State) (lost : List ℕ) (after : World) → q.failed ≡ false → EndsAs q true None lost after → ⊥
 close-told q lost after works (failed, s) = grind arith

@@ -24,7 +24,7 @@ record Within (from to : ℕ) (commit : Commit) : Type 0 where
   low : from ≤ commit.timestamp
   high : commit.timestamp < to
 
--- what is drawn or in hand was drawn in this life
+-- what is drawn or being written was drawn in this life
 record Fresh (from : ℕ) (q : State) : Type 0 where
   le : from ≤ q.next
   drawn : All (λ d. Within from q.next d.commit) q.drawn

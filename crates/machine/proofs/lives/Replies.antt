@@ -251,7 +251,7 @@ told-opened start history same drawn hand = grind (arith, append-nil)
 
 -- ---- what a stop adds
 
--- what the cover of a batch in hand adds
+-- what the cover of a pending batch adds
 abbrev BeginsAs : State → List Commit → Cover → Type 0
 BeginsAs q all cover = (first : List Commit) × (rest : List Commit) × (all ≡ first ++ rest) × (cover.commits ≡ q.history ++ first)
 
@@ -289,7 +289,7 @@ end-leaves q closes (Some (Err fault)) lost after (asked, works, inl (g, s)) = l
 end-leaves q closes (Some (Err fault)) lost after (asked, works, inr (g, d, s)) = leaves q (covers_closing q) lost after (begins-closing q) s
 end-leaves q closes (Some (Ok numbers)) lost after (asked, works, g, n, s) = leaves q (closed q ∷ []) lost after (begins-closed q) s
 
--- a close that succeeded leaves all
+-- closing with success leaves everything
 closed-leaves : (q : State) (lost : List ℕ) (after : World) → StopsAt q (closed q ∷ []) lost after → after.history ≡ q.history ++ uncovered q
 closed-leaves q lost after s = grind arith
 

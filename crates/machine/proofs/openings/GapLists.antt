@@ -146,7 +146,7 @@ points-in (u ∷ longs) gaps t is = points-in longs (with_gap (point u) gaps) t 
     by (inl is) = inl (with-in (point u) gaps t (inr is))
     by (inr e) = split (or_cases (nat_eq t u) (list_any (nat_eq t) longs) e)
 
--- What an opening skips
+-- The timestamps that are skipped on opening
 
 abbrev skipped : Record → Gap
 skipped r = record { first = r.persisted + 1; last = r.dirty - 1 }

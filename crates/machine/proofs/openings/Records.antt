@@ -1,4 +1,4 @@
--- What the record that an opening writes commits, with and without a sweep.
+-- What the record that is written on opening commits, with and without a sweep.
 use Rattle.std.proofs.Common.{◌≡◌, ℕ, ◌+◌, ◌-◌, ◌^◌, ◌<◌, ◌≤◌, Bool, true, false, cond, not, ◌&&◌, ◌||◌, List, [], ◌∷◌, length, refl, arith, nat_eq, nat_le}
 use Rattle.std.specs.List.{list_any, list_all}
 use Rattle.std.proofs.lemmas.Bool.{and_parts, or_cases, ltb-true, ltb-false, le-leb, false≢true}
@@ -16,7 +16,7 @@ uncovered a b y z e = grind (arith)
 pub same-committed : (a : Layout) (r : Record) (gaps : List Gap) (t : ℕ) → IsOpenedGaps r gaps → t < r.dirty → is_committed (opening_record a r gaps) t ≡ is_committed r t
 same-committed a r gaps t covers below = grind (arith, uncovered, nat_tests)
 
--- what lies in a gap of the opening counts for nothing before
+-- what is in a gap after opening wasn't committed before
 pub uncommitted-in : (r : Record) (gaps : List Gap) (t : ℕ) → IsOpenedGaps r gaps → is_in gaps t ≡ true → is_committed r t ≡ false
 uncommitted-in r gaps t covers there = grind (arith, uncovered, nat_tests)
 
@@ -47,7 +47,7 @@ up_to-in : (bound : ℕ) (gaps : List Gap) → list_all (λ gap. nat_le gap.firs
 up_to-in bound [] ordered each = refl
 up_to-in bound (gap ∷ gaps) ordered each = grind (arith, le-leb, up_to-in bound gaps)
 
--- the gaps lie below the old dirty timestamp
+-- the gaps are below the old dirty timestamp
 gaps-below : (version : ℕ) (r : Record) (gaps : List Gap) → WellFormed version r → IsOpenedGaps r gaps → are_up_to (r.dirty - 1) gaps ≡ true
 gaps-below version r gaps formed opened = grind (arith, up_to-in, or_cases, in-up_to, long-up_to, and_parts, ltb-true)
 

@@ -1,4 +1,4 @@
--- What an opening finds, and the state that it gives: with a sweep it is that of the image as swept, under a record
+-- What is found on opening, and the resulting state: with a sweep it is that of the image as swept, under a record
 -- without gaps.
 use Rattle.std.proofs.Common.{◌≡◌, ℕ, ◌+◌, ◌-◌, ◌*◌, ◌^◌, ◌<◌, ◌≤◌, Bool, true, false, cond, ◌&&◌, ◌||◌, List, [], ◌∷◌, length, refl, sym, ◌∙◌, ap, arith, nat_lt, nat_le}
 use Rattle.std.specs.Prelude.{Some, None, ◌↔◌}
@@ -24,7 +24,7 @@ use Rattle.machine.proofs.openings.Records.{same-committed, swept-committed, unc
 use Rattle.machine.proofs.openings.Sweeps.{swept_record, swept-size, swept-layout, swept-rows, swept-counts}
 use Rattle.base.proofs.Options.{or-none, all_none, some_if-none}
 
--- what an opening finds, by this record and with these gaps
+-- what is found on opening, by this record and with these gaps
 pub record IsOpening (a : Layout) (r : Record) (image : Image) (history : List Commit) (gaps : List Gap) : Type 0 where
   pub layout : layout_of image ≡ a
   pub limits : is_in_limits a ≡ true
@@ -77,7 +77,7 @@ room-of image opens = grind (arith, or-none, or_parts, some_if-none, leb-false)
 
 -- ---- what is found
 
--- the record by which an opening goes on
+-- the record with which opening continues
 abbrev pub ruled_before : Image → Record
 ruled_before image = cond (needs_sweep image) (swept_record (ruling image)) (ruling image)
 
@@ -100,7 +100,7 @@ own-counts image sound r' same further = record {
   end_below = λ slot h. let low = (below-of image sound slot h).1 in omega (arith, low, further);
 }
 
--- the slots that an opening leaves have the same rows
+-- the slots that are left by opening have the same rows
 pub opened-rows : (image : Image) → HasRowsOf image (opened_slots image)
 opened-rows image = by (needs_sweep image)
   where
@@ -196,7 +196,7 @@ same-by : (image : Image) (history : List Commit) (lost : List ℕ) (gaps : List
 same-by image history lost gaps sound false = refl
 same-by image history lost gaps sound true = λ i. record (opened_under (layout_of image) (ruling image) image history lost []) { held = λ slot. same-held image history sound slot i }
 
--- the state that an opening of an image of the newest version gives is that by what it found
+-- the state after opening an image of the newest version is the one given by what was found
 pub same_opened : (image : Image) (history : List Commit) (lost : List ℕ) (gaps : List Gap) → IsSound image → IsUpToDate image → IsOpenedGaps (ruling image) gaps
     → opened_under (layout_of image) (ruled_before image) (opened_slots image) history lost (gaps_kept (opened_gaps (ruling image))) ≡ opened image history lost gaps
 same_opened image history lost gaps sound up covers =

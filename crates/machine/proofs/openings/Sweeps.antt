@@ -1,4 +1,4 @@
--- The image that a sweep leaves: its slots have the same rows, and nothing in them lies in a gap.
+-- The image that a sweep leaves: its slots have the same rows, and nothing in them is in a gap.
 use Rattle.std.proofs.Common.{◌≡◌, ℕ, ◌+◌, ◌-◌, ◌*◌, ◌%◌, ◌<◌, ◌≤◌, Bool, false, cond, ◌&&◌, [], get_or, length, ◌∙◌, ap, arith, nat_lt}
 use Rattle.std.proofs.Math.Nat.{mod-eq_of_lt, mul-add-mod_self_left}
 use Rattle.std.proofs.lemmas.Bool.{cases_lt, le-leb, lt-leb, lt-ltb, le-ltb}

@@ -28,7 +28,7 @@ But n session q q' = (m : ℕ) → q'.sessions m ≡ replaced n session q.sessio
 abbrev Same : State → State → Type 0
 Same q q' = (m : ℕ) → q'.sessions m ≡ q.sessions m
 
--- a number whose session sees no more than so many commits
+-- a number whose session sees at most this many commits
 abbrev Within : ℕ → Option Session → Type 0
 Within covered session = begun_of session ≤ covered
 
