@@ -41,7 +41,7 @@ pub repeats-then : {D : Type 0} → {G : Ghosts D} → (state : D → Device) (o
 repeats-then state old mid new step reply (replies, repeats) leads =
     (replies ++ reply ∷ [], rw (map_push (of_step step) replies reply) (leads-join state old mid new (map (of_step step) replies) ((step, reply) ∷ []) repeats (leads-one state mid new step reply leads)))
 
--- each answered so
+-- each with this reply
 pub answered-none : {D : Type 0} → {G : Ghosts D} → (state : D → Device) (room : Room D G) (step : Step) (answer : Reply) → IsOrderly (state room.device) → RepeatsAnswered state room room step answer
 answered-none state room step answer orderly = (0, leads-none state room orderly)
 
@@ -53,7 +53,7 @@ answered-then state old mid new step answer (count, repeats) leads = (
       (leads-join state old mid new (replicate count (step, answer)) ((step, answer) ∷ []) repeats (leads-one state mid new step answer leads)),
 )
 
--- a stamp leaves more keys only where its reply is that
+-- a stamp leaves more keys only if this is its reply
 is_more : (answer : Reply) → Ok false ≡ stamped_of answer → answer ≡ More
 is_more a e = grind (arith)
 
@@ -62,7 +62,7 @@ pub stamps-more : {D : Type 0} → {G : Ghosts D} → (state : D → Device) (ol
 stamps-more state old mid new n repeats one =
     answered-then state old mid new (Stamp n) More repeats (subst (λ (answer : Reply). Leads state mid new (Stamp n) answer) (is_more one.0 one.2) one.1)
 
--- just so many times
+-- exactly this many times
 pub times-none : {D : Type 0} → {G : Ghosts D} → (state : D → Device) (room : Room D G) (step : Step) → IsOrderly (state room.device) → RepeatsTimes state room room step 0
 times-none state room step orderly = ([], refl, leads-none state room orderly)
 

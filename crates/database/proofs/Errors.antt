@@ -66,18 +66,18 @@ run-ended {D} {G} {ended} state old new fault run leads other =
       along = λ told is. let same : fault ≡ told = cc is in subst (λ (f : Fault). EndedIn f (taken ++ (CommitTick, RefusedWith fault) ∷ [])) same (Contains-push taken (CommitTick, RefusedWith fault), has-ended state old new fault run leads other);
     })
 
--- what a room that has ended so says of it
+-- what holds for a room whose committer has ended with this fault
 pub ended-in : {D : Type 0} {G : Ghosts D} (state : D → Device) (room : Room D G) (ended : Option Fault) → ∥ HasTaken state room (EndedAlong ended) ∥₁ → (fault : Fault) → ended ≡ Some fault → HasEnded fault
 ended-in state room ended run fault is = ∥∥₁_elim run ∥∥₁_prop (λ r. (r.so.along fault is).1)
 
--- a tick that was answered so
+-- a tick with this reply
 pub run-ticked : {D : Type 0} {G : Ghosts D} {ended : Option Fault} (state : D → Device) (old new : Room D G) (reply : Reply) (after : Option Fault) → ∥ HasTaken state old (EndedAlong ended) ∥₁ → Leads state old new CommitTick reply
     → (after ≡ ended) ⊎ ((fault : Fault) × (reply ≡ RefusedWith fault) × (fault ≢ OutOfMemory) × (after ≡ Some fault)) → ∥ HasTaken state new (EndedAlong after) ∥₁
 run-ticked state old new reply after run leads (inl same) = subst (λ (e : Option Fault). ∥ HasTaken state new (EndedAlong e) ∥₁) (sym same) (run-led state old new CommitTick reply run leads)
 run-ticked state old new reply after run leads (inr (fault, is, other, ended)) =
     subst (λ (e : Option Fault). ∥ HasTaken state new (EndedAlong e) ∥₁) (sym ended) (run-ended state old new fault run (subst (λ (r : Reply). Leads state old new CommitTick r) is leads) other)
 
--- want of memory is no end
+-- lack of memory doesn't end the committer
 pub has-lacked : {D : Type 0} {G : Ghosts D} {ended : Option Fault} (state : D → Device) (old new : Room D G) → ∥ HasTaken state old (EndedAlong ended) ∥₁
     → Leads state old new CommitTick (RefusedWith OutOfMemory) → HasLackedMemory
 has-lacked state old new run leads =
@@ -109,7 +109,7 @@ stops-after {D} {G} {ended} state old new session refusals error run polls gives
 pub answered-so : (session : ℕ) (result : Result ℕ CommitError) → ForOk result (IsAcknowledged session) → ForErr result (GivesUp session) → IsAnswered session result
 answered-so session a told why = grind (arith)
 
--- and of the commit with this timestamp, where it is its answer
+-- and of the commit with this timestamp, if it is its answer
 pub answered-at : (session t : ℕ) (answer : Result ℕ CommitError) (result : Result ⊤ CommitError) → IsAnswered session answer → AnswersTo t answer result → IsAnsweredAt session t result
 answered-at session t answer a is to = grind (arith)
 
@@ -130,7 +130,7 @@ pub settled-ended : (t : ℕ) (ended : Option Fault) → ForSome ended HasEnded 
 settled-ended t (Some fault) so is = inr (inl (fault, so fault refl))
 settled-ended t None so is = absurd (cc is)
 
--- a timestamp is settled exactly where it has ended, or the record has come to it
+-- a timestamp is settled exactly if the committer has ended, or the record has come to it
 pub settled-exact : {D : Type 0} {G : Ghosts D} (state : D → Device) (there : Option (OpenedRoom D G)) (room : OpenedRoom D G) (t : ℕ) (status : Status) → there ≡ Some room → is_some room.ended ≡ false
     → ((q : State) → Shows state room.room q → ShowsStatus q status)
     → IfSome there (λ room. (q : State) → Shows state room.room q → IsTrue (leb t status.persisted) ↔ (IsTrue (is_some room.ended) ⊎ (t ≤ q.ruling.persisted)))
@@ -146,7 +146,7 @@ settled-exact {D} {G} state there room t status is going told =
 not-given-up : (session : ℕ) (fault : Fault) (key : Key) → fault ≡ Conflict key → StopsAfter session (Refused fault) ⊎ StopsAtEnd session (Refused fault) → ⊥
 not-given-up session fault key e a = grind (arith)
 
--- a conflict is reported where the draw was refused so
+-- a conflict is reported if the draw was refused with it
 pub tells-refusal : (session : ℕ) (error : CommitError) → ReportsError session error → ReportsRefusal session error
 tells-refusal session (Open fault) tells key e = absurd (cc e)
 tells-refusal session (Refused fault) (inl (inl (prepared, other), back, late)) key e = (prepared, late key e)

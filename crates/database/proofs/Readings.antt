@@ -1,4 +1,4 @@
--- What is returned, read off the reply for which it stands.
+-- What is returned, read off the reply that it represents.
 use Rattle.std.proofs.Common.{◌≡◌, ℕ, Bool, List, arith}
 use Rattle.std.specs.Prelude.{⊤, Option, Result}
 use Rattle.base.specs.declared.fault.Fault.{Fault}

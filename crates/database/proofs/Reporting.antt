@@ -1,4 +1,4 @@
--- What a put and a commit make of a run from an opening.
+-- What a put and a commit add to a run from the opening of a device.
 use Rattle.std.proofs.Common.{inl, inr, ℕ, ◌-◌, List, [], ◌∷◌, ◌++◌, refl, sym, ap, ◌≡◌, arith}
 use Rattle.std.specs.Prelude.{⊤, Option, Some, None, Result, Ok, Err, IfOk, IfErr, map, replicate}
 use Rattle.std.proofs.lemmas.List.{append-nil, append_assoc}
@@ -140,19 +140,19 @@ pub is-acknowledged : {D : Type 0} {G : Ghosts D} {ended : Option Fault} (state 
     → ∥ HasTaken state old (EndedAlong ended) ∥₁ → Finishes state old new session (Ok (Some t)) → IsAcknowledged session t
 is-acknowledged state old new session t run (mid, polls, last) = polled_so state old new session t (Ok tt) _ (λ taken is. is) run mid polls last
 
--- where it returns the timestamp, or that nothing was written
+-- if it returns the timestamp, or that nothing was written
 pub prepared-ok : {D : Type 0} {G : Ghosts D} {ended : Option Fault} (state : D → Device) (old new : Room D G) (session : ℕ) (result : Result (Option ℕ) CommitError)
     → ∥ HasTaken state old (EndedAlong ended) ∥₁ → Prepares state old new session result → IfOk result (λ drawn. IsPrepared session (Ok drawn))
 prepared-ok state old new session (Ok drawn) run prepares = is-prepared state old new session (Ok drawn) run prepares
 prepared-ok state old new session (Err error) run prepares = tt
 
--- where it returns why it isn't
+-- if it returns why the commit isn't acknowledged
 pub prepared-err : {D : Type 0} {G : Ghosts D} {ended : Option Fault} (state : D → Device) (old new : Room D G) (session : ℕ) (result : Result (Option ℕ) CommitError)
     → ∥ HasTaken state old (EndedAlong ended) ∥₁ → Prepares state old new session result → (result ≡ Err (Refused WindowFull) → ⊥) → IfErr result (ReportsUnprepared session)
 prepared-err state old new session (Ok drawn) run prepares other = tt
 prepared-err state old new session (Err error) run prepares other = inl (is-prepared state old new session (Err error) run prepares, λ is. other (ap Err is))
 
--- it was refused for a conflict, where this was the last timestamp that was drawn
+-- it was refused for a conflict, when this was the last timestamp drawn
 pub conflicts-at : {D : Type 0} {G : Ghosts D} {ended : Option Fault} (state : D → Device) (old new : Room D G) (session : ℕ) (key : Key) (last : ℕ)
     → ∥ HasTaken state old (EndedAlong ended) ∥₁ → Prepares state old new session (Err (Refused (Conflict key))) → ((q : State) → Shows state new q → last ≡ q.next - 1) → ConflictsAt session key last
 conflicts-at state old new session key last run (inl one) at =

@@ -20,7 +20,7 @@ use Rattle.database.specs.Ended.{EndedAlong, EndsOnceEnded}
 use Rattle.database.specs.Obeys.{Obeys, IsStep, AnswersStep}
 use Rattle.database.specs.Closing.{ClosesRun}
 
--- where the committer has ended, it has so in a longer run
+-- if the committer has ended, it has also ended in a longer run
 ended-more : (ended : Option Fault) (taken more : List (Step × Reply)) → EndedAlong ended taken → EndedAlong ended (taken ++ more)
 ended-more ended taken more r = record { along = λ fault is. let a = r.along fault is in (Contains-append_left taken more (CommitTick, RefusedWith fault) a.0, a.1) }
 

@@ -1,4 +1,4 @@
--- What a put and a commit make of a run.
+-- What a put and a commit add to a run.
 use Rattle.std.specs.Prelude.{◌≡◌, ◌≢◌, ◌⊎◌, ◌<◌, ◌≤◌, ◌+◌, ◌-◌, ◌^◌, min, ℕ, List, [], ◌∷◌, ◌++◌, map, replicate, ⊤, Option, Some, None, Result, Ok, Err, MatchResult}
 use Rattle.base.specs.declared.fault.Fault.{Fault}
 use Rattle.base.specs.declared.fault.Fault.TheVariants.{SlotsOut, Conflict, WindowFull, OutOfMemory, TimestampsOut}
@@ -29,17 +29,17 @@ pub record PutsAgain (session : ℕ) (key : Key) (row : List ℕ) (result : Resu
   pub found_none : Err SlotsOut ≡ done_of first
   pub result_is : result ≡ done_of last
 
--- that, or a put alone, which didn't want for a slot
+-- that, or a single put, which didn't fail for lack of a slot
 abbrev pub IsPut : ℕ → Key → List ℕ → Result ⊤ Fault → List (Step × Reply) → Type 0
 IsPut session key row result taken = (IsStep (Put session key row) done_of result taken × (result ≢ Err SlotsOut)) ⊎ PutsAgain session key row result taken
 
--- such a put ends a run from an opening
+-- a run from the opening of a device ends in such a put
 abbrev pub AnswersPut : ℕ → Key → List ℕ → Result ⊤ Fault → Type 0
 AnswersPut session key row result = EndsRun (IsPut session key row result)
 
 -- ---- many writes
 
--- the row was put so, or what was under the key was deleted
+-- the row was put in this way, or what was under the key was deleted
 abbrev pub IsWrite : ℕ → Key → Option (List ℕ) → Result ⊤ Fault → List (Step × Reply) → Type 0
 IsWrite session key (Some row) result taken = IsPut session key row result taken
 IsWrite session key None result taken = IsStep (Delete session key) done_of result taken
@@ -52,7 +52,7 @@ AreWrites session (write ∷ others) result taken =
     ((fault : Fault) × (result ≡ Err fault) × IsWrite session write.0 write.1 (Err fault) taken)
     ⊎ ((first more : List (Step × Reply)) × (taken ≡ first ++ more) × IsWrite session write.0 write.1 (Ok tt) first × AreWrites session others result more)
 
--- such writes end a run from an opening
+-- a run from the opening of a device ends in such writes
 abbrev pub AnswersWrites : ℕ → List (Key × Option (List ℕ)) → Result ⊤ Fault → Type 0
 AnswersWrites session writes result = EndsRun (AreWrites session writes result)
 
@@ -71,7 +71,7 @@ pub record DrawsAndStamps (session t : ℕ) (result : Result ⊤ Fault) (taken :
   pub drew : Ok (Some t) ≡ drawn_of drawn
   pub result_is : all_stamped result ≡ stamped_of last
 
--- it drew for nothing, and ended
+-- its draw found that nothing was written, and it ended
 pub record DrawsAndEnds (session : ℕ) (result : Result ⊤ Fault) (taken : List (Step × Reply)) : Type 0 where
   pub drawn : Reply
   pub last : Reply
@@ -101,7 +101,7 @@ IsPrepared session result = EndsRun (IsPreparation session result)
 abbrev pub IsAcknowledged : ℕ → ℕ → Type 0
 IsAcknowledged session t = EndsRun (PollsAndEnds session t (Ok tt))
 
--- What a commit returns: None where nothing was written, and else the timestamp that it drew, once that is covered
+-- What a commit returns: None if nothing was written, and otherwise the timestamp that it drew, once that is covered
 abbrev pub ReportsCommit : ℕ → Option ℕ → Type 0
 ReportsCommit session None = IsPrepared session (Ok None)
 ReportsCommit session (Some t) = IsPrepared session (Ok (Some t)) × IsAcknowledged session t
@@ -112,20 +112,20 @@ ReportsCommit session (Some t) = IsPrepared session (Ok (Some t)) × IsAcknowled
 abbrev pub HasLackedMemory : Type 0
 HasLackedMemory = EndsRun (λ taken. taken ≡ (CommitTick, RefusedWith OutOfMemory) ∷ [])
 
--- Why a commit isn't drawn for another reason than its steps gave: no record number was left before its draw; or its draw found the window full,
--- and the committer was refused memory for the record that makes room in it
+-- Why a commit isn't drawn, for a reason other than its steps: no record number was left before its draw; or its draw found the window full, and the
+-- committer was refused memory for the record that makes room in it
 abbrev pub StopsBefore : ℕ → CommitError → Type 0
 StopsBefore session (Refused fault) =
     ((fault ≡ TimestampsOut) × HasEnded fault) ⊎ ((fault ≡ OutOfMemory) × HasLackedMemory × IsPrepared session (Err (Refused WindowFull)))
 StopsBefore session (Open fault) = ⊥
 
--- The session's own poll, with which a run from an opening ends, reported that its commit isn't covered; and earlier in that very run a tick of the
--- committer was refused with this fault, and it ended
+-- A run from the opening of a device ends in the session's own poll, which reported that its commit isn't covered. Earlier in that very run a tick of
+-- the committer was refused with this fault, and the committer ended
 abbrev pub WaitsInVain : ℕ → Fault → Type 0
 WaitsInVain session fault = EndsOnceEnded fault (IsStep (Poll session) committed_of (Ok None))
 
--- Why a commit that isn't covered won't be in this life: the committer has ended by the time of its poll, or was refused memory. Without a record number
--- more it won't be in a later one, so it is reported as refused there, and nowhere else
+-- Why a commit that isn't covered won't be before the next opening: the committer has ended by the time of its poll, or was refused memory. If no record
+-- number is left it won't be covered after that either, so it is reported as refused then, and only then
 abbrev pub StopsAfter : ℕ → CommitError → Type 0
 StopsAfter session (Refused fault) = (fault ≡ TimestampsOut) × WaitsInVain session fault
 StopsAfter session (Open fault) = ((fault ≢ TimestampsOut) × WaitsInVain session fault) ⊎ ((fault ≡ OutOfMemory) × HasLackedMemory × AnswersStep (Poll session) committed_of (Ok None))
@@ -134,18 +134,19 @@ StopsAfter session (Open fault) = ((fault ≢ TimestampsOut) × WaitsInVain sess
 abbrev pub most_refusals : ℕ
 most_refusals = 100
 
--- So a commit that isn't covered is waited for no longer: the committer has ended with this fault, or it hasn't, and was refused memory more often than that
+-- Nobody waits any longer for a commit that isn't covered: the committer has ended with this fault, or it hasn't, and was refused memory more often than
+-- that
 abbrev pub IsGivenUp : Option Fault → ℕ → CommitError → Type 0
 IsGivenUp ended refusals (Refused fault) = (fault ≡ TimestampsOut) × (ended ≡ Some fault)
 IsGivenUp ended refusals (Open fault) =
     ((fault ≢ TimestampsOut) × (ended ≡ Some fault)) ⊎ ((fault ≡ OutOfMemory) × (ended ≡ None) × (most_refusals < refusals) × HasLackedMemory)
 
--- A commit is waited for still: its own poll reported that it isn't covered, the committer hasn't ended, and wasn't refused memory too often
+-- A thread still waits for this commit: its own poll reported that it isn't covered, the committer hasn't ended, and wasn't refused memory too often
 abbrev pub IsLeftWaiting : ℕ → Option Fault → ℕ → Type 0
 IsLeftWaiting session ended refusals = AnswersStep (Poll session) committed_of (Ok None) × (ended ≡ None) × (refusals ≤ most_refusals)
 
--- The timestamp that was reported is the answer, or the refusal, which leaves the commit open. Where it isn't covered the answer is why it is given up,
--- and there is none where the committer hasn't ended and wasn't refused memory too often
+-- The answer is the timestamp that was reported, or the refusal, which leaves the commit open. If the commit isn't covered, the answer is why nobody
+-- waits for it any longer, and there is none if the committer hasn't ended and wasn't refused memory too often
 abbrev pub IsReadOff : Option Fault → ℕ → Result (Option ℕ) Fault → Option (Result ℕ CommitError) → Type 0
 IsReadOff ended refusals (Ok (Some t)) answer = answer ≡ Some (Ok t)
 IsReadOff ended refusals (Ok None) (Some (Ok t)) = ⊥
@@ -163,7 +164,7 @@ abbrev pub open_after : {A : Type 0} → ℕ → Result A Fault → ℕ
 open_after count (Ok begun) = min (count + 1) (2 ^ 64 - 1)
 open_after count (Err fault) = count
 
--- the session's poll was refused so, or it reported the timestamp and the end was refused so
+-- the session's poll was refused with this fault, or it reported the timestamp and the end was refused with it
 abbrev pub StopsAtEnd : ℕ → CommitError → Type 0
 StopsAtEnd session (Refused fault) = ⊥
 StopsAtEnd session (Open fault) = EndsRun (λ taken. IsStep (Poll session) committed_of (Err fault) taken ⊎ ((t : ℕ) × PollsAndEnds session t (Err fault) taken))
@@ -176,11 +177,11 @@ GivesUp session error = ∥ (StopsAfter session error ⊎ StopsAtEnd session err
 abbrev pub IsAnswered : ℕ → Result ℕ CommitError → Type 0
 IsAnswered session result = MatchResult result (IsAcknowledged session) (GivesUp session)
 
--- so it is of the one that drew this timestamp
+-- what becomes of the commit that drew this timestamp
 abbrev pub IsAnsweredAt : ℕ → ℕ → Result ⊤ CommitError → Type 0
 IsAnsweredAt session t result = MatchResult result (λ done. IsAcknowledged session t) (GivesUp session)
 
--- there is no answer for the commit that drew the timestamp: it is waited for still, or its session acknowledged another one
+-- there is no answer for the commit that drew the timestamp: its thread still waits, or its session acknowledged another one
 abbrev pub IsWithoutAnswer : ℕ → ℕ → Option Fault → ℕ → Type 0
 IsWithoutAnswer session t ended refusals = IsLeftWaiting session ended refusals ⊎ ((reported : ℕ) × IsAcknowledged session reported × (reported ≢ t))
 
@@ -192,17 +193,17 @@ AnswersTo t answer result = MatchResult result (λ done. answer ≡ Ok t) (λ er
 abbrev pub AnswersAnother : ℕ → Result ℕ CommitError → Type 0
 AnswersAnother t answer = (reported : ℕ) × (answer ≡ Ok reported) × (reported ≢ t)
 
--- so it is of the session's answer, if it has one: it says this of that commit, or it returns another timestamp
+-- what the session's answer, if there is one, gives for this commit: it says this, or it returns another timestamp
 abbrev pub IsReadFor : ℕ → Option (Result ℕ CommitError) → Option (Result ⊤ CommitError) → Type 0
 IsReadFor t None result = result ≡ None
 IsReadFor t (Some answer) (Some result) = AnswersTo t answer result
 IsReadFor t (Some answer) None = AnswersAnother t answer
 
--- why one isn't drawn and stamped: its steps gave this reason, though no full window, which is waited for; or it stopped before them
+-- why a commit isn't drawn and stamped: its steps gave this reason, which isn't a full window, since that is waited for; or it stopped before them
 abbrev pub ReportsUnprepared : ℕ → CommitError → Type 0
 ReportsUnprepared session error = (IsPrepared session (Err error) × (error ≢ Refused WindowFull)) ⊎ StopsBefore session error
 
--- the session's abort was asked for: where its draw was refused it is over, and its slots are free
+-- the session's abort was asked for: if its draw was refused, the transaction is over and its slots are free
 abbrev pub HasAborted : ℕ → Type 0
 HasAborted session = (result : Result ⊤ Fault) × AnswersStep (Abort session) done_of result
 
@@ -214,7 +215,7 @@ ConflictsAt session key last = EndsRunIn (IsPreparation session (Err (Refused (C
 abbrev pub IsSettledUpTo : ℕ → Type 0
 IsSettledUpTo t = ComesTo (λ q. t ≤ q.ruling.persisted) ⊎ (((fault : Fault) × HasEnded fault) ⊎ HasLackedMemory)
 
--- the session's draw met the conflict, and what was drawn by then has come to its end: a commit that was in the way is covered, or given up
+-- the session's draw met the conflict, and all that was drawn by then is settled: a commit that was in the way is covered, or never will be
 abbrev pub MeetsConflictOn : ℕ → Key → Type 0
 MeetsConflictOn session key = (last : ℕ) × ConflictsAt session key last × IsSettledUpTo last
 
@@ -222,19 +223,19 @@ MeetsConflictOn session key = (last : ℕ) × ConflictsAt session key last × Is
 abbrev pub ReportsLate : ℕ → CommitError → Type 0
 ReportsLate session error = (key : Key) → error ≡ Refused (Conflict key) → MeetsConflictOn session key
 
--- What an error says: that the commit wasn't drawn and stamped, for the reason that its steps gave, or before them; or that it was, and why it isn't acknowledged
+-- What an error says: the commit wasn't drawn and stamped, for the reason that its steps gave, or before them; or it was, and why it isn't acknowledged
 abbrev pub ReportsError : ℕ → CommitError → Type 0
 ReportsError session error =
     (ReportsUnprepared session error × HasAborted session × ReportsLate session error) ⊎ ((t : ℕ) × IsPrepared session (Ok (Some t)) × GivesUp session error)
 
--- A conflict is reported only where the session's draw was refused so, and late
+-- A conflict is reported only if the session's draw was refused with it, and only after that
 abbrev pub ReportsRefusal : ℕ → CommitError → Type 0
 ReportsRefusal session error = (key : Key) → error ≡ Refused (Conflict key) → IsPrepared session (Err error) × MeetsConflictOn session key
 
 -- ---- writes in a transaction of their own
 
--- The session was begun, and these are its writes, all of which were made; or the begin was refused so, or one of the writes was, and then the
--- session's abort was asked for
+-- The session was begun, and these are its writes, all of which were made; or the begin was refused with this fault, or one of the writes was, and
+-- then the session's abort was asked for
 abbrev pub IsBegunWith : List (Key × Option (List ℕ)) → Result ℕ Fault → List (Step × Reply) → Type 0
 IsBegunWith writes (Ok session) taken =
     (begun : Reply) × (more : List (Step × Reply)) × (taken ≡ (Begin, begun) ∷ more) × (Ok session ≡ began_of begun) × AreWrites session writes (Ok tt) more
@@ -243,7 +244,7 @@ IsBegunWith writes (Err fault) taken =
     ⊎ ((session : ℕ) × (begun last : Reply) × (more : List (Step × Reply)) × (taken ≡ (Begin, begun) ∷ (more ++ (Abort session, last) ∷ []))
     × (Ok session ≡ began_of begun) × AreWrites session writes (Err fault) more)
 
--- so ends a run from an opening
+-- a run from the opening of a device ends in this
 abbrev pub AnswersBegunWith : List (Key × Option (List ℕ)) → Result ℕ Fault → Type 0
 AnswersBegunWith writes result = EndsRun (IsBegunWith writes result)
 
@@ -251,11 +252,11 @@ AnswersBegunWith writes result = EndsRun (IsBegunWith writes result)
 abbrev pub BeginsWith : {D : Type 0} → {G : Ghosts D} → (D → Device) → Room D G → Room D G → List (Key × Option (List ℕ)) → Result ℕ Fault → Type 0
 BeginsWith state old new writes result = (taken : List (Step × Reply)) × LeadsAlong state old new taken × IsBegunWith writes result taken
 
--- A session was begun with these writes, and its commit returns so
+-- A session was begun with these writes, and its commit returned this
 abbrev pub ReportsWritten : List (Key × Option (List ℕ)) → Option ℕ → Type 0
 ReportsWritten writes timestamp = (session : ℕ) × AnswersBegunWith writes (Ok session) × ReportsCommit session timestamp
 
--- none was begun with them, for this reason; or one was, and its commit returns so
+-- no session was begun with them, for this reason; or one was, and its commit returned this
 abbrev pub ReportsUnwritten : List (Key × Option (List ℕ)) → CommitError → Type 0
 ReportsUnwritten writes error =
     ((fault : Fault) × (error ≡ Refused fault) × AnswersBegunWith writes (Err fault))

@@ -1,4 +1,4 @@
--- With what the committer has ended.
+-- The fault that ended the committer.
 use Rattle.std.specs.Prelude.{◌≡◌, ◌⊎◌, List, [], ◌∷◌, ◌++◌, ⊤, Option, Contains}
 use Rattle.std.specs.Option.{ForSome}
 use Rattle.base.specs.declared.fault.Fault.{Fault}
@@ -10,7 +10,7 @@ use Rattle.base.specs.declared.step.Reply.TheVariants.{Refused as RefusedWith}
 use Rattle.pmem.specs.Device.{Device}
 use Rattle.room.specs.Runs.{RunOver, EndsRun}
 
--- with such a fault the committer ends; after want of memory it goes on
+-- such a fault ends the committer; after a lack of memory it goes on
 abbrev pub IsLast : Fault → Type 0
 IsLast fault = (fault ≡ TimestampsOut) ⊎ ((fault ≡ DeviceFault) ⊎ (fault ≡ Failed))
 
@@ -22,11 +22,11 @@ HasEnded fault = EndsRun (λ taken. (taken ≡ (CommitTick, RefusedWith fault) �
 abbrev pub EndedIn : Fault → List (Step × Reply) → Type 0
 EndedIn fault taken = Contains taken (CommitTick, RefusedWith fault) × HasEnded fault
 
--- where the committer has ended, it was among these steps
+-- if the committer has ended, it did so in one of these steps
 pub record EndedAlong (ended : Option Fault) (taken : List (Step × Reply)) : Type 0 where
   pub along : ForSome ended (λ fault. EndedIn fault taken)
 
--- a run from an opening ends in steps of which this holds, and earlier in it the committer has ended with this fault
+-- a run from the opening of a device ends in steps of which this holds, and earlier in it the committer has ended with this fault
 abbrev pub EndsOnceEnded : Fault → (List (Step × Reply) → Type 0) → Type 0
 EndsOnceEnded fault Fact =
     ∥ ((opened now : Device) × (before taken : List (Step × Reply)) × RunOver opened now (before ++ taken) (λ q. ⊤) × EndedIn fault before × Fact taken) ∥₁

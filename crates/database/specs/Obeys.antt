@@ -1,4 +1,4 @@
--- What a call makes of a room.
+-- What a call does to a room.
 use Rattle.std.specs.Prelude.{◌≡◌, ◌≢◌, ◌⊎◌, ℕ, ◌+◌, Bool, true, List, [], ◌∷◌, length, map, replicate, ⊤, Option, Some, None, Result, Ok, Err}
 use Rattle.base.specs.declared.fault.Fault.{Fault}
 use Rattle.base.specs.declared.fault.Fault.TheVariants.{SlotsOut}
@@ -19,7 +19,7 @@ use Rattle.database.specs.declared.error.CommitError.TheVariants.{Refused, Open}
 use Rattle.database.specs.Replies.{done_of, drawn_of, stamped_of, committed_of}
 use Rattle.database.specs.declared.opened.OpenedRoom.{OpenedRoom}
 
--- with what the committer of the room that is there has ended, where it has
+-- the fault that has ended the committer of the room that is there, if one has
 abbrev pub ended_of : {D : Type 0} → {G : Ghosts D} → Option (OpenedRoom D G) → Option Fault
 ended_of (Some room) = room.ended
 ended_of None = None
@@ -36,25 +36,25 @@ InRoom {D} {G} Makes old new = (before after : OpenedRoom D G) × (old ≡ Some 
 abbrev pub IsStep : {A : Type 0} → Step → (Reply → Result A Fault) → Result A Fault → List (Step × Reply) → Type 0
 IsStep step read result taken = (reply : Reply) × (taken ≡ (step, reply) ∷ []) × (result ≡ read reply)
 
--- such a step ends a run from an opening
+-- a run from the opening of a device ends in such a step
 abbrev pub AnswersStep : {A : Type 0} → Step → (Reply → Result A Fault) → Result A Fault → Type 0
 AnswersStep step read result = EndsRun (IsStep step read result)
 
--- the room makes this step so many times, and no other
+-- the room makes this step some number of times, and no other
 abbrev pub Repeats : {D : Type 0} → {G : Ghosts D} → (D → Device) → Room D G → Room D G → Step → Type 0
 Repeats state old new step = (replies : List Reply) × LeadsAlong state old new (map (λ reply. (step, reply)) replies)
 
 -- ---- a put
 
--- the room makes this step just so many times
+-- the room makes this step exactly this many times
 abbrev pub RepeatsTimes : {D : Type 0} → {G : Ghosts D} → (D → Device) → Room D G → Room D G → Step → ℕ → Type 0
 RepeatsTimes state old new step count = (replies : List Reply) × (length replies ≡ count) × LeadsAlong state old new (map (λ reply. (step, reply)) replies)
 
--- the collector visits each slot and ends its round, which are so many visits
+-- the collector visits each slot, and one more visit ends its round
 abbrev pub CollectsAll : {D : Type 0} → {G : Ghosts D} → (D → Device) → Room D G → Room D G → Type 0
 CollectsAll state old new = (count : ℕ) × ((q : State) → Shows state old q → count ≡ q.layout.slots + 1) × RepeatsTimes state old new Collect count
 
--- The put is made, and doesn't want for a slot; or it found none, the collector visited all its places, and the put is made after that
+-- The put is made, and isn't refused for lack of a slot; or it found none, the collector visited all its places, and the put is made after that
 abbrev pub PutsCollecting : {D : Type 0} → {G : Ghosts D} → (D → Device) → Room D G → Room D G → ℕ → Key → List ℕ → Result ⊤ Fault → Type 0
 PutsCollecting {D} {G} state old new session key row result =
     (Obeys state old new (Put session key row) done_of result × (result ≢ Err SlotsOut))
@@ -72,7 +72,7 @@ abbrev pub all_stamped : Result ⊤ Fault → Result Bool Fault
 all_stamped (Ok done) = Ok true
 all_stamped (Err fault) = Err fault
 
--- the room makes this step some times, and each time it is answered so
+-- the room makes this step some number of times, each time with this reply
 abbrev pub RepeatsAnswered : {D : Type 0} → {G : Ghosts D} → (D → Device) → Room D G → Room D G → Step → Reply → Type 0
 RepeatsAnswered state old new step reply = (count : ℕ) × LeadsAlong state old new (replicate count (step, reply))
 
@@ -85,8 +85,8 @@ StampsAll {D} {G} state old new session result =
 abbrev pub DrawsThen : {D : Type 0} → {G : Ghosts D} → (D → Device) → Room D G → ℕ → Option ℕ → (Room D G → Type 0) → Type 0
 DrawsThen {D} {G} state old session drawn Then = (mid : Room D G) × Obeys state old mid (Draw session) drawn_of (Ok drawn) × Then mid
 
--- Something was written, and this timestamp is drawn for it and all its keys are stamped; or nothing was, and the transaction is
--- ended. At a refusal the draw was refused, or that end; where it isn't known what becomes of the commit, a stamp was
+-- Something was written, this timestamp is drawn for it, and all its keys are stamped; or nothing was, and the transaction is ended. At a refusal the
+-- draw was refused, or that end; if it isn't known what becomes of the commit, a stamp was refused
 abbrev pub Prepares : {D : Type 0} → {G : Ghosts D} → (D → Device) → Room D G → Room D G → ℕ → Result (Option ℕ) CommitError → Type 0
 Prepares state old new session (Ok (Some t)) = DrawsThen state old session (Some t) (λ mid. StampsAll state mid new session (Ok tt))
 Prepares state old new session (Ok None) = DrawsThen state old session None (λ mid. Obeys state mid new (End session) done_of (Ok tt))
@@ -94,17 +94,17 @@ Prepares state old new session (Err (Open fault)) = (t : ℕ) × DrawsThen state
 Prepares state old new session (Err (Refused fault)) =
     Obeys state old new (Draw session) drawn_of (Err fault) ⊎ DrawsThen state old session None (λ mid. Obeys state mid new (End session) done_of (Err fault))
 
--- no commit is drawn, and none is covered, that wasn't before
+-- no commit is drawn or covered that wasn't before
 abbrev pub DrawsNothing : {D : Type 0} → {G : Ghosts D} → (D → Device) → Room D G → Room D G → Type 0
 DrawsNothing state old new = (q : State) → Shows state old q → (q' : State) × Shows state new q' × (q'.drawn ≡ q.drawn) × (q'.history ≡ q.history)
 
--- so it is where the commit was refused
+-- that holds if the commit was refused
 abbrev pub IsRefusedWhole : {D : Type 0} → {G : Ghosts D} → (D → Device) → Room D G → Room D G → CommitError → Type 0
 IsRefusedWhole state old new (Refused fault) = DrawsNothing state old new
 IsRefusedWhole state old new (Open fault) = Unit {0}
 
--- The session's own poll reported the timestamp, and the transaction is ended; or it reported that the commit isn't covered, and
--- what the room showed it shows still; or one of both steps was refused
+-- The session's own poll reported the timestamp, and the transaction is ended; or it reported that the commit isn't covered, and the room still shows
+-- what it showed; or one of the two steps was refused
 abbrev pub Finishes : {D : Type 0} → {G : Ghosts D} → (D → Device) → Room D G → Room D G → ℕ → Result (Option ℕ) Fault → Type 0
 Finishes {D} {G} state old new session (Ok (Some t)) =
     (mid : Room D G) × Obeys state old mid (Poll session) committed_of (Ok (Some t)) × Obeys state mid new (End session) done_of (Ok tt)

@@ -1,4 +1,4 @@
--- What an opening makes of a device, and of one that isn't opened.
+-- What opening does to a device, and to one that can't be opened.
 use Rattle.std.specs.Prelude.{◌≡◌, ◌⊎◌, ℕ, List, []}
 use Rattle.base.specs.declared.fault.Fault.{Fault}
 use Rattle.base.specs.declared.fault.Fault.TheVariants.{OutOfMemory, NoThread}
@@ -12,7 +12,7 @@ use Rattle.recovery.specs.Opened.{IsRefusal}
 use Rattle.room.specs.declared.room.Room.{Room}
 use Rattle.room.specs.Runs.{HasTaken}
 
--- there was no memory or no thread, and nothing was done to the device; or the opening of the room is refused so
+-- there was no memory or no thread, and nothing was done to the device; or the room's own opening was refused with this fault
 abbrev pub IsOpeningRefusal : Device → Device → Fault → Type 0
 IsOpeningRefusal before now fault = (((fault ≡ OutOfMemory) ⊎ (fault ≡ NoThread)) × (now ≡ before)) ⊎ IsRefusal (opening_fault (image_of before)) before now fault
 

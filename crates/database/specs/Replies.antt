@@ -21,7 +21,7 @@ done_of Done = Ok tt
 done_of (Refused fault) = Err fault
 done_of _ = Err WrongState
 
--- the timestamp, or nothing where nothing was written
+-- the timestamp, or nothing if nothing was written
 abbrev pub drawn_of : Reply → Result (Option ℕ) Fault
 drawn_of (Drawn t) = Ok (Some t)
 drawn_of Done = Ok None
@@ -35,14 +35,14 @@ stamped_of More = Ok false
 stamped_of (Refused fault) = Err fault
 stamped_of _ = Err WrongState
 
--- the timestamp, or nothing where the commit isn't covered
+-- the timestamp, or nothing if the commit isn't covered
 abbrev pub committed_of : Reply → Result (Option ℕ) Fault
 committed_of (Committed t) = Ok (Some t)
 committed_of Waiting = Ok None
 committed_of (Refused fault) = Err fault
 committed_of _ = Err WrongState
 
--- the rows by rising key
+-- the rows in order of rising keys
 abbrev pub rows_of : Reply → Result (List (Key × List ℕ)) Fault
 rows_of (Rows rows) = Ok rows
 rows_of (Refused fault) = Err fault

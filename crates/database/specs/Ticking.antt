@@ -17,7 +17,7 @@ use Rattle.database.specs.declared.turns.Turn.{Turn}
 use Rattle.database.specs.declared.turns.Turn.TheVariants.{Idle, Finished, Flushed, LacksMemory, Stopped, Unfinished}
 use Rattle.database.specs.Obeys.{InRoom, ended_of}
 
--- what a turn comes to with a tick that is answered so
+-- the outcome of a turn that made a tick with this reply
 abbrev pub turn_of : Reply → Turn
 turn_of reply.Idle = Idle
 turn_of (Covered batch) = Finished
@@ -26,7 +26,7 @@ turn_of (Refused OutOfMemory) = LacksMemory
 turn_of (Refused fault) = Stopped
 turn_of _ = Unfinished
 
--- how often in a row a tick was refused memory then
+-- how often in a row a tick was then refused memory
 abbrev pub refusals_after : ℕ → Reply → ℕ
 refusals_after refusals (Refused OutOfMemory) = min (refusals + 1) (2 ^ 64 - 1)
 refusals_after refusals (Refused fault) = refusals
@@ -36,34 +36,34 @@ refusals_after refusals _ = 0
 abbrev pub rows_written : List Commit → ℕ
 rows_written commits = sum_by (λ commit. length commit.writes) commits
 
--- how many were covered then, since the collector's last round
+-- how many of them were then covered since the collector's last round
 abbrev pub covered_after : ℕ → Reply → ℕ
 covered_after covered (Covered batch) = min (covered + rows_written batch.commits) (2 ^ 64 - 1)
 covered_after covered _ = covered
 
--- how many are after a turn of the collector, which ends a round or doesn't
+-- how many there are after a turn of the collector, which may end a round
 abbrev pub covered_since : ℕ → Turn → ℕ
 covered_since covered Finished = 0
 covered_since covered _ = covered
 
--- the tick wasn't refused, or for want of memory, which passes
+-- the tick wasn't refused, or only for lack of memory, which passes
 abbrev pub GoesOn : Reply → Type 0
 GoesOn reply = (fault : Fault) → reply ≡ Refused fault → fault ≡ OutOfMemory
 
--- Whatever isn't counted stays as it was: the commits that are waited for, the workers and whether they are to end, who leads, watches or syncs, and
--- who is to be woken
+-- What isn't counted stays as it was: the commits that wait, the workers and whether they have to end, who leads, watches or syncs, and who has to be
+-- woken
 abbrev pub LeavesRest : {D : Type 0} → {G : Ghosts D} → Desk D G → Desk D G → Type 0
 LeavesRest old new =
     (new.group ≡ old.group) × (new.working ≡ old.working) × (new.closing ≡ old.closing)
     × (new.is_led ≡ old.is_led) × (new.is_watched ≡ old.is_watched) × (new.is_syncing ≡ old.is_syncing) × (new.syncs_apart ≡ old.syncs_apart)
     × (new.is_answered ≡ old.is_answered) × (new.is_wanted ≡ old.is_wanted)
 
--- so do all counts but that of the transactions that are open
+-- all counts but that of the open transactions stay as they were
 abbrev pub LeavesCounts : {D : Type 0} → {G : Ghosts D} → Desk D G → Desk D G → Type 0
 LeavesCounts old new = (new.covered ≡ old.covered) × (new.refusals ≡ old.refusals)
 
--- The room makes one tick of the committer, and nothing else. Where it is refused, that is kept as the reason why the committer has ended, and
--- nothing else is ever taken for it; want of memory doesn't end the committer, and is counted, as are the rows that it covered. The turn comes to what the tick was answered
+-- The room makes one tick of the committer, and nothing else. If it is refused, that is kept as the reason why the committer has ended, and nothing else is ever kept as
+-- one; lack of memory doesn't end the committer. Refusals for it and the rows that the tick covered are counted. The outcome of the turn is read off the tick's reply
 pub record TicksOnce {D : Type 0} {G : Ghosts D} (state : D → Device) (old new : Desk D G) (result : Turn) : Type 0 where
   pub reply : Reply
   pub ticks : InRoom (λ before after. Leads state before after CommitTick reply) old.room new.room

@@ -1,3 +1,7 @@
+//! Replies to waiting commits, under a lock of their own. The thread that covers a group leaves each reply in a place here and
+//! ends the session, so a thread that is woken needs no turn of the desk's lock: one call wakes all of them, and they don't
+//! queue up for the desk.
+
 ghost use Rattle.std.specs.Prelude.{◌<◌, IfSome, IfNone};
 ghost use Rattle.std.specs.Result.{ForOk, ForErr};
 ghost use Rattle.database.specs.Committing.{IsAcknowledged, GivesUp, IsAnswered, IsAnsweredAt, AnswersTo, AnswersAnother};
@@ -20,11 +24,11 @@ enum Place {
     Free,
     /// Somebody waits for an answer here.
     Awaited,
-    /// Its answer, which wasn't taken yet.
+    /// The reply, which nobody has taken yet.
     Answered(Answer),
 }
 
-/// What became of commits that are waited for.
+/// What became of commits that threads wait for.
 #[derive(Drop)]
 pub struct Answers {
     places: [Place; 64],
@@ -78,7 +82,8 @@ impl Answers {
     }
 }
 
-/// What an answer says of the commit with this timestamp. `None` where it is another commit's: a session has one at a time, so none is.
+/// What a reply says about the commit with this timestamp. `None` if it is another commit's, which doesn't happen: a session has one
+/// commit at a time.
 pub fn answer_to(timestamp: Ts, answer: Result<Ts, CommitError>) -> Option<Result<(), CommitError>>
     ensures some { IfSome result (AnswersTo timestamp answer) }
     ensures none { IfNone result (AnswersAnother timestamp answer) }

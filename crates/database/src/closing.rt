@@ -1,3 +1,6 @@
+//! Closing comes after both workers have ended, so nothing else touches the room. It covers all that is drawn, so that the next
+//! opening doesn't depend on what would survive a crash.
+
 ghost use Rattle.std.specs.Prelude.{IfOk, IfErr, MatchResult};
 ghost use Rattle.base.specs.Images.{Image};
 ghost use Rattle.machine.specs.Machine.{State, StandsClosing, StandsClosed};
@@ -16,12 +19,12 @@ pub fn close_room<D: Pmem + Drop>(opened: OpenedRoom<D>) -> Result<D, Refused<D>
     ensures ok { IfOk result (λ device. (q : State) → Shows D.state opened.room q → (image : Image) → MayLeave (D.state device) image → StandsClosed q image) }
     ensures fault { IfErr result (λ e. (q : State) → Shows D.state opened.room q → IsClosingRefusal q (device_of D.state opened.room) (D.state e.device) e.fault) }
 
-    // A crash meanwhile leaves what was covered, with the batch in hand, or with all that was drawn.
+    // A crash meanwhile leaves what was covered, with the pending batch, or with all that was drawn.
     ensures images { (q : State) → Shows D.state opened.room q → MatchResult result
         (λ device. LeavesOnly (device_of D.state opened.room) (D.state device) (StandsClosing q))
         (λ e. LeavesOnly (device_of D.state opened.room) (D.state e.device) (StandsClosing q)) }
 
-    // So it is from the opening on.
+    // The same holds from the opening on.
     ensures lived { MatchResult result
         (λ device. ∥ ClosesRun (D.state device) (IsClosed (D.state device)) ∥₁)
         (λ e. ∥ ClosesRun (D.state e.device) (IsClosingRefused (D.state e.device) e.fault) ∥₁) }

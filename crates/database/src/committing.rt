@@ -1,3 +1,7 @@
+//! What a thread does with the room in a turn of the desk's lock: writes, the draw and the stamps before its commit waits, and
+//! the poll and the end after that. No step of another thread comes in between, so each function says exactly which steps the
+//! room makes.
+
 ghost use Rattle.std.specs.Prelude.{◌≡◌, IfErr, IfOk, IfSome};
 ghost use Rattle.database.specs.Obeys.{PutsCollecting, MakesWrite, StampsAll, Prepares, IsRefusedWhole, Finishes, Covers};
 ghost use Rattle.database.specs.Committing.{LeadsByWrites, BeginsWith};
@@ -12,7 +16,7 @@ use base::row::Row;
 use pmem::Pmem;
 use std::sync::Wait;
 
-/// Writes the row under the key. Where no slot is free, the collector's places are all visited, and it is tried again.
+/// Writes the row under the key. If no slot is free, it visits all of the collector's places and tries once more.
 pub fn put_collecting<D: Pmem + Drop>(
     room: &mut OpenedRoom<D>,
     session: u8,
@@ -51,7 +55,7 @@ fn write<D: Pmem + Drop>(
     }
 }
 
-/// Makes these writes in their order, up to the first that is refused.
+/// Makes these writes in order, up to the first that is refused.
 pub fn write_all<D: Pmem + Drop>(
     room: &mut OpenedRoom<D>,
     session: u8,
@@ -69,7 +73,8 @@ pub fn write_all<D: Pmem + Drop>(
     Ok(())
 }
 
-/// Begins a transaction and makes these writes in it. The number of its session. Where one is refused it is given up.
+/// Begins a transaction, makes these writes in it and returns its session's number. If one is refused, the transaction is
+/// rolled back.
 pub fn begin_with<D: Pmem + Drop>(
     room: &mut OpenedRoom<D>,
     writes: &[(Key, Option<Row>)],
@@ -89,7 +94,8 @@ pub fn begin_with<D: Pmem + Drop>(
     }
 }
 
-/// Draws a timestamp and stamps all keys. The timestamp, or `None` where nothing was written: then the transaction is ended.
+/// Draws a timestamp, stamps all keys and returns the timestamp. If nothing was written, it ends the transaction and returns
+/// `None`.
 pub fn prepare<D: Pmem + Drop, R: Wait>(
     rt: &R,
     room: &mut OpenedRoom<D>,
@@ -136,12 +142,12 @@ pub fn stamp_all<D: Pmem + Drop, R: Wait>(
     unreachable!()
 }
 
-/// Ends the transaction once its commit is covered: its timestamp, or `None` where it isn't covered yet.
+/// Ends the transaction once its commit is covered, and returns its timestamp. `None` if it isn't covered yet.
 pub fn finish<D: Pmem + Drop>(room: &mut OpenedRoom<D>, session: u8) -> Result<Option<Ts>, Fault>
     ensures steps { Finishes D.state room.old.room room.new.room session result }
     ensures ended { room.new.ended ≡ room.old.ended }
 
-    // A timestamp that is answered is of a commit that each crash from then on leaves.
+    // The commit of a returned timestamp survives every later crash.
     ensures covers { IfOk result (λ answer. IfSome answer (λ timestamp. Covers D.state room.old.room room.new.room timestamp)) }
 {
     match poll(room, session) {

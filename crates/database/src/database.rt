@@ -1,3 +1,6 @@
+//! What callers see. A database holds the desk through an `Arc`, and so do its two workers, whose threads nobody joins: closing
+//! waits until both have counted themselves out under the lock.
+
 use crate::closing::close_room;
 use crate::desk::Shared;
 use crate::error::CommitError;
@@ -16,15 +19,15 @@ use std::sync::{Arc, Wait};
 use std::thread::Threads;
 use sync_ahead::SyncAhead;
 
-/// Why a device isn't opened or closed, and the device.
+/// Why a device couldn't be opened or closed, and the device.
 #[derive(Drop)]
 pub struct Refused<D> {
     pub fault: Fault,
     pub device: D,
 }
 
-/// A store of rows over a device, with a committer and a collector in threads of their own. Threads may share it. A drop ends
-/// these, and leaves the device as a crash would.
+/// A store of rows over a device, with a committer and a collector in threads of their own. Threads may share it. A drop ends both
+/// workers, and leaves the device as a crash would.
 pub struct Database<D: Pmem + Drop, R: Wait + Drop> {
     pub(crate) rt: R,
     pub(crate) shared: Arc<Shared<D>, Global>,
@@ -41,7 +44,7 @@ impl<
     ghost use Rattle.pmem.specs.Words.{IsAtRest, image_of};
     ghost use Rattle.database.specs.Opening.{IsOpeningRefusal, KeepsHistory};
 
-    /// Opens a device at rest. `NoThread` and want of memory for the threads come before anything is done to it.
+    /// Opens a device at rest. `NoThread`, and `OutOfMemory` for the threads, come before anything is done to it.
     pub fn open(rt: R, alloc: Global, device: D) -> Result<Database<D, R>, Refused<D>>
     where
         D::Pending: Send,
@@ -91,7 +94,7 @@ impl<D: SyncAhead + Drop, R: Wait + Drop> Database<D, R> {
     ghost use Rattle.room.specs.Usage.{ShowsUsage};
     ghost use Rattle.database.specs.Closing.{ClosesRun, IsClosed, IsClosingRefused};
 
-    /// Begins a transaction, which reads the rows that are committed now, and what it writes. 62 may be open.
+    /// Begins a transaction, which reads the rows that are committed now, and what it writes itself. 62 may be open.
     pub fn begin(&self) -> Result<Transaction<'_, D, R>, Fault>
         ensures ok { IfOk result (λ transaction. AnswersStep Begin began_of (Ok transaction.session)) }
         ensures err { IfErr result (λ fault. AnswersStep Begin began_of (Err fault)) }
@@ -103,8 +106,8 @@ impl<D: SyncAhead + Drop, R: Wait + Drop> Database<D, R> {
     }
 
     /// Makes these writes in a transaction of their own, as `Transaction::write` does, and commits it, as `Transaction::commit` does. It
-    /// takes the lock once before it waits. `Refused` says that nothing of them is kept, also where the transaction wasn't begun or one
-    /// of the writes was refused.
+    /// takes the lock once before it waits. `Refused` means that nothing of them is kept, also if the begin or one of the writes was
+    /// refused.
     pub fn write(&self, writes: &[(Key, Option<Row>)]) -> Result<Option<Ts>, CommitError>
         ensures ok { IfOk result (ReportsWritten writes.now) }
         ensures err { IfErr result (ReportsUnwritten writes.now) }
@@ -145,9 +148,10 @@ impl<D: SyncAhead + Drop, R: Wait + Drop> Database<D, R> {
         room.geometry()
     }
 
-    /// Ends the workers, covers all that was committed, and returns the device. No transaction is open: each borrows from it.
+    /// Ends the workers, covers all that was committed, and returns the device. No transaction is open then, since each borrows the
+    /// database.
     pub fn close(self) -> Result<D, Refused<D>>
-        // All that was covered and drawn since the opening of a device is covered on it now.
+        // All that was covered and drawn since the device was opened is covered on it now.
         ensures ok { IfOk result (λ device. ∥ ClosesRun (D.state device) (IsClosed (D.state device)) ∥₁) }
         ensures err { IfErr result (λ e. ∥ ClosesRun (D.state e.device) (IsClosingRefused (D.state e.device) e.fault) ∥₁) }
     {

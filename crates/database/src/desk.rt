@@ -1,3 +1,8 @@
+//! One lock, the desk's, guards the room and the state of the commit protocol. Commits form a group (`group`) and wait
+//! (`waiting`). One thread leads the group through the committer's ticks (`leading`, `turns`), and the workers take turns when
+//! nobody does (`workers`). Each flag below tells other threads who may act or has to be woken, so it changes only under this
+//! lock. A thread that holds this lock may take the one of `answers`, never the other way around.
+
 ghost use Rattle.std.specs.Prelude.{◌<◌};
 ghost use Rattle.database.specs.Committing.{HasLackedMemory};
 
@@ -19,43 +24,43 @@ use std::thread;
 // How often in a row the committer may be refused memory while somebody waits for it.
 const REFUSALS: u64 = 100;
 
-// How often a lock is tried before others are let run, and how often they are before one sleeps. Between two looks lie so many pauses, since
-// each look takes the lock's word away from whoever holds it.
+// How often a lock is tried before the thread yields, and how often it yields before it sleeps. There are pauses between two tries, since
+// each try takes the lock's cache line away from its holder.
 const LOOKS: u64 = 50;
 
 const PAUSES: u64 = 4;
 
 const YIELDS: u64 = 20;
 
-/// What lies under the lock.
+/// What the lock guards.
 #[derive(Drop)]
 pub struct Desk<D: Pmem> {
-    /// The commits that are waited for. They come first: a processor gives the lock's word with what lies behind it to each thread that looks
-    /// whether it is free, so nothing that its holder needs all the time is to lie there.
+    /// The commits that wait for their record. This field comes first: a thread that tries the lock pulls in the cache line behind the lock's
+    /// word, so nothing that the holder often uses may be there.
     pub group: Group,
     /// How many workers there are.
     pub working: u64,
-    /// They are to end.
+    /// The workers have to end.
     pub closing: bool,
-    /// How many transactions are open, those that wait for their commit among them.
+    /// How many transactions are open, including those that wait for their commit.
     pub open: u64,
-    /// Somebody takes the committer's turns for those who wait.
+    /// A thread takes the committer's turns for those who wait.
     pub is_led: bool,
-    /// Somebody leads the group after a while, if nobody has by then.
+    /// A thread will lead the group after a while, if nobody has by then.
     pub is_watched: bool,
-    /// Whoever takes a turn of the committer syncs, without the lock: nobody else makes a tick until it is done.
+    /// The thread that takes a turn of the committer syncs, without the lock: no other thread makes a tick until the sync is done.
     pub is_syncing: bool,
-    /// A sync was made so, and a round of the collector begins beside the next one.
+    /// This device can sync without the lock. A round of the collector then begins during a sync.
     pub syncs_apart: bool,
-    /// Somebody was answered and has to be woken.
+    /// A thread that got a reply has to be woken.
     pub is_answered: bool,
-    /// The committer's worker is to be woken once nobody takes its turns.
+    /// The committer's worker has to be woken once nobody takes its turns.
     pub is_wanted: bool,
-    /// How many rows were written or deleted by what was covered since the collector's last round.
+    /// How many rows the covered commits wrote or deleted since the collector's last round.
     pub covered: u64,
-    /// How many ticks in a row were refused for want of memory.
+    /// How many ticks in a row were refused for lack of memory.
     pub refusals: u64,
-    /// There from the opening to the close.
+    /// It is there from opening to closing.
     pub room: Option<OpenedRoom<D>>,
     ghost lacked_so: { 0 < refusals → HasLackedMemory },
 }
@@ -75,7 +80,7 @@ impl<D: Pmem + Drop> Desk<D> {
     ghost use Rattle.database.specs.Ticking.{LeavesRest, LeavesCounts};
     ghost use Rattle.database.specs.Committing.{BeginsWith, AnswersBegunWith, IsAnswered, IsAnsweredAt, IsGivenUp, HasLackedMemory, IsLeftWaiting, IsWithoutAnswer, IsSettledUpTo, AnswersOnce, IsReadFor, most_refusals, open_after};
 
-    /// Opens a transaction. The number of its session.
+    /// Opens a transaction and returns its session's number.
     pub fn begin(&mut self) -> Result<u8, Fault>
         requires there { IsTrue (is_some self.old.room) }
         ensures step { InRoom (λ old new. Obeys D.state old new Begin began_of result) self.old.room self.new.room }
@@ -95,7 +100,7 @@ impl<D: Pmem + Drop> Desk<D> {
         begun
     }
 
-    /// Opens a transaction and makes these writes in it. The number of its session. Where one is refused it isn't open.
+    /// Opens a transaction, makes these writes in it and returns its session's number. If one is refused, no transaction is open.
     pub fn begin_with(&mut self, writes: &[(Key, Option<Row>)]) -> Result<u8, Fault>
         requires there { IsTrue (is_some self.old.room) }
         ensures steps { InRoom (λ old new. BeginsWith D.state old new writes.now result) self.old.room self.new.room }
@@ -115,7 +120,7 @@ impl<D: Pmem + Drop> Desk<D> {
         begun
     }
 
-    /// A transaction is over. It is no step.
+    /// A transaction is over. The room makes no step.
     pub fn leave(&mut self)
         ensures room { self.new.room ≡ self.old.room }
         ensures open { self.new.open ≡ self.old.open - 1 }
@@ -125,7 +130,7 @@ impl<D: Pmem + Drop> Desk<D> {
         self.open = self.open.saturating_sub(1);
     }
 
-    /// Gives up the transaction of this session.
+    /// Rolls back the transaction of this session.
     pub fn abort(&mut self, session: u8) -> Result<(), Fault>
         requires there { IsTrue (is_some self.old.room) }
         ensures step { InRoom (λ old new. Obeys D.state old new (Abort session) done_of result) self.old.room self.new.room }
@@ -141,7 +146,7 @@ impl<D: Pmem + Drop> Desk<D> {
         steps::abort(room, session)
     }
 
-    /// The answer to the session's commit, once there is one.
+    /// The reply to the session's commit, once there is one.
     pub fn answer(&mut self, session: u8) -> Option<Result<Ts, CommitError>>
         ensures finish { IsTrue (is_some self.old.room) → AnswersOnce D.state self.old.room self.new.room self.new.refusals session result }
         ensures ended { ended_of self.new.room ≡ ended_of self.old.room }
@@ -164,7 +169,7 @@ impl<D: Pmem + Drop> Desk<D> {
         }
     }
 
-    /// The answer to the session's commit with this timestamp, once there is one.
+    /// The reply to the session's commit with this timestamp, once there is one.
     pub fn answer_to(&mut self, session: u8, timestamp: Ts) -> Option<Result<(), CommitError>>
         ensures finish { IsTrue (is_some self.old.room) → (answer : Option (Result ℕ CommitError)) × AnswersOnce D.state self.old.room self.new.room self.new.refusals session answer × IsReadFor timestamp answer result }
         ensures ended { ended_of self.new.room ≡ ended_of self.old.room }
@@ -180,7 +185,7 @@ impl<D: Pmem + Drop> Desk<D> {
         }
     }
 
-    // With what the committer has ended, in the run of the room that is there.
+    // The fault that ended the committer, in the run of the room that is there.
     fn ended(&self) -> Option<Fault>
         ensures ended { result ≡ ended_of self.now.room }
         ensures so { ForSome result HasEnded }
@@ -191,7 +196,7 @@ impl<D: Pmem + Drop> Desk<D> {
         }
     }
 
-    // Why a commit that isn't covered is waited for no longer.
+    // Why nobody waits any longer for a commit that isn't covered.
     fn given_up(&self) -> Option<CommitError>
         ensures some { IfSome result (IsGivenUp (ended_of self.now.room) self.now.refusals) }
         ensures none { IfNone result ((ended_of self.now.room ≡ None) × (self.now.refusals ≤ most_refusals)) }
@@ -204,12 +209,12 @@ impl<D: Pmem + Drop> Desk<D> {
         }
     }
 
-    /// How many are expected in the group that is being formed.
+    /// How many commits the group that is being formed still expects.
     pub fn missing(&self) -> u64 {
         self.group.missing(self.open)
     }
 
-    /// Whether nobody is.
+    /// Whether it expects none.
     pub fn is_whole(&self) -> bool {
         self.missing() == 0
     }
@@ -222,7 +227,7 @@ impl<D: Pmem + Drop> Desk<D> {
         REFUSALS < self.refusals
     }
 
-    /// Whether the committer has ended since no record number is left, so that what is drawn from then on is never covered.
+    /// Whether the committer has ended because no record number is left. Nothing that is drawn from then on is ever covered.
     pub fn lacks_numbers(&self) -> bool
         ensures ended { IsTrue result ↔ (ended_of self.now.room ≡ Some TimestampsOut) }
         ensures so { IsTrue result → HasEnded TimestampsOut }
@@ -230,7 +235,7 @@ impl<D: Pmem + Drop> Desk<D> {
         matches!(self.ended(), Some(Fault::TimestampsOut))
     }
 
-    /// Answers those who wait for a commit that is covered, or won't be, but for the one that leads.
+    /// Replies to all whose commit is covered, or won't be, except the thread that leads.
     pub fn answer_all(&mut self, answers: &mut Answers) {
         for session in 0..SESSIONS {
             if let Some(place) = self.group.place(session) {
@@ -239,7 +244,7 @@ impl<D: Pmem + Drop> Desk<D> {
         }
     }
 
-    // Answers this session's commit, if it is covered or won't be.
+    // Replies to this session's commit, if it is covered or won't be.
     fn answer_at(&mut self, answers: &mut Answers, session: u8, place: usize) {
         if let Some(answer) = self.answer(session) {
             self.group.leave(session);
@@ -249,7 +254,7 @@ impl<D: Pmem + Drop> Desk<D> {
         }
     }
 
-    /// Whether each commit up to this timestamp is covered or given up.
+    /// Whether each commit up to this timestamp is covered or abandoned.
     pub fn is_settled(&self, timestamp: Ts) -> bool
         ensures so { IsTrue result → IsSettledUpTo timestamp }
         ensures ended { IsTrue (is_some (ended_of self.now.room)) → IsTrue result }
@@ -264,7 +269,8 @@ impl<D: Pmem + Drop> Desk<D> {
         }
     }
 
-    /// Whether a round of the collector is due: a row for each fourth slot, and one at least, was covered since the last one.
+    /// Whether a round of the collector is due: a fourth as many rows as there are slots, and at least one, were covered since the last
+    /// one.
     pub fn is_round_due(&self) -> bool {
         match &self.room {
             Some(room) => (room.geometry().slots() / 4).max(1) <= self.covered,
@@ -272,7 +278,7 @@ impl<D: Pmem + Drop> Desk<D> {
         }
     }
 
-    // Whether it is late: a row for every other slot was covered since then.
+    // Whether the round is late: half as many rows as there are slots were covered since the last one.
     fn is_round_late(&self) -> bool {
         match &self.room {
             Some(room) => room.geometry().slots() / 2 <= self.covered,
@@ -280,14 +286,14 @@ impl<D: Pmem + Drop> Desk<D> {
         }
     }
 
-    /// Whether the collector's round may wait for the next sync, beside which it doesn't keep others from the lock.
+    /// Whether the collector's round may wait for the next sync, during which it doesn't keep others from the lock.
     pub fn may_round_wait(&self) -> bool {
         self.syncs_apart && !self.is_syncing && !self.is_round_late()
     }
 }
 
-// Takes a lock that nobody holds for long: it sleeps only after it has tried for a while. Whoever sleeps before would have to be woken,
-// and the lock would stand free until it runs.
+// Takes a lock that nobody holds for long, and sleeps only after it has tried for a while. A thread that sleeps earlier would have to be
+// woken, and the lock would be idle until that thread runs.
 fn enter<'a, T, R: Wait>(rt: &R, lock: &'a Mutex<T>) -> MutexGuard<'a, T> {
     for _ in 0..YIELDS {
         for _ in 0..LOOKS {
@@ -311,16 +317,16 @@ fn pause() {
 #[derive(Drop)]
 pub struct Shared<D: Pmem> {
     pub desk: Mutex<Desk<D>>,
-    /// The committer sleeps on it.
+    /// The committer's worker sleeps on it.
     pub commits: Condvar,
-    /// The collector sleeps on it.
+    /// The collector's worker sleeps on it.
     pub rounds: Condvar,
-    /// Whoever waits for another's commit, for timestamps or for an end sleeps on it: a batch is covered, the committer was refused,
-    /// a worker has ended.
+    /// A thread sleeps on it that waits for another's commit, for timestamps, or for the workers' end. It is notified when a batch is
+    /// covered, the committer was refused, or a worker has ended.
     pub moved: Condvar,
-    /// What became of commits that were waited for.
+    /// What became of commits that threads wait for.
     pub answers: Mutex<Answers>,
-    /// Whoever waits for its own commit sleeps on it, and holds the answers' lock before and after.
+    /// A thread that waits for its own commit sleeps on it, and holds the lock of `answers` before and after.
     pub answered: Condvar,
 }
 
@@ -332,7 +338,7 @@ impl<D: Pmem + Drop> Shared<D> {
     ghost use Rattle.database.specs.Obeys.{AnswersStep};
     ghost use Rattle.database.specs.Opening.{IsFresh};
 
-    /// No room yet.
+    /// There is no room yet.
     pub fn new() -> Shared<D> {
         Shared {
             desk: Mutex::new(Desk {
@@ -363,7 +369,7 @@ impl<D: Pmem + Drop> Shared<D> {
         enter(rt, &self.desk)
     }
 
-    /// Gives the lock up, and then wakes those who are answered, so that they don't wait for it.
+    /// Releases the lock, and then wakes the threads that got replies, so that they don't wait for the lock.
     pub fn exit(&self, desk: MutexGuard<'_, Desk<D>>) {
         let mut desk = desk;
         let is_answered = desk.is_answered;
@@ -374,12 +380,12 @@ impl<D: Pmem + Drop> Shared<D> {
         }
     }
 
-    /// Takes the answers' lock.
+    /// Takes the lock of `answers`.
     pub fn enter_answers<R: Wait>(&self, rt: &R) -> MutexGuard<'_, Answers> {
         enter(rt, &self.answers)
     }
 
-    /// Takes the lock once the room is there, as it is from the opening to the close.
+    /// Takes the lock once the room is there, as it is from opening to closing.
     pub fn desk<R: Wait>(&self, rt: &R) -> MutexGuard<'_, Desk<D>>
         ensures { IsTrue (is_some (mutex_guard_value result).room) }
     {
@@ -393,14 +399,14 @@ impl<D: Pmem + Drop> Shared<D> {
         unreachable!()
     }
 
-    /// Opens a transaction. The number of its session.
+    /// Opens a transaction and returns its session's number.
     pub fn begin<R: Wait>(&self, rt: &R) -> Result<u8, Fault>
         ensures { AnswersStep Begin began_of result }
     {
         self.desk(rt).begin()
     }
 
-    /// Puts the room in, as its opening left it.
+    /// Puts the room in as it was opened.
     pub fn put_in<R: Wait>(&self, rt: &R, room: OpenedRoom<D>)
         requires opened { IsFresh D.state room.room }
     {
@@ -409,7 +415,7 @@ impl<D: Pmem + Drop> Shared<D> {
         self.wake_workers();
     }
 
-    /// Lets the workers end, and waits until they have.
+    /// Tells the workers to end, and waits until they have.
     pub fn end_work<R: Wait>(&self, rt: &R) {
         let mut desk = self.desk.lock(rt);
         desk.closing = true;
@@ -422,7 +428,7 @@ impl<D: Pmem + Drop> Shared<D> {
         }
     }
 
-    /// Wakes whoever watches a group that lacks nobody since somebody won't come.
+    /// Wakes the thread that watches a group, if the group is complete because another commit won't come.
     pub fn urge(&self, desk: &Desk<D>) {
         if desk.is_watched && desk.is_whole() {
             self.moved.notify_all();
@@ -434,13 +440,13 @@ impl<D: Pmem + Drop> Shared<D> {
         self.rounds.notify_all();
     }
 
-    /// Counts a worker in before its thread is started, so that a close can't miss it.
+    /// Counts a worker in before its thread is started, so that closing can't miss it.
     pub fn begin_working<R: Wait>(&self, rt: &R) {
         let mut desk = self.desk.lock(rt);
         desk.working = desk.working.saturating_add(1);
     }
 
-    /// Counts a worker out: no thread is joined, so a close waits until all are.
+    /// Counts a worker out: no thread is joined, so closing waits until all are out.
     pub fn end_working<R: Wait>(&self, rt: &R) {
         let mut desk = self.desk.lock(rt);
         desk.working = desk.working.saturating_sub(1);

@@ -1,13 +1,16 @@
+//! A commit has two kinds of error, since a caller has to know whether the commit may still take effect. It may once its
+//! timestamp is drawn, unless no record can cover it any more.
+
 use base::fault::Fault;
 use thiserror::Error;
 
 /// Why a commit isn't acknowledged, and what became of it.
 #[derive(Clone, Copy, Debug, PartialEq, Eq, Drop, Error)]
 pub enum CommitError {
-    /// Nothing of it is committed, nor will be.
+    /// Nothing of it is committed now, or ever will be.
     #[error("{0}")]
     Refused(Fault),
-    /// Its timestamp is drawn. Whether all of it is committed or nothing, the next opening knows.
+    /// Its timestamp is drawn. The next opening tells whether all of it is committed or nothing.
     #[error("whether it is committed is known at the next opening: {0}")]
     Open(Fault),
 }
@@ -26,7 +29,7 @@ impl CommitError {
     }
 }
 
-/// For a caller that begins again after a conflict and ends at any other fault.
+/// For a caller that begins again after a conflict and stops at any other fault.
 impl From<CommitError> for Fault {
     ghost use Rattle.std.specs.Prelude.{◌≡◌, ◌⊎◌};
     ghost use Rattle.database.specs.declared.error.CommitError.TheVariants.{Refused, Open};

@@ -1,30 +1,34 @@
+//! Counts who is expected in the next group of commits. All commits of a group are covered by one record and one sync, so
+//! waiting briefly for threads that are about to commit saves a sync for each. A wrong guess costs half a millisecond or more:
+//! the counts below keep a reader that stays open, or a thread that doesn't come back, from delaying group after group.
+
 ghost use Rattle.std.specs.Prelude.{◌<◌};
 
-/// Sessions have lower numbers.
+/// Every session has a lower number.
 pub const SESSIONS: u8 = 64;
 
-// A group is let grow again after at most so many that weren't.
+// The most groups in a row that aren't allowed to grow.
 const MOST_SKIPS: u64 = 8;
 
-// Where a table of sessions has this one.
+// The place of this session in a table of sessions.
 fn place_of(session: u8) -> usize
     ensures { result < 64 }
 {
     usize::from(session % SESSIONS)
 }
 
-/// The commits that are stamped and wait for their record, which is to cover them together.
+/// The commits that are stamped and wait for their record, which will cover them together.
 #[derive(Clone, Copy, Drop)]
 pub struct Group {
-    // Where each session waits for its answer, if it isn't the one that leads.
+    // The place where each session waits for its reply, unless it leads.
     places: [Option<usize>; 64],
 
     count: u64,
-    // So many commits were answered whose threads haven't come back.
+    // How many commits got a reply whose threads haven't come back.
     answered: u64,
-    // So many transactions were open when the last group was closed, and weren't in it.
+    // How many transactions were open when the last group was closed, and weren't in it.
     lingering: u64,
-    // So many groups aren't let grow, since that was in vain, and so many weren't the last time.
+    // How many more groups aren't allowed to grow, because waiting didn't help, and how many weren't the last time.
     skips: u64,
     pause: u64,
 }
@@ -45,49 +49,49 @@ impl Group {
         self.count == 0
     }
 
-    /// Somebody comes, who is taken for one of those that were answered.
+    /// A commit comes. It is counted as one of those that got a reply.
     pub fn join(&mut self) {
         self.count = self.count.saturating_add(1);
         self.answered = self.answered.saturating_sub(1);
     }
 
-    /// This session waits there for its answer.
+    /// This session waits at this place for its reply.
     pub fn follow(&mut self, session: u8, place: usize) {
         self.places[place_of(session)] = Some(place);
     }
 
-    /// Where the session waits for its answer.
+    /// The place where the session waits for its reply.
     pub fn place(&self, session: u8) -> Option<usize> {
         self.places[place_of(session)]
     }
 
-    /// The session is answered.
+    /// The session got its reply.
     pub fn leave(&mut self, session: u8) {
         self.places[place_of(session)] = None;
         self.count = self.count.saturating_sub(1);
         self.answered = self.answered.saturating_add(1);
     }
 
-    /// How many are expected, where so many transactions are open: whoever was answered, and whoever is open but for those that weren't in
-    /// the last group.
+    /// How many are expected when this many transactions are open: those that got a reply, and those that are open, except the ones that
+    /// weren't in the last group.
     pub fn missing(&self, open: u64) -> u64 {
         let known = self.lingering.saturating_add(self.count);
         self.answered.saturating_add(open.saturating_sub(known))
     }
 
-    /// One that is open isn't expected, since it waits for this group.
+    /// One open transaction isn't expected, since it waits for this group.
     pub fn excuse(&mut self) {
         self.lingering = self.lingering.saturating_add(1);
     }
 
-    /// Whether this group is let grow.
+    /// Whether this group may wait for others.
     pub fn may_grow(&mut self) -> bool {
         let may = self.skips == 0;
         self.skips = self.skips.saturating_sub(1);
         may
     }
 
-    /// It was let grow, and so many were missing before and after. Where fewer than half of them came that was in vain.
+    /// The group waited: this many were missing before and after. If fewer than half of them came, waiting didn't help.
     pub fn grew(&mut self, before: u64, after: u64) {
         self.pause = if before < after.saturating_mul(2) {
             self.pause.saturating_mul(2).clamp(1, MOST_SKIPS)
@@ -97,7 +101,7 @@ impl Group {
         self.skips = self.pause;
     }
 
-    /// It waits for nobody more, while so many transactions are open: whoever hasn't come is expected no longer.
+    /// The group waits for nobody more, while this many transactions are open: those that haven't come are no longer expected.
     pub fn close(&mut self, open: u64) {
         self.answered = 0;
         self.lingering = open.saturating_sub(self.count);

@@ -1,3 +1,7 @@
+//! One thread leads a group: it makes the committer's ticks for all who wait, since it runs already and holds the lock. The
+//! others sleep until their reply is there. The first to come watches, so that a group for which nobody else comes is led too.
+//! `is_led` and `is_watched` of the desk say which of the two roles is taken.
+
 use crate::desk::{Desk, Shared};
 use crate::error::CommitError;
 use crate::turns::Turn;
@@ -7,7 +11,7 @@ use std::thread;
 use std::time::Duration;
 use sync_ahead::SyncAhead;
 
-// So many microseconds a group is let grow while nobody comes, and so many times as long at most while others do.
+// How many microseconds a group waits while nobody comes, and how many times as long at most while others do.
 const PATIENCE: u64 = 500;
 
 const NAPS: u64 = 4;
@@ -15,9 +19,9 @@ const NAPS: u64 = 4;
 impl<D: SyncAhead + Drop> Shared<D> {
     ghost use Rattle.database.specs.Committing.{IsAnsweredAt};
 
-    /// Joins the group that is being formed, and waits until the session's commit with this timestamp is covered, or won't be. Whoever comes last
-    /// leads the group: it makes the committer's ticks itself, so that nobody has to be woken for them. The first one watches, and leads
-    /// where others don't come.
+    /// Joins the group that is being formed, and waits until the session's commit with this timestamp is covered, or won't be. The last one to
+    /// come leads the group: it makes the committer's ticks itself, so that nobody has to be woken for them. The first one watches, and leads if
+    /// others don't come.
     pub fn wait<'a, R: Wait>(
         &'a self,
         rt: &R,
@@ -44,7 +48,7 @@ impl<D: SyncAhead + Drop> Shared<D> {
         self.enter_answers(rt).reserve()
     }
 
-    // Sleeps until the answer is there.
+    // Sleeps until the reply is there.
     fn take_answer<R: Wait>(
         &self,
         rt: &R,
@@ -65,7 +69,7 @@ impl<D: SyncAhead + Drop> Shared<D> {
         unreachable!()
     }
 
-    // Lets those come who are about to commit, and covers the group, unless another has.
+    // Waits for those who are about to commit, and covers the group, unless another thread has.
     fn lead<'a, R: Wait>(
         &'a self,
         rt: &R,
@@ -89,7 +93,7 @@ impl<D: SyncAhead + Drop> Shared<D> {
         unreachable!()
     }
 
-    // Waits until the group lacks nobody, or for a while.
+    // Waits until nobody is missing, or for a while.
     fn gather<'a, R: Wait>(
         &'a self,
         rt: &R,
@@ -110,7 +114,7 @@ impl<D: SyncAhead + Drop> Shared<D> {
         desk
     }
 
-    // Sleeps as long as others come, up to the end of the group's growth.
+    // Sleeps as long as others come, up to the longest wait of a group.
     fn watch<'a, R: Wait>(
         &'a self,
         rt: &R,
@@ -138,7 +142,8 @@ impl<D: SyncAhead + Drop> Shared<D> {
         self.desk(rt)
     }
 
-    // A turn of the committer, unless another takes one. Where there is nothing to do another leads, and covers the commit with its own.
+    // A turn of the committer, unless another thread takes one. If there is nothing to do, another leads, and covers the commit with its
+    // own.
     fn take_lead<'a, R: Wait>(
         &'a self,
         rt: &R,
@@ -161,7 +166,7 @@ impl<D: SyncAhead + Drop> Shared<D> {
         }
     }
 
-    // Closes the group and takes a turn of the committer for it, unless another does.
+    // Closes the group and takes a turn of the committer for it, unless another thread does.
     fn cover_group<'a, R: Wait>(
         &'a self,
         rt: &R,
@@ -180,7 +185,7 @@ impl<D: SyncAhead + Drop> Shared<D> {
         (desk, turn)
     }
 
-    // Leaves the committer with those who came while the group was synced, and wakes those who are answered.
+    // Leaves those who came during the group's sync to the committer's worker, and wakes the threads that got replies.
     fn end_lead(&self, desk: MutexGuard<'_, Desk<D>>) {
         let mut desk = desk;
         if !desk.is_led {
@@ -190,8 +195,8 @@ impl<D: SyncAhead + Drop> Shared<D> {
         self.exit(desk);
     }
 
-    /// A turn of the committer's worker. Those who wait and have nobody to lead them are a group, which it leads. While another leads
-    /// there is none.
+    /// A turn of the committer's worker. Those who wait and have nobody to lead them are a group, which the worker leads. It takes no
+    /// turn while another thread leads.
     pub fn take_over<'a, R: Wait>(
         &'a self,
         rt: &R,

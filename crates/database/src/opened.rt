@@ -1,3 +1,6 @@
+//! No clause can name what a lock holds, so the type of what the desk's lock holds carries its run: the steps since the device
+//! was opened, and among them the tick that ended the committer, if one has. Only steps change what the room shows.
+
 ghost use Rattle.room.specs.Runs.{HasTaken};
 ghost use Rattle.database.specs.Ended.{EndedAlong};
 
@@ -9,12 +12,12 @@ use pmem::Pmem;
 use room::{Room, Status, Usage};
 use sync_ahead::SyncAhead;
 
-/// The room of a device that was opened. It shows the end of a run from that opening: whoever holds the lock leads it on by
+/// The room of a device that was opened. It shows the end of a run from that opening: the thread that holds the lock extends the run by
 /// steps, and in no other way.
 #[derive(Drop)]
 pub struct OpenedRoom<D: Pmem> {
     pub(crate) room: Room<D>,
-    /// Why nothing more will be covered: what the committer was refused with, in this very run.
+    /// Why nothing more will be covered: the fault that the committer was refused with, in this very run.
     pub(crate) ended: Option<Fault>,
     ghost run: { ∥ HasTaken D.state room (EndedAlong ended) ∥₁ },
 }
@@ -30,7 +33,7 @@ impl<D: Pmem + Drop> OpenedRoom<D> {
     ghost use Rattle.room.specs.Usage.{ShowsUsage};
     ghost use Rattle.database.specs.Opening.{IsFresh};
 
-    /// The room as its opening left it.
+    /// The room as it was opened.
     pub fn new(room: Room<D>) -> OpenedRoom<D>
         requires opened { IsFresh D.state room }
         ensures room { result.room ≡ room }
@@ -39,7 +42,7 @@ impl<D: Pmem + Drop> OpenedRoom<D> {
         OpenedRoom { room, ended: None }
     }
 
-    /// A tick of the committer. What it is refused with is kept, but for want of memory, which passes.
+    /// A tick of the committer. If it is refused, the fault is kept, except for lack of memory, which passes.
     pub fn tick(&mut self) -> Reply
         ensures step { Leads D.state self.old.room self.new.room Commit result }
         ensures ended { (fault : Fault) → result ≡ Refused fault → fault ≢ OutOfMemory → self.new.ended ≡ Some fault }
@@ -88,7 +91,7 @@ impl<D: Pmem + Drop> OpenedRoom<D> {
         self.room.usage()
     }
 
-    /// The room, to be closed.
+    /// The room, which is to be closed.
     pub fn into_room(self) -> Room<D>
         ensures room { result ≡ self.room }
         ensures run { ∥ HasTaken D.state result (EndedAlong self.ended) ∥₁ }
@@ -101,7 +104,7 @@ ghost use Rattle.std.specs.Prelude.{◌≡◌, ◌≢◌, ◌⊎◌, Some};
 ghost use Rattle.base.specs.declared.fault.Fault.TheVariants.{OutOfMemory};
 ghost use Rattle.base.specs.declared.step.Reply.TheVariants.{Refused};
 
-// With what the committer has ended once a tick was answered so, where it had ended with this before, if it had.
+// The fault that has ended the committer after a tick with this reply; `before` is the one that had ended it before, if any.
 fn ended_by(reply: &Reply, before: Option<Fault>) -> Option<Fault>
     ensures ended { (fault : Fault) → reply.now ≡ Refused fault → fault ≢ OutOfMemory → result ≡ Some fault }
     ensures goes_on { ((fault : Fault) → reply.now ≡ Refused fault → fault ≡ OutOfMemory) → result ≡ before }
@@ -119,7 +122,7 @@ impl<D: SyncAhead + Drop> OpenedRoom<D> {
     ghost use Rattle.machine.specs.Machine.{State};
     ghost use Rattle.room.specs.Room.{Shows, device_of};
 
-    /// Hands out the sync that the next tick would wait for, if it can be made ahead of it. It is no step.
+    /// Hands out the sync that the next tick would wait for, if it can be made ahead of the tick. It isn't a step.
     pub fn begin_sync(&mut self) -> Option<D::Pending>
         ensures device { device_of D.state self.new.room ≡ device_of D.state self.old.room }
         ensures shows { (q : State) → Shows D.state self.old.room q → Shows D.state self.new.room q }
@@ -128,7 +131,7 @@ impl<D: SyncAhead + Drop> OpenedRoom<D> {
         self.room.begin_sync()
     }
 
-    /// Takes it back, which is no step either.
+    /// Takes the sync back, which isn't a step either.
     pub fn end_sync(&mut self, pending: D::Pending)
         ensures device { device_of D.state self.new.room ≡ device_of D.state self.old.room }
         ensures shows { (q : State) → Shows D.state self.old.room q → Shows D.state self.new.room q }

@@ -1,3 +1,6 @@
+//! Each call is one step of the room, named in its contract with the value that is read off the reply. They take an
+//! `OpenedRoom`, so that no step is lost from the run that it carries.
+
 ghost use Rattle.std.specs.Prelude.{◌≡◌};
 ghost use Rattle.base.specs.Steps.{as_reply};
 ghost use Rattle.session_steps.specs.Replies.{polled as polled_reply};
@@ -14,7 +17,7 @@ use base::rows::Rows;
 use pmem::Pmem;
 use room::CommitStatus;
 
-/// Opens a session. Its number.
+/// Opens a session and returns its number.
 pub fn begin<D: Pmem + Drop>(room: &mut OpenedRoom<D>) -> Result<u8, Fault>
     ensures step { Obeys D.state room.old.room room.new.room Begin began_of result }
     ensures ended { room.new.ended ≡ room.old.ended }
@@ -77,7 +80,7 @@ pub fn draw<D: Pmem + Drop>(room: &mut OpenedRoom<D>, session: u8) -> Result<Opt
     room.room.draw(session)
 }
 
-/// Stamps one key. Whether all are stamped.
+/// Stamps one key, and returns whether all are stamped.
 pub fn stamp<D: Pmem + Drop>(room: &mut OpenedRoom<D>, session: u8) -> Result<bool, Fault>
     ensures step { Obeys D.state room.old.room room.new.room (Stamp session) stamped_of result }
     ensures ended { room.new.ended ≡ room.old.ended }
@@ -93,7 +96,7 @@ pub fn poll<D: Pmem + Drop>(room: &mut OpenedRoom<D>, session: u8) -> Result<Opt
     committed_in(room.room.poll(session))
 }
 
-// The timestamp, once the commit is covered. What wrote nothing has none.
+// The timestamp, once the commit is covered. A transaction that wrote nothing has none.
 fn committed_in(polled: Result<CommitStatus, Fault>) -> Result<Option<Ts>, Fault>
     ensures { result ≡ committed_of (as_reply (polled_reply polled)) }
 {
@@ -105,7 +108,7 @@ fn committed_in(polled: Result<CommitStatus, Fault>) -> Result<Option<Ts>, Fault
     }
 }
 
-/// Gives the transaction up.
+/// Rolls back the transaction.
 pub fn abort<D: Pmem + Drop>(room: &mut OpenedRoom<D>, session: u8) -> Result<(), Fault>
     ensures step { Obeys D.state room.old.room room.new.room (Abort session) done_of result }
     ensures ended { room.new.ended ≡ room.old.ended }
@@ -121,7 +124,7 @@ pub fn end<D: Pmem + Drop>(room: &mut OpenedRoom<D>, session: u8) -> Result<(), 
     room.room.end(session)
 }
 
-/// Visits so many places of the collector's round.
+/// Visits this many places of the collector's round.
 pub fn collect<D: Pmem + Drop>(room: &mut OpenedRoom<D>, places: u64)
     ensures visits { RepeatsTimes D.state room.old.room room.new.room Collect places }
     ensures ended { room.new.ended ≡ room.old.ended }

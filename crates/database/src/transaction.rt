@@ -1,3 +1,6 @@
+//! A transaction borrows its database, so by the types none is open when the database is closed. Each call but the commit is
+//! one turn of the desk's lock, and returns when its steps are made.
+
 ghost use Rattle.base.specs.declared.step.Step.TheVariants.{Abort};
 ghost use Rattle.database.specs.Replies.{done_of};
 ghost use Rattle.database.specs.Obeys.{AnswersStep};
@@ -16,7 +19,7 @@ use std::alloc::Global;
 use std::sync::{Arc, Wait};
 use sync_ahead::SyncAhead;
 
-/// Reads and writes of one snapshot. A drop aborts it. A commit and an abort take it apart, so none is given up after its end.
+/// Reads and writes of one snapshot. A drop aborts it. A commit and an abort take it apart, so no drop aborts it a second time.
 pub struct Transaction<'a, D: Pmem + Drop, R: Wait> {
     rt: &'a R,
     shared: &'a Arc<Shared<D>, Global>,
@@ -94,7 +97,7 @@ impl<'a, D: SyncAhead + Drop, R: Wait> Transaction<'a, D, R> {
         }
     }
 
-    /// Writes the row under the key. Where no slot is free, those that nobody needs are collected first.
+    /// Writes the row under the key. If no slot is free, slots that nobody needs are collected first.
     pub fn put(&mut self, key: Key, row: Row) -> Result<(), Fault>
         ensures made { AnswersPut self.old.session key row result }
         ensures same { self.new ≡ self.old }
@@ -118,8 +121,8 @@ impl<'a, D: SyncAhead + Drop, R: Wait> Transaction<'a, D, R> {
         steps::delete(room, self.session, key)
     }
 
-    /// Makes these writes in their order, as `put` and, where there is no row, `delete` do, up to the first that is refused. No step of
-    /// another thread comes in between, so many writes take the lock once.
+    /// Makes these writes in order, up to the first that is refused: as `put`, or as `delete` if there is no row. They take the lock
+    /// once, and no step of another thread comes in between.
     pub fn write(&mut self, writes: &[(Key, Option<Row>)]) -> Result<(), Fault>
         ensures made { AnswersWrites self.old.session writes.now result }
         ensures same { self.new ≡ self.old }
@@ -131,7 +134,7 @@ impl<'a, D: SyncAhead + Drop, R: Wait> Transaction<'a, D, R> {
         write_all(room, self.session, writes)
     }
 
-    /// Gives the transaction up, as a drop does, and fails where the device has failed.
+    /// Rolls the transaction back, as a drop does, and fails if the device has failed.
     pub fn abort(self) -> Result<(), Fault>
         ensures { AnswersStep (Abort self.entry.session) done_of result }
     {
@@ -143,10 +146,10 @@ impl<'a, D: SyncAhead + Drop, R: Wait> Transaction<'a, D, R> {
         give_up(rt, shared, session)
     }
 
-    /// Commits, and returns once that is durable: its timestamp, or `None` if nothing was written. At an error the transaction
-    /// is over; `CommitError` says whether something of it may be committed. `Conflict` is answered once the commit in the
-    /// way is covered or given up, so that whoever begins again then sees it. `OutOfMemory` is answered where the committer
-    /// was refused memory a hundred times in a row.
+    /// Commits, and returns once that is durable: its timestamp, or `None` if nothing was written. At an error the transaction is over;
+    /// `CommitError` says whether something of it may be committed. `Conflict` is returned once the commit in the way is covered or
+    /// abandoned, so that a transaction begun afterwards sees it. `OutOfMemory` is returned if the committer was refused memory a
+    /// hundred times in a row.
     pub fn commit(self) -> Result<Option<Ts>, CommitError>
         ensures ok { IfOk result (ReportsCommit self.entry.session) }
         ensures err { IfErr result (ReportsError self.entry.session) }

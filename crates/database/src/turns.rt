@@ -1,3 +1,7 @@
+//! A turn of a worker under the desk's lock. One of the committer has all ticks of its cycle, so a group costs one turn, and it
+//! releases the lock for the sync alone. One of the collector has a fourth of a round's visits, so that sessions get in
+//! between.
+
 ghost use Rattle.std.specs.Prelude.{◌≡◌, ◌-◌, ◌^◌, min, IsTrue, is_some};
 ghost use Rattle.base.specs.declared.step.Step.TheVariants.{Collect};
 ghost use Rattle.database.specs.declared.turns.Turn.TheVariants.{Stopped};
@@ -17,28 +21,28 @@ use sync_ahead::SyncAhead;
 // lines.
 const TICKS: u64 = 8_192;
 
-// A turn of the collector makes a fourth of a round's visits, and no fewer and no more than these: so a few turns end a round, however
-// many threads ask for the lock, and sessions get in between.
+// A turn of the collector makes a fourth of a round's visits, within these limits. So a few turns end a round, however many threads
+// wait for the lock, and sessions get in between.
 const LEAST_VISITS: u64 = 64;
 
 const MOST_VISITS: u64 = 1_024;
 
-/// What came of a turn under the lock.
+/// The outcome of a turn under the lock.
 #[derive(Clone, Copy)]
 pub enum Turn {
     /// There is more to do.
     Unfinished,
-    /// So there is, and the next tick makes a record durable.
+    /// There is more to do, and the next tick makes a record durable.
     Flushed,
     /// A batch is covered, or a round has ended.
     Finished,
     /// There was nothing to do.
     Idle,
-    /// Another takes the committer's turns.
+    /// Another thread takes the committer's turns.
     Busy,
-    /// Memory was refused, which passes.
+    /// Memory was refused. That passes.
     LacksMemory,
-    /// Something else was refused, which doesn't.
+    /// Something else was refused. That doesn't pass.
     Stopped,
 }
 
@@ -68,7 +72,7 @@ fn rows_of(batch: &Batch) -> u64
     rows
 }
 
-/// Visits of the collector, up to the end of a round.
+/// Visits of the collector, up to the end of a round at most.
 pub fn collect<D: Pmem + Drop>(desk: &mut Desk<D>) -> Turn
     ensures visits { IsTrue (is_some desk.old.room) → InRoom (λ old new. Repeats D.state old new Collect) desk.old.room desk.new.room }
     ensures covered { desk.new.covered ≡ covered_since desk.old.covered result }
@@ -89,7 +93,7 @@ pub fn collect<D: Pmem + Drop>(desk: &mut Desk<D>) -> Turn
     turn
 }
 
-// A part of a round's visits, or up to its end.
+// A part of a round's visits, up to its end at most.
 fn visit_some<D: Pmem + Drop>(room: &mut OpenedRoom<D>) -> Turn
     ensures visits { Repeats D.state room.old.room room.new.room Collect }
     ensures ended { room.new.ended ≡ room.old.ended }
@@ -114,7 +118,7 @@ impl<D: Pmem> Desk<D> {
     ghost use Rattle.database.specs.Committing.{HasLackedMemory};
     ghost use Rattle.database.specs.Ticking.{LeavesRest, turn_of, refusals_after, covered_after};
 
-    // What a tick comes to that isn't refused.
+    // The outcome of a tick that isn't refused.
     fn after_tick(&mut self, reply: &Reply) -> Turn
         requires answered { (fault : Fault) → reply.now ≢ Refused fault }
         ensures goes_on { result ≢ Stopped }
@@ -137,7 +141,7 @@ impl<D: Pmem> Desk<D> {
         }
     }
 
-    // What a refusal of a tick comes to: want of memory passes, and nothing else does.
+    // The outcome of a tick that is refused: lack of memory passes, and nothing else does.
     fn after_refusal(&mut self, fault: Fault) -> Turn
         requires lacked { fault ≡ OutOfMemory → HasLackedMemory }
         ensures room { self.new.room ≡ self.old.room }
@@ -159,8 +163,8 @@ impl<D: Pmem> Desk<D> {
 }
 
 impl<D: Pmem + Drop> Shared<D> {
-    /// Answers those who wait for their commit, and wakes those whom the turn concerns besides: whoever waits for another's, and the
-    /// collector where a round is due, unless it is woken beside a sync. Whoever waits for its own sleeps on.
+    /// Replies to those who wait for their commit, and wakes others whom the turn concerns: threads that wait for another's commit,
+    /// and the collector if a round is due, unless a sync wakes it. A thread that waits for its own commit sleeps on.
     pub fn notify<R: Wait>(&self, rt: &R, desk: &mut Desk<D>, turn: Turn) {
         if matches!(
             turn,
@@ -181,8 +185,8 @@ impl<D: SyncAhead + Drop> Shared<D> {
     ghost use Rattle.std.specs.Sync.Mutex.{mutex_guard_value};
     ghost use Rattle.database.specs.declared.turns.Turn.TheVariants.{Stopped};
 
-    /// A turn of the committer: ticks up to the one that covers a batch. What one of them would sync is synced before it, without the
-    /// lock, so that others read, write and stamp meanwhile. What they stamp is of the next batch.
+    /// A turn of the committer: ticks up to the one that covers a batch. If a tick would sync, the sync is made before it, without the
+    /// lock, so that others can read, write and stamp meanwhile. What they stamp belongs to the next batch.
     pub fn take_ticks<'a, R: Wait>(
         &'a self,
         rt: &R,
@@ -229,7 +233,7 @@ impl<D: SyncAhead + Drop> Shared<D> {
         desk
     }
 
-    /// Wakes the committer's worker, if it is wanted.
+    /// Wakes the committer's worker, if it has to be woken.
     pub fn recall(&self, desk: &mut Desk<D>) {
         if desk.is_wanted {
             desk.is_wanted = false;
@@ -250,7 +254,7 @@ impl<D: SyncAhead + Drop> Desk<D> {
         pending
     }
 
-    // Takes it back. The room is there, since a close waits for whoever syncs.
+    // Takes it back. The room is there, since closing waits for the thread that syncs.
     fn end_sync(&mut self, pending: D::Pending) {
         self.is_syncing = false;
         if let Some(room) = &mut self.room {

@@ -1,3 +1,7 @@
+//! A commit from its first step to its reply. Nobody sleeps here unless another thread is sure to wake it: a thread that waits
+//! for its own commit is led or leads, and one that waits for another's is woken at each cover, each refused tick and each
+//! worker's end, and notifies the committer if nobody leads.
+
 ghost use Rattle.std.specs.Prelude.{◌≡◌, ◌↔◌, IsTrue, Err};
 ghost use Rattle.base.specs.declared.fault.Fault.TheVariants.{WindowFull};
 ghost use Rattle.database.specs.declared.error.CommitError.TheVariants.{Refused};
@@ -20,7 +24,7 @@ impl<D: SyncAhead + Drop> Shared<D> {
     ghost use Rattle.base.specs.declared.fault.Fault.TheVariants.{Conflict};
     ghost use Rattle.database.specs.Committing.{IsPrepared, HasAborted, ConflictsAt, IsSettledUpTo, ReportsCommit, ReportsUnprepared, ReportsError, ReportsWritten, ReportsUnwritten};
 
-    /// Makes these writes in a transaction of their own and commits it. Up to its last stamp that is one turn of the lock.
+    /// Makes these writes in a transaction of their own and commits it. Everything up to the last stamp is one turn of the lock.
     pub fn write<R: Wait>(
         &self,
         rt: &R,
@@ -68,8 +72,8 @@ impl<D: SyncAhead + Drop> Shared<D> {
         }
     }
 
-    // Draws and stamps, once the committer has reserved timestamps. The timestamp, if something was written. Beside it the greatest one that
-    // is drawn then, whatever session drew it.
+    // Draws and stamps, once the committer has reserved timestamps. Returns the timestamp, if something was written, and the greatest
+    // timestamp drawn by then, by any session.
     fn prepare<'a, R: Wait>(
         &'a self,
         rt: &R,
@@ -102,8 +106,8 @@ impl<D: SyncAhead + Drop> Shared<D> {
         unreachable!()
     }
 
-    // Ends a transaction whose commit was refused. A conflict is reported once whatever was drawn by then is covered or given up: a
-    // transaction that is begun then sees the commit that was in the way.
+    // Ends a transaction whose commit was refused. A conflict is reported once all that was drawn by then is covered or abandoned: a
+    // transaction that begins afterwards sees the commit that was in the way.
     fn give_way<R: Wait>(&self, rt: &R, session: u8, error: CommitError, drawn: Ts)
         ensures given { HasAborted session }
         ensures late { (key : Key) → error ≡ Refused (Conflict key) → IsSettledUpTo drawn }
@@ -121,7 +125,7 @@ impl<D: SyncAhead + Drop> Shared<D> {
         }
     }
 
-    // Waits until each commit up to this timestamp is covered or given up, or the committer finds no memory.
+    // Waits until each commit up to this timestamp is covered or abandoned, or the committer finds no memory.
     fn settle<'a, R: Wait>(
         &'a self,
         rt: &R,
@@ -143,8 +147,8 @@ impl<D: SyncAhead + Drop> Shared<D> {
         unreachable!()
     }
 
-    // Waits for a turn of the committer, which whoever leads a group takes for it. Where no other transaction is open it is taken here, and
-    // nobody sleeps.
+    // Waits for a turn of the committer, which the leader of a group takes. If no other transaction is open, this thread takes the turn
+    // itself, and nobody sleeps.
     fn take_turn<'a, R: Wait>(
         &'a self,
         rt: &R,

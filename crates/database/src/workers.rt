@@ -1,3 +1,6 @@
+//! Two workers: the committer covers what nobody leads, and the collector frees slots. Neither is joined, since a database that
+//! kept the kit's thread handle couldn't be shared: each counts itself out under the lock as its last act.
+
 ghost use Rattle.std.specs.Prelude.{◌≡◌, ◌⊎◌, IfErr};
 ghost use Rattle.base.specs.declared.fault.Fault.TheVariants.{OutOfMemory, NoThread};
 
@@ -36,7 +39,7 @@ enum Duty {
     Collect,
 }
 
-// Starts a worker. Nobody joins its thread, which would keep the database to one thread: it counts itself out instead.
+// Starts a worker. Nobody joins its thread, since a handle would bind the database to one thread: the worker counts itself out instead.
 fn spawn<
     R: Threads + Wait + Copy + Drop + Send + 'static,
     D: SyncAhead + Drop + Send + Sync + 'static,
@@ -77,7 +80,7 @@ fn work<R: Wait + Drop, D: SyncAhead + Drop>(rt: &R, shared: &Arc<Shared<D>, Glo
     shared.end_working(rt);
 }
 
-// A turn of the committer, and whoever is answered is woken once the lock is free. It sleeps where there is nothing to do.
+// A turn of the committer. Threads with new replies are woken once the lock is free. It sleeps if there is nothing to do.
 fn commit<'a, R: Wait, D: SyncAhead + Drop>(
     rt: &R,
     shared: &'a Shared<D>,
@@ -85,7 +88,7 @@ fn commit<'a, R: Wait, D: SyncAhead + Drop>(
 ) {
     let (mut desk, turn) = shared.take_over(rt, desk);
     shared.notify(rt, &mut desk, turn);
-    // The engine may have been closed while the lock was free.
+    // The database may have been closed while the lock was free.
     if desk.closing {
         return shared.exit(desk);
     }
@@ -96,7 +99,7 @@ fn commit<'a, R: Wait, D: SyncAhead + Drop>(
             drop(shared.commits.wait(rt, desk));
         }
         Turn::Idle => drop(shared.commits.wait(rt, desk)),
-        // Somebody waits, and nobody else will try again.
+        // A thread waits, and no other will try again.
         Turn::LacksMemory if !desk.is_led && !desk.group.is_empty() => {
             shared.exit(desk);
             thread::yield_now();
@@ -108,7 +111,7 @@ fn commit<'a, R: Wait, D: SyncAhead + Drop>(
     }
 }
 
-// A turn of the collector, which sleeps where no round is due, or where its round may wait. Between two turns whoever waits for the lock gets it.
+// A turn of the collector, which sleeps if no round is due, or if its round may wait. Threads that wait for the lock get it between two turns.
 fn collect<'a, R: Wait, D: SyncAhead + Drop>(
     rt: &R,
     shared: &'a Shared<D>,

@@ -3,7 +3,7 @@ use Rattle.base.specs.declared.step.Step.TheVariants.{Collect}
 use Rattle.database.specs.Obeys.{RepeatsTimes}
 use Rattle.database.proofs.steps.collect.Given as goal
 
--- so many visits are made so far
+-- this many visits are made so far
 abbrev pub invariant-loop-made : goal.invariant-loop-made
 invariant-loop-made g l = record {
   visits : RepeatsTimes g.D.Pmem.state l.fn.room.room l.room.room Collect l._made;
