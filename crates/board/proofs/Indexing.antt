@@ -28,7 +28,7 @@ pub none_over : (stamp : ℕ) (batches : List Batch) (key : Key) (at : ℕ) → 
 none_over stamp [] key at h lt = refl
 none_over stamp (b ∷ batches) key at h lt = grind (arith, last_rises, none_over b.stamp batches key at h.2 lt)
 
--- where nothing is left up to the stamp, the row stays
+-- if the batches leave nothing up to the stamp, the row stays
 row_stays : (stamp : ℕ) (batches : List Batch) (key : Key) (at : ℕ) (row : Option (List ℕ)) → Follow stamp batches → ((s : ℕ) → s ≤ at → version_at batches key s ≡ None) → after_batches key at row batches ≡ row
 row_stays stamp [] key at row h none = refl
 row_stays stamp (b ∷ batches) key at row h none = ap (λ (r : Option (List ℕ)). after_batches key at r batches) (here (nat_le b.stamp at) refl) ∙ row_stays b.stamp batches key at row h.2 rest

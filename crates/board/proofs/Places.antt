@@ -57,7 +57,7 @@ pub forgotten_commit : (cs : List Commit) (i : ℕ) (c : Commit) (k : Key) (ther
     → (if is_written k (drop (i + 1) cs) && there then None else next) ≡ (if is_written k (drop i cs) && there then None else now)
 forgotten_commit cs i c k there now next is lt after = grind (arith, drop_at)
 
--- at another stamp, or where nothing is written, the version stays
+-- at another stamp, or if nothing is written, the version stays
 pub unentered : (a s : ℕ) (w old : Option (Option (List ℕ))) → (a ≡ s → w ≡ None) → (if nat_eq a s then option_or w old else old) ≡ old
 unentered a s w old none = grind (arith)
 

@@ -7,6 +7,6 @@ use Rattle.board.specs.Lists.{is_among}
 abbrev pub stay : List ℕ → ℕ → Bool
 stay longs t = not (is_among longs t)
 
--- so many first commits have just the timestamps that were met, without the long ones
+-- the first `used` commits have just the timestamps that were met, without the long ones
 abbrev pub Meets : List Commit → ℕ → List ℕ → List ℕ → Type 0
 Meets commits used longs met = map (λ commit. commit.timestamp) (take used commits) ≡ filter (stay longs) met

@@ -31,7 +31,7 @@ last_coverage list = record { stamp = last_stamp list; persisted = last_persiste
 abbrev pub is_among : List ℕ → ℕ → Bool
 is_among timestamps timestamp = list_any (nat_eq timestamp) timestamps
 
--- what a batch may cover: the long commits before it, and what lies above the timestamp persisted before it, up to its own
+-- what a batch may cover: the long commits before it, and the timestamps above the one persisted before it, up to its own
 abbrev pub due : List ℕ → ℕ → ℕ → List ℕ
 due longs persisted upto = longs ++ range_with_len (persisted + 1) (upto - persisted)
 
@@ -66,7 +66,7 @@ pub record Begins (first second : Published) : Type 0 where
 abbrev pub has_commit : Published → ℕ → Bool
 has_commit list timestamp = list_any (λ batch. list_any (λ commit. nat_eq commit.timestamp timestamp) batch.commits) list.batches
 
--- the list began without the commit: it lay above what was persisted then, or it was one of the long commits up to there
+-- the list began without the commit: it was above what was persisted then, or it was one of the long commits up to there
 abbrev pub IsLater : Published → ℕ → Type 0
 IsLater list timestamp = ((list.persisted < timestamp) × (is_among list.longs timestamp ≡ false)) ⊎ ((timestamp ≤ list.persisted) × (is_among list.longs timestamp ≡ true))
 

@@ -1,4 +1,4 @@
-//! A change is added to the history before the shelf has it: readers go by the history, which never goes back. Where there is
+//! A change is added to the history before the shelf has it: readers go by the history, which never goes back. If there is
 //! no memory to hand it on, it waits here, and nothing comes before it.
 
 use crate::change::{Change, Start};
@@ -75,7 +75,7 @@ impl<J: Naming, R: Wait + Drop> BoardWriter<J, Shelf<J>, Step<J>, R> {
     ghost use Rattle.board.specs.Openings.{opening};
     ghost use Rattle.board.specs.Shown.{whole, shown, waiting};
 
-    /// Publishes the rows alone, and makes readers that have seen them: so many, or fewer.
+    /// Publishes the rows alone, and makes readers that have seen them: `readers` of them, or fewer.
     pub fn open(
         rt: R,
         alloc: Global,
@@ -103,7 +103,7 @@ impl<J: Naming, R: Wait + Drop> BoardWriter<J, Shelf<J>, Step<J>, R> {
         Ok((board, made))
     }
 
-    // The board without readers, with room for so many.
+    // The board without readers, with room for `readers` of them.
     fn alone(
         rt: R,
         alloc: Global,
@@ -169,7 +169,7 @@ impl<J: Naming, R: Wait + Drop> BoardWriter<J, Shelf<J>, Step<J>, R> {
             && covers_due(last.persisted, &last.longs, batch)
     }
 
-    /// Publishes what waits and then the batch. Where memory runs out, the batch comes back, or waits with the others.
+    /// Publishes what waits and then the batch. If memory runs out, the batch comes back, or waits with the others.
     pub fn publish(&mut self, batch: Batch) -> Result<(), (Fault, Option<Batch>)>
         requires { Fits (whole self.old) batch }
         ensures { MatchResult result (λ _. self.new ≡ shown (waiting self.old (Add batch))) (λ e. ((e ≡ (OutOfMemory, Some batch)) × (self.new ≡ self.old)) ⊎ ((e ≡ (OutOfMemory, None)) × (self.new ≡ waiting self.old (Add batch)))) }
@@ -181,7 +181,7 @@ impl<J: Naming, R: Wait + Drop> BoardWriter<J, Shelf<J>, Step<J>, R> {
         }
     }
 
-    /// Publishes what waits, and raises the lowest stamp that may be read to this one, where it is lower.
+    /// Publishes what waits, and raises the lowest stamp that may be read to this one, if it is lower.
     pub fn prune(&mut self, stamp: u64) -> Result<(), Fault>
         requires { stamp ≤ last_stamp self.old.list }
         ensures below { stamp ≤ self.old.list.floor → (result ≡ Ok tt) × (self.new ≡ self.old) }
@@ -210,7 +210,7 @@ impl<J: Naming, R: Wait + Drop> BoardWriter<J, Shelf<J>, Step<J>, R> {
         Ok(())
     }
 
-    // Adds a change to the history, where it waits. Where memory runs out, it comes back.
+    // Adds a change to the history, in which it waits. If memory runs out, it comes back.
     fn add(&mut self, change: Change) -> Result<(), Change>
         requires { IsPublished (whole self.old) → IsPublished (changed (whole self.old) change) }
         ensures { MatchResult result (λ _. self.new ≡ waiting self.old change) (λ back. (back ≡ change) × (self.new ≡ self.old)) }
@@ -230,7 +230,7 @@ impl<J: Naming, R: Wait + Drop> BoardWriter<J, Shelf<J>, Step<J>, R> {
         Ok(())
     }
 
-    // Hands over what was kept, where there is memory.
+    // Hands over what was kept, if there is memory.
     fn hand_over(&mut self)
         ensures { self.new ≡ self.old }
     {

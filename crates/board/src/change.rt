@@ -5,7 +5,7 @@ use base::batch::Batch;
 use base::key::Key;
 use base::row::Row;
 
-/// Where a list begins.
+/// The beginning of a list.
 #[derive(Drop)]
 pub struct Start {
     pub coverage: Coverage,

@@ -30,7 +30,7 @@ fn are_due(longs: &Longs, before: Ts, left: &Longs, upto: Ts) -> bool
     true
 }
 
-// Whether the timestamp was left, or lies above the one up to the other.
+// Whether the timestamp was left, or is above the first one and at most the second one.
 fn is_due(timestamp: Ts, before: Ts, left: &Longs, upto: Ts) -> bool
     requires { before ≤ upto }
     ensures { result ≡ is_among (due left.now before upto) timestamp }

@@ -78,8 +78,8 @@ pub fn lay(rows: &mut Rows, commits: &[Commit]) -> Result<(), AllocError>
     Ok(())
 }
 
-/// Lays the batches that are not above the floor into the rows, oldest first, and removes their versions. Where memory
-/// runs out the others stay. `last` is what the last one that was laid covers.
+/// Lays the batches that are not above the floor into the rows, oldest first, and removes their versions. If memory
+/// runs out, the others stay. `last` is what the last batch that was laid covers.
 pub fn settle(
     rows: &mut Rows,
     versions: &mut Versions,

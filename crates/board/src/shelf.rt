@@ -1,4 +1,4 @@
-//! Rows lie below the floor and versions above it, each under its key, so a read is two look-ups however many batches are kept.
+//! Rows are below the floor and versions above it, each under its key, so a read is two look-ups however many batches are kept.
 
 ghost use Rattle.board.specs.Rules.{Ends};
 
@@ -132,7 +132,7 @@ impl<J: Naming> Shelf<J> {
         self.front.is_published();
         self.front = front.again();
         self.floor = self.floor.max(stamp);
-        // Where memory ends, the rest is laid by a later change.
+        // If memory runs out, a later change lays the rest.
         let _ = settle(
             &mut self.rows,
             &mut self.versions,

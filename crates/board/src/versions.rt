@@ -12,14 +12,14 @@ use base::row::Row;
 use std::alloc::AllocError;
 use std::collections::BTreeMap;
 
-/// Where a version stands: under its key, by rising stamp.
+/// The place of a version: under its key, by rising stamp.
 #[derive(Clone, Copy, PartialEq, Eq, PartialOrd, Ord)]
 pub struct Place {
     pub key: Key,
     pub stamp: u64,
 }
 
-/// The row that the batch of a stamp leaves under a key that it writes, or `None` where it deletes the row.
+/// The row that the batch of a stamp leaves under a key that it writes, or `None` if it deletes the row.
 pub type Versions = BTreeMap<Place, Option<Row>>;
 
 /// The key's last version up to the stamp.

@@ -11,11 +11,11 @@ use Rattle.version_slot.specs.Operations.{sweep_operations as operations_of_swee
 abbrev pub sweep_operations : Layout → List Gap → (ℕ → ℕ) → ℕ → List Operation
 sweep_operations a = operations_of_sweep a collector
 
--- gaps stand that aren't swept
+-- there are gaps that aren't swept
 abbrev pub is_due : Bool → List Gap → Bool
 is_due swept gaps = not swept && not (is_nil gaps)
 
--- a slot is swept, where that is due
+-- a slot is swept, if that is due
 abbrev pub slot_operations : Layout → List Gap → Bool → ℕ → (ℕ → ℕ) → List Operation
 slot_operations a gaps swept slot value = if is_due swept gaps then sweep_operations a gaps value slot else []
 

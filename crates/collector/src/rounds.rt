@@ -1,5 +1,5 @@
 //! A visit looks at one slot, so that sessions may step between any two. Gaps are dropped only after a whole round and its fence:
-//! before that a crash may still leave a timestamp that lies in one, in some slot.
+//! before that, a crash may still leave in some slot a timestamp that is in a gap.
 
 ghost use Rattle.std.specs.Prelude.{◌≡◌, OnErr, OnOk, IfErr};
 
@@ -14,7 +14,7 @@ use gap_list::GapList;
 use pmem::Pmem;
 use slot_alloc::SlotAlloc;
 
-/// Where the collector is on its way round the slots, and whether it has been round in this life.
+/// The collector's place on its way around the slots, and whether it has completed a round in this life.
 #[derive(Clone, Copy, Debug, PartialEq, Eq)]
 pub struct Collector {
     place: SlotNo,
@@ -54,7 +54,7 @@ impl Collector {
         self.place
     }
 
-    // Whether gaps stand that aren't swept.
+    // Whether there are gaps that aren't swept.
     #[inline(always)]
     fn is_due(&self, gaps: &GapList) -> bool
         ensures { result ≡ is_due self.now.swept gaps.now }
@@ -62,9 +62,9 @@ impl Collector {
         !self.swept && !gaps.gaps().as_slice().is_empty()
     }
 
-    /// Visits the next place: it frees a slot whose version nobody reads any more. While gaps stand that aren't swept it
+    /// Visits the next place: it frees a slot whose version nobody reads any more. While there are gaps that aren't swept, it
     /// sweeps the slot, by at most three operations, and at the closing place it waits until that persists. It takes no
-    /// memory. Where the device fails, the slots and the collector are as before.
+    /// memory. If the device fails, the slots and the collector are as before.
     #[inline(always)]
     pub fn tick<D: Pmem, R: Readers>(
         &mut self,
@@ -183,7 +183,7 @@ ghost use Rattle.base.specs.Layout.{slot_start, total_words};
 ghost use Rattle.pmem.specs.Words.{value_of};
 ghost use Rattle.slot_alloc.specs.Free.{is_free};
 
-// The end of the version that a slot holds. A slot that is free stays free, whoever reads: of it nothing is loaded.
+// The end of the version that a slot holds. A free slot stays free no matter who reads, so nothing of it is loaded.
 #[inline(always)]
 fn held_end<D: Pmem>(device: &D, geometry: Geometry, slots: &SlotAlloc, slot: SlotNo) -> Option<Ts>
     requires slot { slot < geometry.slots }

@@ -12,8 +12,8 @@ use base::geometry::Geometry;
 use gap_list::GapList;
 use pmem::Pmem;
 
-// Stores 0 in the begin and in the end of a slot where they lie in a gap, and flushes its first line, where both stand,
-// since an older value of theirs that lies in one may survive.
+// Stores 0 in the begin and in the end of a slot if they are in a gap, and flushes its first line, which has both,
+// since an older value of theirs that is in a gap may survive.
 #[inline(never)]
 pub(crate) fn sweep_slot<D: Pmem>(
     device: &mut D,
@@ -34,7 +34,7 @@ pub(crate) fn sweep_slot<D: Pmem>(
     Ok(())
 }
 
-// Stores 0 in a word that lies in a gap.
+// Stores 0 in a word if its value is in a gap.
 fn zero_in_gap<D: Pmem>(device: &mut D, gaps: &GapList, word: usize) -> Result<(), Fault>
     requires { word < (D.state device.old).words }
     ensures ok { OnOk result (Runs (zero_operations gaps.now word (value_of (D.state device.old) word)) (D.state device.old) (D.state device.new)) }

@@ -25,7 +25,7 @@ pub none-chosen : (reach : ℕ) (ds : List DrawnCommit) → is_nil (chosen reach
 none-chosen reach [] = refl
 none-chosen reach (d ∷ ds) = grind (arith, none-chosen reach ds) steps 800000
 
--- of so many no more are chosen
+-- of the first n at most n are chosen
 pub few-chosen : (reach n : ℕ) (ds : List DrawnCommit) → n ≤ length ds → length (chosen reach (map plain_drawn (take n ds))) ≤ n
 few-chosen reach n ds within = grind (arith, length-map, few-filtered, length-take-le) steps 800000
 

@@ -21,7 +21,7 @@ pub record Cycling : Type 0 where
   pub writing : Progress
   pub stage : CycleStage
 
--- why none begins: no record number is left; or one is, and memory is wanting
+-- why none begins: no record number is left; or one is, and memory has run out
 abbrev pub IsBeginFault : Record → Fault → Type 0
 IsBeginFault ruling fault = ((2 ^ 62 ≤ ruling.gate + 1) × (fault ≡ TimestampsOut)) ⊎ ((ruling.gate + 1 < 2 ^ 62) × (fault ≡ OutOfMemory))
 
@@ -35,7 +35,7 @@ abbrev pub line_from : List ℕ → CycleStage → Option ℕ
 line_from lines (FlushLines flushed from) = find (nat_le from) lines
 line_from lines WriteRecord = None
 
--- the flush of the line, or the fence where none is left
+-- the flush of the line, or the fence if none is left
 abbrev pub flush_or_fence : Option ℕ → Operation
 flush_or_fence None = fence_op committer
 flush_or_fence (Some line) = flush_op committer line

@@ -11,13 +11,13 @@ use Rattle.group_commit.specs.declared.stage.CycleStage.{CycleStage}
 use Rattle.group_commit.specs.declared.stage.CycleStage.TheVariants.{FlushLines, WriteRecord}
 use Rattle.group_commit.specs.Cycles.{Cycling, operation_in, reached_in, ticked_in}
 
--- so many of the lines are below the number, and the others aren't
+-- the first `flushed` of the lines are below the number, and the others aren't
 pub record IsCut (lines : List ℕ) (flushed from : ℕ) : Type 0 where
   pub within : flushed ≤ length lines
   pub below : (i line : ℕ) → i < flushed → slice_get lines i ≡ Some line → line < from
   pub others : (i line : ℕ) → flushed ≤ i → slice_get lines i ≡ Some line → from ≤ line
 
--- so many ticks were made for a batch that touches these lines, the one that chose it included
+-- this many ticks were made for a batch that touches these lines, including the one that chose it
 abbrev pub IsAt : List ℕ → ℕ → Progress → CycleStage → Type 0
 IsAt lines ticks writing (FlushLines flushed from) = (ticks ≡ 1 + flushed) × IsCut lines flushed from × (writing.stage ≡ StoreBody 1)
 IsAt lines ticks writing WriteRecord = (ticks ≡ 2 + length lines + operations_before writing.stage) × IsStage writing.stage

@@ -18,8 +18,8 @@ use snapshot::Numbers;
 use std::alloc::{AllocError, Global};
 use txn::{DrawnCommit, DrawnCommits};
 
-/// Whether the committer has nothing to do: no commit is chosen, half a window of timestamps is reserved, and no swept gap
-/// stands.
+/// Whether the committer has nothing to do: no commit is chosen, half a window of timestamps is reserved, and there is no
+/// swept gap.
 #[inline(always)]
 pub fn is_idle(numbers: &Numbers, swept: bool, drawn: &DrawnCommits) -> bool
     requires { numbers.now.next ≤ 2 ^ 62 }
@@ -78,7 +78,7 @@ pub(crate) fn record_of(numbers: &Numbers, swept: bool, drawn: &DrawnCommits) ->
     Record::new(ruling.gate() + 1, reach, dirty, gaps, longs)
 }
 
-/// The record that a close writes last: it persists all that is drawn, names no long commit, and reserves no timestamp.
+/// The record that closing writes last: it persists all that is drawn, names no long commit, and reserves no timestamp.
 pub(crate) fn closing_record(numbers: &Numbers, swept: bool) -> Record
     requires { numbers.now.record.gate < 2 ^ 62 }
     ensures { result ≡ closing_record (numbers.now.record.gate + 1) numbers.now.record numbers.now.next swept }

@@ -88,7 +88,7 @@ impl Cycle {
         Ok(Cycle::new(numbers.geometry, target, batch, sessions))
     }
 
-    /// Takes all that is drawn, under the record that a close writes last. What it covers is reported to nobody, so its batch stays
+    /// Takes all that is drawn, under the record that closing writes last. What it covers isn't reported, so its batch stays
     /// empty: it takes no memory.
     pub fn closing(alloc: Global, numbers: &Numbers, swept: bool, drawn: &DrawnCommits) -> Cycle
         requires numbered { numbers.now.record.gate < 2 ^ 62 }

@@ -36,7 +36,7 @@ abbrev pub contains : KeyRange → Key → Bool
 contains All key = true
 contains (Within table lo hi) key = is_in_range table lo hi key
 
--- the first and the last key of the range
+-- the bounds of its keys
 abbrev pub bounds_of : KeyRange → Bound Key × Bound Key
 bounds_of All = (Unbounded, Unbounded)
 bounds_of (Within table lo hi) = (Included (record { table = table; key = lo }), Included (record { table = table; key = hi }))

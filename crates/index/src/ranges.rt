@@ -50,7 +50,7 @@ impl KeyRange {
         }
     }
 
-    // The first and the last key of the range.
+    // The bounds of its keys.
     fn bounds(self) -> (Bound<Key>, Bound<Key>)
         ensures { result ≡ bounds_of self }
     {

@@ -6,7 +6,7 @@ use Rattle.std.proofs.lemmas.Bool.{and_parts, and_from}
 use Rattle.base.specs.declared.key.Key.{Key}
 use Rattle.base.specs.Commits.{Commit, writes_key}
 
--- what the first so many commits have, the one at a place among them has
+-- if the first `to` commits satisfy p, then so does each one at a place among them
 pub front-fact : (p : Commit → Bool) (cs : List Commit) (to place : ℕ) (c : Commit) → list_all p (take to cs) ≡ true → place < to → slice_get cs place ≡ Some c → p c ≡ true
 front-fact p [] to place c all lt at = absurd (cc at)
 front-fact p (x ∷ cs) zero place c all lt at = absurd (omega (arith, lt))
@@ -39,7 +39,7 @@ at-front [] ys i c at = absurd (cc at)
 at-front (x ∷ xs) ys zero c at = at
 at-front (x ∷ xs) ys (suc i) c at = at-front xs ys i c at
 
--- one of the first so many
+-- one of the first j commits
 pub place-taken : (ys : List Commit) (j i : ℕ) (c : Commit) → slice_get (take j ys) i ≡ Some c → (i < j) × (slice_get ys i ≡ Some c)
 place-taken [] zero i c at = absurd (cc at)
 place-taken [] (suc j) i c at = absurd (cc at)

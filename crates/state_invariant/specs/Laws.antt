@@ -1,4 +1,4 @@
--- What follows for every life. Each law stands here in words that need no proof, and a public function promises it.
+-- What follows for every life. Each law is stated here in words that need no proof, and a public function promises it.
 use Rattle.std.specs.Prelude.{◌≡◌, ◌⊎◌, ℕ, ◌<◌, Bool, true, false, Option, Some, None, List, length, slice_index}
 use Rattle.base.specs.declared.key.Key.{Key}
 use Rattle.base.specs.declared.step.Step.{Step}
@@ -14,7 +14,7 @@ use Rattle.state_invariant.specs.Kept.{Origin, origin_of, Keeps, IsInUse, versio
 use Rattle.state_invariant.specs.Links.{Links, NamesNewest, SameRows}
 use Rattle.state_invariant.specs.Shown.{SlotsShow, ReadsAs, StoresPut, StopsPut, StoresStamp}
 
--- every step keeps what a state keeps, whatever it answers
+-- every step keeps what a state keeps, whatever it replies
 abbrev pub StepsKeep : Type 0
 StepsKeep = (o : Origin) (q : State) (step : Step) (reply : Reply) (q' : State) → Keeps o q → Stepped q step reply q' → Keeps o q'
 
@@ -22,7 +22,7 @@ StepsKeep = (o : Origin) (q : State) (step : Step) (reply : Reply) (q' : State) 
 abbrev pub RunsKeep : Type 0
 RunsKeep = (o : Origin) (q : State) (steps : List Step) (replies : List Reply) (states : List State) → Keeps o q → Run q steps replies states → Keeps o (final q states)
 
--- covering the batch in hand keeps it too, however many commits it has
+-- covering the batch being written keeps it too, however many commits it has
 abbrev pub CoveringKeeps : Type 0
 CoveringKeeps = (o : Origin) (q : State) (hand : Hand) → Keeps o q → q.hand ≡ Some hand → Keeps o (state_covered q hand)
 
@@ -62,7 +62,7 @@ fills _ = false
 abbrev pub StepsLink : Type 0
 StepsLink = (o : Origin) (q : State) (step : Step) (reply : Reply) (q' : State) (value : ℕ → ℕ) → Keeps o q → Stepped q step reply q' → fills step ≡ false → Links o q value → Links o q' value
 
--- covering the batch in hand keeps it too
+-- covering the batch being written keeps it too
 abbrev pub CoveringLinks : Type 0
 CoveringLinks = (o : Origin) (q : State) (hand : Hand) (value : ℕ → ℕ) → Keeps o q → q.hand ≡ Some hand → Links o q value → Links o (state_covered q hand) value
 
@@ -77,7 +77,7 @@ pub record PutLinks : Type 0 where
 
 -- ---- what the slots show
 
--- covering the batch in hand keeps what the slots show, however many commits it has
+-- covering the batch being written keeps what the slots show, however many commits it has
 abbrev pub CoveringShows : Type 0
 CoveringShows = (o : Origin) (q : State) (hand : Hand) (value : ℕ → ℕ) → q.failed ≡ false → Keeps o q → q.hand ≡ Some hand → SlotsShow o q value → SlotsShow o (state_covered q hand) value
 

@@ -2,7 +2,7 @@
 
 ghost use Rattle.state_invariant.specs.Laws.{StepsKeep, RunsKeep, CoveringKeeps, OpenedKeeps, Reading, CoveringShows, StepsShow, PutShows, StampShows, OpenedLinks, StoresLink, StepsLink, CoveringLinks, PutLinks};
 
-/// Every step keeps what a plain state of a life keeps: one that is answered or refused, one that is refused for want of
+/// Every step keeps what a plain state of a life keeps: one that replies or is refused, one that is refused for lack of
 /// memory, and one in which the device fails. So does every run.
 pub fn steps_keep_the_state()
     ensures step { StepsKeep }
@@ -31,7 +31,7 @@ pub fn snapshots_read_their_tables()
     ensures { Reading }
 {}
 
-/// After a put the slots show what the next state says: its slot has the version, no begin and no end. Where the device
+/// After a put the slots show what the next state says: its slot has the version, no begin and no end. If the device
 /// stopped it midway, they show what the failed state says.
 pub fn puts_show_their_version()
     ensures { PutShows }

@@ -83,7 +83,7 @@ pub not-found : (t : ℕ) (ds : List DrawnCommit) → are_in_order ds ≡ true �
 not-found t [] o apart = refl
 not-found t (e ∷ ds) o apart = grind (arith, not-found t ds (rest e ds o), nat_tests, none_later, later_than, later)
 
--- what lies there has another timestamp
+-- the commit at the place has another timestamp
 pub apart-there : (t : ℕ) (o : Option DrawnCommit) (e d : DrawnCommit) → o ≡ Some e → e.timestamp ≢ t → o ≡ Some d → nat_eq d.timestamp t ≡ false
 apart-there t o e d is apart at = let this : d ≡ e = cc (is, at) in ne_eqb d.timestamp t (λ same. apart (ap (λ (x : DrawnCommit). x.timestamp) (sym this) ∙ same))
 

@@ -20,7 +20,7 @@ walk_on most w d =
 abbrev pub walk_over : ℕ → ℕ → List DrawnCommit → Walk
 walk_over most persisted commits = fold (walk_on most) (record { reached = persisted; unstamped = 0 }) commits
 
--- how many have timestamps below this one and aren't stamped, beside n others
+-- how many have timestamps below this one and aren't stamped, plus n
 abbrev below : ℕ → ℕ → List DrawnCommit → ℕ
 below t n ds = fold (λ (n : ℕ) (d : Drawn). n + cond (nat_lt d.commit.timestamp t && not (is_stamped d)) 1 0) n (map plain_drawn ds)
 

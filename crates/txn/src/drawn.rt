@@ -117,7 +117,7 @@ impl DrawnCommits {
         }
     }
 
-    /// Adds the commit that was drawn last, where there is room for it.
+    /// Adds the commit that was drawn last; there is room for it.
     #[inline(always)]
     pub fn push(&mut self, commit: DrawnCommit)
         requires room { 0 < self.old.spare }
@@ -146,8 +146,8 @@ impl DrawnCommits {
         hand_back(&mut self.commits, kept, transactions);
     }
 
-    /// Up to which timestamp a record reaches that may pass over so many commits that aren't stamped: that of the last
-    /// commit that it may cover, and at least this one.
+    /// The timestamp up to which a record reaches that may pass over `most` commits that aren't stamped: that of the last
+    /// commit that it may cover, and at least `persisted`.
     pub fn reach(&self, persisted: Ts, most: usize) -> Ts
         ensures { result ≡ reach most persisted (map plain_drawn self.now.commits) }
     {
@@ -194,7 +194,7 @@ fn gather_uncovered(commits: &mut [DrawnCommit], snapshot: &Snapshot) -> usize
     kept
 }
 
-// Only the first so many stay. Transactions that begin may have the sets of the others.
+// Only the first `kept` stay. Transactions that begin may have the sets of the others.
 fn hand_back(commits: &mut Vec<DrawnCommit>, kept: usize, transactions: &mut Transactions)
     ensures commits { commits.new.items ≡ take kept commits.old.items }
     ensures transactions { transactions.new ≡ transactions.old }

@@ -22,7 +22,7 @@ use std::mem;
 pub struct Transactions {
     slab: Slab<Transaction>,
     places: [Option<usize>; 62],
-    // The numbers of those that are Active, so that whoever asks each of these looks at no other.
+    // The numbers of those that are Active, so that a loop over these looks at no other.
     active: SessionSet,
     // Each number below this one has a session.
     first: u8,
@@ -95,7 +95,7 @@ fn empty_set(ended: &mut Vec<WriteSet>, alloc: Global) -> Result<WriteSet, Fault
     WriteSet::new(alloc)
 }
 
-// Keeps a set whose transaction ended, where there is room.
+// Keeps a set whose transaction ended, if there is room.
 #[inline(always)]
 fn keep(ended: &mut Vec<WriteSet>, writes: WriteSet) {
     if ended.len() < ended.capacity() {
@@ -103,7 +103,7 @@ fn keep(ended: &mut Vec<WriteSet>, writes: WriteSet) {
     }
 }
 
-// Holds the snapshot where one was held that is given up, or in new memory.
+// Holds the snapshot in the memory of a released one, or in new memory.
 #[inline(always)]
 fn hold(
     held: &mut Vec<HeldSnapshot>,
@@ -123,7 +123,7 @@ fn hold(
     HeldSnapshot::new(alloc, covered)
 }
 
-// Gives up a snapshot, whose memory is kept where there is room.
+// Releases a snapshot, whose memory is kept if there is room.
 #[inline(always)]
 fn give_up(held: &mut Vec<HeldSnapshot>, snapshot: HeldSnapshot) {
     if held.len() < held.capacity() {
@@ -230,7 +230,7 @@ impl Transactions {
         }
     }
 
-    /// Puts another state in the place of an open transaction's.
+    /// Replaces the state of an open transaction by another one.
     pub fn set(&mut self, number: u8, transaction: Transaction)
         requires { IsSome (transaction_at self.old number) }
         ensures { Sets self.old self.new number (Some transaction) }

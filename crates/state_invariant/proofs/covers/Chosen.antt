@@ -92,7 +92,7 @@ any-unfiltered p r (d ∷ ds) any = grind (arith, any-unfiltered p r ds, or_case
 
 -- ---- records
 
--- what a record commits lies up to what it persists, in no gap, and is no long commit
+-- what a record commits is at most what it persists, in no gap, and not a long commit
 pub committed-parts : (r : Record) (t : ℕ) → is_committed r t ≡ true → (1 ≤ t) × (t ≤ r.persisted) × (is_in r.gaps t ≡ false) × (list_any (nat_eq t) r.longs ≡ false)
 committed-parts r t e = grind (arith, and_parts, leb-true, not-true)
 
@@ -106,7 +106,7 @@ uncommitted-long r t from to out uncounted = grind (arith, true≢false, committ
 
 -- ---- how many
 
--- rising numbers that all stand among others that rise are no more than these
+-- if rising numbers are all among others that rise, there are at most as many of them
 pub rising-among : (xs ys : List ℕ) → are_rising xs ≡ true → are_rising ys ≡ true → list_all (λ x. list_any (nat_eq x) ys) xs ≡ true → length xs ≤ length ys
 rising-among [] ys up high all = omega arith
 rising-among (x ∷ xs) [] up high all = absurd (cc (and_parts false (list_all (λ x. false) xs) all).0)
@@ -115,7 +115,7 @@ rising-among (x ∷ xs) (y ∷ ys) up high all = by (λ zs rises among. rising-a
     parts : ((nat_eq x y || list_any (nat_eq x) ys) ≡ true) × (list_all (λ x. nat_eq x y || list_any (nat_eq x) ys) xs ≡ true)
     parts = and_parts (nat_eq x y || list_any (nat_eq x) ys) (list_all (λ x. nat_eq x y || list_any (nat_eq x) ys) xs) all
 
-    -- what lies above y stands in the rest
+    -- what is above y is in the rest
     later : (zs : List ℕ) → list_all (nat_lt y) zs ≡ true → list_all (λ z. nat_eq z y || list_any (nat_eq z) ys) zs ≡ true → list_all (λ z. list_any (nat_eq z) ys) zs ≡ true
     later [] above among = refl
     later (z ∷ zs) above among =
@@ -163,7 +163,7 @@ pub fewer-filtered : (p r : Drawn → Bool) (ds : List Drawn) → list_all (λ d
 fewer-filtered p r [] all = omega arith
 fewer-filtered p r (d ∷ ds) all = grind (arith, fewer-filtered p r ds)
 
--- the greatest is the first number or stands in the list
+-- the greatest is the first number or is in the list
 pub max-is : (p : ℕ) (ts : List ℕ) → (fold max p ts ≡ p) ⊎ (list_any (nat_eq (fold max p ts)) ts ≡ true)
 max-is p [] = inl refl
 max-is p (t ∷ ts) = grind (arith, max-is (max p t) ts, cases_lt, or_right, or_left, eq-eqb)
@@ -181,7 +181,7 @@ module _ (o : Origin) (q : State) (kept : Keeps o q) where
   drawn-fact : (p : Drawn → Bool) (t : ℕ) (d : Drawn) → list_all p q.drawn ≡ true → drawn_at q t ≡ Some d → p d ≡ true
   drawn-fact p t d all found = find-all (λ (d : Drawn). nat_eq d.commit.timestamp t) p q.drawn d all found
 
-  -- what is drawn lies above what the opening persisted, and below the next timestamp, and isn't committed
+  -- what is drawn is above what the opening persisted, and below the next timestamp, and isn't committed
   pub bounds : (t : ℕ) (d : Drawn) → drawn_at q t ≡ Some d → (time_of d ≡ t) × (o.ruling.persisted < t) × (t < q.next) × (is_committed q.ruling t ≡ false)
   bounds t d found =
       let is : time_of d ≡ t = drawn_at-timestamp q t d found in
@@ -196,7 +196,7 @@ module _ (o : Origin) (q : State) (kept : Keeps o q) where
   drawn-has : (t : ℕ) (d : Drawn) → drawn_at q t ≡ Some d → has_timestamp (drawn_of q) t ≡ true
   drawn-has t d found = commit_at-some (drawn_of q) t d.commit (commit_at-drawn q t ∙ ap (λ (x : Option Drawn). option_map (λ (d : Drawn). d.commit) x) found)
 
-  -- what is drawn up to what is persisted is a long commit of the ruling record, and these are no others
+  -- every commit drawn up to what is persisted is a long commit of the ruling record
   pub drawn-long : (t : ℕ) (d : Drawn) → drawn_at q t ≡ Some d → t ≤ q.ruling.persisted → list_any (nat_eq t) q.ruling.longs ≡ true
   drawn-long t d found le = let b = bounds t d found in uncommitted-long q.ruling t (omega (arith, b.1)) le (no_gap-above o q t kept.numbers.origin b.1) b.3
 
@@ -328,7 +328,7 @@ module _ (o : Origin) (q : State) (kept : Keeps o q) where
   has-window : 0 < q.layout.window
   has-window = has_window q.layout kept.numbers.layout
 
-  -- a well formed record with long commits that are few, rise, and lie up to what it persists and in no gap
+  -- a well formed record with long commits that are few, rise, and are at most what it persists and in no gap
   with-longs : (version gate persisted dirty : ℕ) (gaps : List Gap) (longs : List ℕ) → is_well_formed version (record { gate = gate; persisted = persisted; dirty = dirty; gaps = gaps; longs = [] }) ≡ true
       → length longs ≤ most_longs version → list_all (λ t. nat_le 1 t && nat_le t persisted && not (is_in gaps t)) longs ≡ true → are_rising longs ≡ true
       → is_well_formed version (record { gate = gate; persisted = persisted; dirty = dirty; gaps = gaps; longs = longs }) ≡ true

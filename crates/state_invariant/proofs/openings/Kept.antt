@@ -27,7 +27,7 @@ use Rattle.state_invariant.specs.Shown.{word_of, IsNever, IsHidden, IsNewest, Sh
 use Rattle.state_invariant.proofs.Commits.{committed-bounds}
 use Rattle.state_invariant.proofs.Spelling.{spells-image}
 
--- ---- what an opening finds
+-- ---- what is found on opening
 
 -- what a slot is that isn't bad
 record IsGood (r : Record) (image : Image) (slot : ℕ) : Type 0 where
@@ -75,7 +75,7 @@ held-none a r image history slot dead = cond-false (nat_lt slot a.slots && is_sh
 by_commit-same : (t u : ℕ) → ByCommit t ≡ ByCommit u → t ≡ u
 by_commit-same t u e = cc
 
--- where there is a row, its key's last writer passes what each commit passes
+-- if there is a row, its key's last writer passes what each commit passes
 passes-from : (test : ℕ → Bool) (key : Key) (row : List ℕ) (tables : Tables) (t : ℕ) (history : List Commit)
     → ((row : List ℕ) → tables key ≡ Some row → test t ≡ true) → list_all (λ commit. test commit.timestamp) history ≡ true
     → laid tables history key ≡ Some row → test (fold (λ t commit. cond (writes_key key commit) commit.timestamp t) t history) ≡ true
@@ -88,7 +88,7 @@ passes-last_writer test key row history all e = passes-from test key row no_rows
 narrower : (dirty window limit : ℕ) → dirty + 2 * window < limit → dirty + window < limit
 narrower dirty window limit h = omega (arith, h)
 
--- what the opened record doesn't commit, though it lies below the old dirty timestamp, is 0 or in a gap
+-- what the opened record doesn't commit, though it is below the old dirty timestamp, is 0 or in a gap
 never-parts : (t persisted : ℕ) (i : Bool) → t ≤ persisted → (nat_le 1 t && nat_le t persisted && not i && not false) ≡ false → (t ≡ 0) ⊎ (i ≡ true)
 never-parts t persisted a h e = grind (arith)
 

@@ -49,7 +49,7 @@ module _ (o : Origin) (q : State) (kept : Keeps o q) where
   out-drawn : (t : ℕ) (d : Drawn) → drawn_at q t ≡ Some d → is_in o.ruling.gaps t ≡ false
   out-drawn t d found = out-above t (drawn-facts o q kept t d found).0
 
-  -- 0 lies in none, and what lies in one that isn't swept lies in no swept one
+  -- 0 is in no gap, and what is in an unswept gap is in no swept one
   zero-out : is_in o.ruling.gaps 0 ≡ false
   zero-out = zero-gaps q.layout.version o.ruling kept.numbers.origin.formed
 
@@ -136,7 +136,7 @@ module _ (o : Origin) (q : State) (kept : Keeps o q) where
 
   -- ---- the end of a version
 
-  -- lies in no swept gap
+  -- the end is in no swept gap
   module _ (up : q.failed ≡ false) (value : ℕ → ℕ) (slot : ℕ) (lt : slot < q.layout.slots) where
     abbrev its_end : ℕ
     its_end = value (word_of q.layout slot 1)

@@ -43,7 +43,7 @@ module _ (o : Origin) (q : State) (kept : Keeps o q) where
   origin : KeepsOrigin o q
   origin = kept.numbers.origin
 
-  -- a commit of the life stands above what the opening persisted
+  -- a commit of the life is above what the opening persisted
   pub above-origin : (place : ℕ) (c : Commit) → o.opened ≤ place → slice_get q.history place ≡ Some c → o.ruling.persisted < c.timestamp
   above-origin place c low at = ltb-true o.ruling.persisted c.timestamp (at-fact (λ c. nat_lt o.ruling.persisted c.timestamp) q.history o.opened place c origin.since low at)
 
@@ -257,7 +257,7 @@ module _ (o : Origin) (q : State) (kept : Keeps o q) where
       by_writer (BySession m) by shows = absurd (waiting v.key _ shows)
       by_writer (ByCommit t) by shows = by_drawn t by (drawn_at q t) refl shows
 
-  -- at so many commits, where it doesn't see a free slot
+  -- at n commits, if a free slot isn't seen
   pub slot-seen-at : (value : ℕ → ℕ) (n slot : ℕ) → (o.opened ≤ n) × (n ≤ length q.history) → slot < q.layout.slots
       → (q.held slot ≡ None → counts_at o q n (value (word_of q.layout slot 0)) ≡ true → counts_at o q n (value (word_of q.layout slot 1)) ≡ true) → SlotShows o q value slot
       → counts_at o q n (value (word_of q.layout slot 0)) ≡ true → counts_at o q n (value (word_of q.layout slot 1)) ≡ false → (key : Key) × (row : List ℕ) × IsSeen value n slot key row

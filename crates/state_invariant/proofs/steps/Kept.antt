@@ -1,4 +1,4 @@
--- Every step, whatever it answers, keeps what a state keeps.
+-- Every step, whatever it replies, keeps what a state keeps.
 use Rattle.std.proofs.Common.{◌≡◌, ◌+◌, Bool, true, false, cond, List, [], ◌∷◌, refl, sym, subst, Option, Some, None, arith}
 use Rattle.std.proofs.lemmas.Option.{same_Some}
 use Rattle.base.specs.declared.step.Step.{Step}
@@ -14,7 +14,7 @@ use Rattle.state_invariant.proofs.stamps.Kept.{keeps-stamp}
 use Rattle.state_invariant.proofs.collector.Kept.{keeps-visited}
 use Rattle.state_invariant.proofs.sessions.Steps.{keeps-begin, keeps-put, keeps-delete, keeps-abort, keeps-end}
 
--- ---- another batch in hand, or a device that failed
+-- ---- another batch being written, or a device that failed
 
 abbrev pub with_hand : State → Option Hand → Bool → State
 with_hand q hand failed = record q { hand = hand; failed = failed }

@@ -16,7 +16,7 @@ use Rattle.state_invariant.proofs.openings.Kept.{keeps-opened}
 pub links-same : (a : Layout) (value new : ℕ → ℕ) (slot link : ℕ) → SameRows a value new slot → LinksTo a value slot link → LinksTo a new slot link
 links-same a value new slot link same links = record { read = λ image laid size words. links.read image laid size (λ w low high. words w low high ∙ same.each w low high) }
 
--- where the device failed, nothing is said of a session's version
+-- if the device failed, nothing is claimed about a session's version
 pub links-stores : StoresLink
 links-stores o q value new same links = record { each = λ slot v lt held place t earlier after last low there. by slot v held place after (same slot v lt held) (links.each slot v lt held place t earlier after last low there) }
   where

@@ -101,7 +101,7 @@ shows-draw o q value n kept none shows = grind (arith, shows-session o q value s
 
 -- ---- the committer's ticks
 
--- another batch in hand
+-- another batch being written
 pub shows-hand : (o : Origin) (q : State) (hand : Option Hand) (value : ℕ → ℕ) → SlotsShow o q value → SlotsShow o (record q { hand = hand }) value
 shows-hand o q hand value shows = shows-sessions o q value shows q.sessions q.failed hand (λ n. refl) (λ n in_use. in_use) (λ up. up) (λ down. down)
 

@@ -7,7 +7,7 @@ use Rattle.txn.specs.DrawnCommits.{drawn_at, place_of}
 use Rattle.txn.proofs.InOrder.{apart-there, found-at, not-found}
 use Rattle.txn.proofs.drawn.DrawnCommits.get.Goals as goal
 
--- what lies at the place
+-- what is at the place
 there : (t at : ℕ) (ds : List DrawnCommit) (d : DrawnCommit) → at ≡ place_of t ds → at < length ds → d ≡ get_or ds at d → slice_get ds (place_of t ds) ≡ Some d
 there t at ds d is within lies = subst (λ (n : ℕ). slice_get ds n ≡ Some d) is (slice_get-get_or ds at d within ∙ ap (λ (x : DrawnCommit). Some x) (sym lies))
 

@@ -12,7 +12,7 @@ use Rattle.txn.proofs.Marks.{kept}
 use Rattle.txn.proofs.Entries.{put, entry_at-listed}
 use Rattle.txn.proofs.transactions.Transactions.write.Goals as goal
 
--- what lies at the place of an Active transaction
+-- what is at the place of an Active transaction
 active-at : (slab : Slab Transaction) (places : List (Option ℕ)) (now : List (Option Transaction)) (n place : ℕ) (there : Transaction) (snapshot : Seen) (writes : List Write) → listed slab places ≡ now
     → Some place ≡ entry_at places n → Some there ≡ get slab place → transaction_at now n ≡ Some (Active snapshot writes) → there ≡ Active snapshot writes
 active-at slab places now n place there snapshot writes is at value active = grind (arith, entry_at-listed slab places n)
