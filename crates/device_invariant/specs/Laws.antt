@@ -27,7 +27,7 @@ use Rattle.device_invariant.specs.Upholds.{Upholds}
 
 -- ---- images
 
--- each image that the device may leave stands as between two steps, that of a failed state too
+-- each image that the device may leave is consistent with the state between two steps, also if the state has failed
 abbrev pub EveryImageStands : Type 0
 EveryImageStands = (o : Origin) (q : State) (device : Device) (image : Image) → Upholds o q device → MayLeave device image → StandsAt q image
 
@@ -124,7 +124,7 @@ StampsEnd =
     (o : Origin) (q : State) (slot t : ℕ) (key : Key) (d : Drawn) (old new : Device) → slot < q.layout.slots → q.held slot ≡ Some (newest_of q key) → drawn_at q t ≡ Some d → writes_key key d.commit ≡ true → is_key_stamped d key ≡ false
     → new ≡ stored (word_of q.layout slot 1) t old → Upholds o q old → Upholds o q new
 
--- a begin or an end that lies in a gap which isn't swept is made 0
+-- a begin or an end that is in a gap which isn't swept is made 0
 abbrev pub ZeroingKeeps : Type 0
 ZeroingKeeps =
     (o : Origin) (q : State) (slot w : ℕ) (old new : Device) → q.failed ≡ false → q.swept ≡ false → slot < q.layout.slots → w < 2

@@ -1,4 +1,4 @@
--- Lemmas on the sweep of gaps that an opening makes.
+-- Lemmas on the sweep of gaps while opening.
 pub mod Slots
 pub mod Crashes
 pub mod Hits

@@ -36,14 +36,14 @@ abbrev pub HasEach : List SlotReading → ℕ → List LiveSlot → Type 0
 HasEach readings n live = (slot : ℕ) (reading : SlotReading) (key : Key) → slot < n → slice_get readings slot ≡ Some reading → reading.found ≡ Live key
     → (place : ℕ) × ((s : LiveSlot) × (slice_get live place ≡ Some s) × (s.slot ≡ slot) × (s.key ≡ key))
 
--- none of so many slots is bad, these are free, and the others have these places
+-- none of the first `slots` slots is bad, these are free, and the others have these places
 pub record AreHeld (image : Image) (slots : ℕ) (held : Held) : Type 0 where
   pub good : bad_below image slots ≡ None
   pub free_are : held.free.items ≡ free_below image slots
   pub live_are : held.live.items ≡ live_below image slots
   pub placed_so : HavePlaces held.live.items held.places.entries
 
--- which slots are free and which live, where none is bad, and whether each holds by itself what it should
+-- which slots are free and which are live, if none is bad, and whether each holds by itself what it should
 pub record AreFindings (readings : List SlotReading) (findings : Findings) : Type 0 where
   pub free : (image : Image) → AreReadings image readings → findings.free.items ≡ free_below image (length readings)
   pub live : (image : Image) → AreReadings image readings → findings.live.items ≡ live_below image (length readings)

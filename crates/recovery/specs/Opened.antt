@@ -1,4 +1,4 @@
--- The record that an opening writes, what it leaves alone, and what an opening gives.
+-- The record that opening writes, what opening leaves alone, and what it gives.
 use Rattle.std.specs.Prelude.{◌≡◌, ◌⊎◌, ℕ, ◌+◌, ◌*◌, ◌<◌, ◌≤◌, Bool, false, not, nat_eq, ◌&&◌, if◌then◌else◌, List, [], ◌++◌, length, map, slice_index, Option, Some, None}
 use Rattle.std.specs.List.{range_with_len}
 use Rattle.base.specs.declared.gap.Gap.{Gap}
@@ -29,7 +29,7 @@ pub record HasSlotsOf (before image : Image) : Type 0 where
   pub laid_out : layout_of image ≡ layout_of before
   pub same : (word : ℕ) → 8 + 32 * (layout_of before).places ≤ word → slice_index image word ≡ slice_index before word
 
--- the first fault, or want of memory
+-- the first fault, or lack of memory
 unfoldable pub Refuses : Image → Fault → Type 0
 Refuses image fault = (opening_fault image ≡ Some fault) ⊎ (fault ≡ OutOfMemory)
 
@@ -44,21 +44,21 @@ pub record IsExamined (image : Image) (layout : Layout) (r : Record) (gaps : Opt
 unfoldable pub Examined : Image → Layout → Record → Option (List Gap) → List Bool → List LiveSlot → Type 0
 Examined image layout r gaps free live = IsExamined image layout r gaps free live
 
--- what was examined of an image that opens: beside that, the places of its keys, and what a sweep stores in
+-- what was examined of an image that opens, with the places of its keys and what a sweep stores in
 pub record HasExamined (image : Image) (found : ExaminedValue) : Type 0 where
   pub examined : Examined image found.geometry found.ruling found.gaps found.free.items found.live.items
   pub placed : HavePlaces found.live.items found.places.entries
   pub hits : AreHits image found.geometry found.gaps found.hits.items
 
--- which slots are free at an opening: those that aren't live
+-- which slots are free when the image is opened: those that aren't live
 abbrev pub free_in : Image → List Bool
 free_in image = map (λ slot. not (is_shown (ruling image) image slot)) (range_with_len 0 (layout_of image).slots)
 
--- the word is a begin or an end that lies in a gap, where there are more than eight, so that an opening sweeps it
+-- the word is a begin or an end that is in a gap, and there are more than eight gaps, so that opening sweeps it
 abbrev pub is_swept : Device → ℕ → Bool
 is_swept device word = needs_sweep (image_of device) && is_hit (layout_of (image_of device)) (ruling (image_of device)) device word
 
--- the word is that of the version, which an opening changes
+-- the word is that of the version, which opening changes
 abbrev pub is_updated : Device → ℕ → Bool
 is_updated device word = updates (image_of device) && nat_eq word 1
 
@@ -74,20 +74,20 @@ gap_operations layout r device = if needs_sweep (image_of device) then whole_swe
 abbrev pub today_operations : Layout → Record → Device → List Operation
 today_operations layout r device = gap_operations layout r device ++ record_operations layout (opening_record layout r (gaps_kept (opened_gaps r)))
 
--- the word is none of the record's place, and an opening neither sweeps nor updates it
+-- the word isn't in the record's place, and opening neither sweeps nor updates it
 abbrev pub IsLeftAlone : Device → Layout → Record → ℕ → Type 0
 IsLeftAlone device layout r word = IsOutside (begun layout r) word × (is_swept device word ≡ false) × (is_updated device word ≡ false)
 
--- An opening gives the image its version before it stores anything else: an image that hasn't the version which an opening
--- leaves is still as it was before
+-- Opening gives the image its version before it stores anything else: an image without the version that opening leaves is
+-- still as it was before
 abbrev pub IsUpdatedFirst : Image → Image → Type 0
 IsUpdatedFirst before image = (layout_of image ≡ opened_layout (layout_of before)) ⊎ (image ≡ before)
 
--- from one device to the other lead so many operations of each kind, and none failed
+-- this many operations of each kind lead from one device to the other, and none failed
 abbrev pub MakesAll : Counts → Device → Device → Type 0
 MakesAll counts old new = Makes counts.stores counts.flushes counts.fences 0 old new
 
--- those that an opening of the image makes
+-- those that opening the image makes
 abbrev pub MakesOpening : Image → Device → Device → Type 0
 MakesOpening image old new = MakesAll (opening_counts image) old new
 
@@ -127,21 +127,21 @@ pub record HasOpened (old new : Device) (layout : Layout) (r : Record) (next : �
 abbrev pub total : Counts → ℕ
 total counts = counts.stores + counts.flushes + counts.fences
 
--- how many an opening makes
+-- how many opening makes
 abbrev pub opening_operations : Image → ℕ
 opening_operations image = total (opening_counts image)
 
--- an operation failed, before so many were made
+-- an operation failed before this many were made
 pub record IsCutBefore (most : ℕ) (old new : Device) : Type 0 where
   pub failed : old.failures < new.failures
   pub few : operations_of new < operations_of old + most
 
--- an operation of an opening failed, before as many were made as the opening makes
+-- an operation of opening failed before as many were made as opening makes
 abbrev pub IsCutShort : Device → Device → Type 0
 IsCutShort old new = IsCutBefore (opening_operations (image_of old)) old new
 
--- Why an opening is refused: for its own reason or for want of memory, and then nothing was done to the device; or
--- because one of its operations failed, where the image has no fault
+-- Why opening is refused: for its own reason or for lack of memory, and then nothing was done to the device; or
+-- because one of its operations failed, though the image has no fault
 abbrev pub IsRefusal : Option Fault → Device → Device → Fault → Type 0
 IsRefusal reason old new fault =
     (((reason ≡ Some fault) ⊎ (fault ≡ OutOfMemory)) × (new ≡ old))

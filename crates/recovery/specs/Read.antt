@@ -25,16 +25,16 @@ pub record IsRead (image : Image) (layout : Layout) (r : Record) (rows : List (K
   pub rules : r ≡ ruling image
   pub rows_are : rows ≡ rows_below image (layout_of image).slots
 
--- Of an image that isn't sound the first fault; want of memory only where the superblock, the gates and the ruling
+-- The first fault of an image that isn't sound; lack of memory only if the superblock, the gates and the ruling
 -- record are right
 abbrev pub IsReadRefusal : Image → Fault → Type 0
 IsReadRefusal image fault = (damage image ≡ Some fault) ⊎ ((log_damage image ≡ None) × (fault ≡ OutOfMemory))
 
--- the fault of the superblock, of a gate or of the ruling record; want of memory only where these are right
+-- the fault of the superblock, of a gate or of the ruling record; lack of memory only if these are right
 abbrev pub IsLogRefusal : Image → Fault → Type 0
 IsLogRefusal image fault = (log_damage image ≡ Some fault) ⊎ ((log_damage image ≡ None) × (fault ≡ OutOfMemory))
 
--- the fault of the superblock, of a gate or of the ruling record is the one that is answered, where there is one
+-- the fault of the superblock, of a gate or of the ruling record is the one that is reported, if there is one
 abbrev pub ReportsLogFault : Image → Fault → Type 0
 ReportsLogFault image fault = (log_damage image ≡ Some fault) ⊎ (log_damage image ≡ None)
 

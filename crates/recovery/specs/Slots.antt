@@ -52,7 +52,7 @@ reading_in image slot = record { begin = begin_of image slot; end = end_of image
 unfoldable pub readings_below : Image → ℕ → List SlotReading
 readings_below image n = map (reading_in image) (range_with_len 0 n)
 
--- free at an opening: not live
+-- free when the image is opened: not live
 unfoldable pub is_free : Image → ℕ → Bool
 is_free image slot = not (is_shown (ruling image) image slot)
 
@@ -80,10 +80,10 @@ HasKeys image n has = (key : Key) → has key ≡ is_some (first_below n (λ low
 abbrev pub key_cmp : Key → Key → Ordering
 key_cmp a b = ordering_then (nat_cmp a.table b.table) (nat_cmp a.key b.key)
 
--- want of memory, or this slot is bad
+-- lack of memory, or this slot is bad
 abbrev pub IsVisitFault : Image → ℕ → ℕ → Fault → Type 0
 IsVisitFault image places slot fault = (fault ≡ OutOfMemory) ⊎ ((is_bad image slot ≡ true) × (fault ≡ Damaged (places + slot)))
 
--- want of memory, or the lowest bad slot
+-- lack of memory, or the lowest bad slot
 unfoldable pub IsSlotsFault : Layout → Image → Fault → Type 0
 IsSlotsFault layout image fault = (fault ≡ OutOfMemory) ⊎ (option_map (λ slot. Damaged (layout.places + slot)) (bad_below image layout.slots) ≡ Some fault)

@@ -13,11 +13,11 @@ use Rattle.pmem.specs.Words.{value_of}
 use Rattle.version_slot.specs.Operations.{sweep_operations}
 use Rattle.recovery.specs.declared.slots.SlotReading.{SlotReading}
 
--- the timestamp lies in a gap with which an opening goes on after the record
+-- the timestamp is in a gap with which opening goes on after the record
 abbrev pub lies : Record → ℕ → Bool
 lies r t = is_in (opened_gaps r) t
 
--- the begin or the end that was read lies in a gap
+-- the begin or the end that was read is in a gap
 abbrev pub is_hit_by : Record → SlotReading → Bool
 is_hit_by r reading = lies r reading.begin || lies r reading.end
 
@@ -25,11 +25,11 @@ is_hit_by r reading = lies r reading.begin || lies r reading.end
 unfoldable pub hits_below : Image → ℕ → List Bool
 hits_below image n = map (λ slot. lies_in_gap image 0 slot || lies_in_gap image 1 slot) (range_with_len 0 n)
 
--- these are all slots so, where there are more gaps than a record holds
+-- these are all slots that are hit, if there are more gaps than a record holds
 unfoldable pub AreHits : Image → Layout → Option (List Gap) → List Bool → Type 0
 AreHits image layout gaps hits = gaps ≡ None → hits ≡ hits_below image layout.slots
 
--- the word is a begin or an end, and its timestamp lies in a gap
+-- the word is a begin or an end, and its timestamp is in a gap
 abbrev pub is_hit : Layout → Record → Device → ℕ → Bool
 is_hit a r device word = is_mark a word && lies r (value_of device word)
 
@@ -38,7 +38,7 @@ pub record IsSwept (a : Layout) (r : Record) (old : Device) (word x : ℕ) : Typ
   pub hit : IsTrue (is_hit a r old word)
   pub zero : x ≡ 0
 
--- a slot is swept where its begin or its end lies in a gap
+-- a slot is swept if its begin or its end is in a gap
 abbrev pub slot_operations : Layout → Record → (ℕ → ℕ) → ℕ → List Operation
 slot_operations a r value slot =
     if lies r (value (slot_start a slot)) || lies r (value (slot_start a slot + 1)) then sweep_operations a committer (opened_gaps r) value slot else []

@@ -25,7 +25,7 @@ pub fn clear<D: Pmem>(device: &mut D) -> Result<(), Fault>
     Ok(())
 }
 
-// Stores 0 in so many words from one on.
+// Stores 0 in this many words from the first on.
 fn store_zeros<D: Pmem>(device: &mut D, first: usize, count: usize) -> Result<(), Fault>
     requires fits { first + count < 2 ^ 64 }
     requires within { first + count ≤ (D.state device.old).words }
@@ -39,7 +39,7 @@ fn store_zeros<D: Pmem>(device: &mut D, first: usize, count: usize) -> Result<()
     Ok(())
 }
 
-// Flushes so many lines from one on.
+// Flushes this many lines from the first on.
 fn flush_lines<D: Pmem>(device: &mut D, first: usize, count: usize) -> Result<(), Fault>
     requires fits { first + count < 2 ^ 64 }
     requires within { 8 * (first + count) ≤ (D.state device.old).words }

@@ -1,5 +1,5 @@
-//! All that may refuse an opening is tested before its first operation, and all its memory is taken here, so an opening that is
-//! refused leaves the image as it was. What is wrong with the log comes first, since the log says how the slots are to be
+//! All that may refuse opening is tested before the first operation, and all the memory is taken here, so if opening is
+//! refused, the image is as it was. What is wrong with the log comes first, since the log says how the slots are to be
 //! read.
 
 ghost use Rattle.std.specs.Prelude.{◌≡◌, ◌+◌, ◌*◌, ◌^◌, ◌<◌, ◌≤◌, ◌||◌, nat_le, None, map, IfOk, IfErr};
@@ -30,14 +30,14 @@ use std::thread::Threads;
 pub struct Examined {
     pub geometry: Geometry,
     pub ruling: Record,
-    /// With what the opening adds; none where there are more than eight, which are swept.
+    /// With what opening adds; none if there are more than eight, which are swept.
     pub gaps: Option<Gaps>,
     /// Whether each slot is free.
     pub free: Vec<bool>,
     pub live: Vec<LiveSlot>,
     /// By key the place of its slot in `live`.
     pub places: BTreeMap<Key, usize, Global>,
-    /// Whether the begin or the end of each slot lies in a gap; of none where there are at most eight.
+    /// Whether the begin or the end of each slot is in a gap; empty if there are at most eight.
     pub hits: Vec<bool>,
 }
 
@@ -50,7 +50,7 @@ pub struct Readings {
     pub slots: Vec<SlotReading>,
 }
 
-/// Reads all that an opening asks of an image: the log first, and where that has no fault the slots, in several threads.
+/// Reads all that opening needs of an image: the log first, and if that has no fault the slots, in several threads.
 pub fn read<R: Threads + Sync, D: Pmem + Sync>(
     rt: &R,
     alloc: Global,
@@ -77,7 +77,7 @@ impl Readings {
     ghost use Rattle.std.specs.Prelude.{◌≡◌, IfOk, IfErr};
     ghost use Rattle.base.specs.Images.{Image};
 
-    /// Tests all that an opening asks of the slots that were read, in order.
+    /// Tests all that opening needs of the slots that were read, in order.
     pub fn examine<R: Threads + Sync>(&self, rt: &R, alloc: Global) -> Result<Examined, Fault>
         requires read { (image : Image) × AreOf image self.now }
         ensures ok { IfOk result (λ found. (image : Image) → AreOf image self.now → HasExamined image found) }
@@ -97,7 +97,7 @@ impl Readings {
     }
 }
 
-/// Tests all that an opening asks of an image, in order. Several threads read each slot once.
+/// Tests all that opening needs of an image, in order. Several threads read each slot once.
 pub fn examine<R: Threads + Sync, D: Pmem + Sync>(
     rt: &R,
     alloc: Global,
@@ -119,7 +119,7 @@ pub fn examine<R: Threads + Sync, D: Pmem + Sync>(
     }
 }
 
-// What the readings give an opening, whose slots hold this.
+// What the readings give to opening when their slots hold this.
 fn gather(alloc: Global, readings: &Readings, held: Held) -> Result<Examined, AllocError>
     requires { MayRule readings.now.ruling }
     ensures layout { IfOk result (λ examined. examined.geometry ≡ readings.now.geometry) }

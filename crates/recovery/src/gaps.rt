@@ -13,7 +13,7 @@ use gap_list::GapList;
 use log_area::Record;
 
 /// The gaps with which an image is opened that the record rules: its own, one for each long commit, and what the record
-/// leaves between its persisted and its dirty timestamp, joined where they touch. None where there are more than eight.
+/// leaves between its persisted and its dirty timestamp, joined if they touch. None if there are more than eight.
 pub fn opened_gaps(ruling: Record) -> Option<Gaps>
     requires { MayRule ruling }
     ensures { result ≡ few_gaps ruling }
@@ -81,7 +81,7 @@ fn add_skipped(gaps: &mut GapList, ruling: Record) -> Result<(), Fault>
     Ok(())
 }
 
-/// Whether the timestamp lies in one of the gaps with which an image is opened that the record rules, few or many.
+/// Whether the timestamp is in one of the gaps with which an image is opened that the record rules, few or many.
 pub fn lies_in_gap(ruling: Record, timestamp: Ts) -> bool
     requires { MayRule ruling }
     ensures { result ≡ is_in (opened_gaps ruling) timestamp }

@@ -80,7 +80,7 @@ impl Findings {
     }
 }
 
-// The places of the keys, and what the readings show without regard to keys: where there are many, in two threads. The greater
+// The places of the keys, and what the readings show without regard to keys: if there are many, in two threads. The greater
 // part stays in this one, whose heap has what was freed before.
 fn side_by_side<R: Threads + Sync>(
     rt: &R,
@@ -142,7 +142,7 @@ fn are_fit(readings: &[SlotReading]) -> bool
     readings.iter().all(|reading| !reading.found.is_unfit())
 }
 
-// Which slots are free, where none is bad.
+// Which slots are free, if none is bad.
 fn free_slots(alloc: Global, readings: &[SlotReading]) -> Result<Vec<bool>, AllocError>
     ensures { IfOk result (λ free. (image : Image) → AreReadings image readings.now → free.items ≡ free_below image (length readings.now)) }
 {

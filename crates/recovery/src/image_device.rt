@@ -7,7 +7,7 @@ use base::actor::Actor;
 use base::fault::Fault;
 use pmem::{Pmem, Tally};
 
-/// The words of an image, read where they lie, as a device on which every operation fails.
+/// The words of an image, read in place, as a device on which every operation fails.
 #[derive(Drop)]
 pub struct ImageDevice<'a> {
     words: &'a [u64],

@@ -1,6 +1,6 @@
-//! An opening writes a record before anything is drawn: what the life before may have drawn and not covered becomes a gap, so no
+//! Opening writes a record before anything is drawn: what the life before may have drawn and not covered becomes a gap, so no
 //! timestamp is drawn twice, and versions that carry one of them count for nobody. All that takes memory comes before the first
-//! operation, so an opening that is refused leaves the image as it was.
+//! operation, so if opening is refused, the image is as it was.
 
 ghost use Rattle.std.specs.Prelude.{◌≡◌, ◌+◌, ◌-◌, ◌*◌, ◌^◌, ◌<◌, ◌≤◌, ℕ, List, [], IfOk, IfErr, OnOk, OnErr, MatchResult};
 ghost use Rattle.base.specs.Commits.{Commit};
@@ -57,7 +57,7 @@ pub fn open<R: Threads + Sync, D: Pmem + Drop + Send + Sync>(
     ensures ok { IfOk result (λ opened. HasOpened (D.state device) (D.state opened.device) opened.geometry opened.ruling opened.next opened.free.items opened.live.items) }
     ensures fault { IfErr result (λ e. IsRefusal (opening_fault (image_of (D.state device))) (D.state device) (D.state e.1) e.0) }
 
-    // A fault of the superblock, of a gate or of the ruling record is reported even where memory is wanting.
+    // A fault of the superblock, of a gate or of the ruling record is reported even if memory is refused.
     ensures log { IfErr result (λ e. ReportsLogFault (image_of (D.state device)) e.0) }
 
     // A crash at any moment leaves the same history, under the record that ruled or the one that the opening writes.
@@ -67,7 +67,7 @@ pub fn open<R: Threads + Sync, D: Pmem + Drop + Send + Sync>(
         (λ opened. LeavesOnly (D.state device) (D.state opened.device) (StandsOpening (image_of (D.state device)) history next))
         (λ e. LeavesOnly (D.state device) (D.state e.1) (StandsOpening (image_of (D.state device)) history next)) }
 
-    // Where the version changes, it persists before anything else is stored.
+    // If the version changes, it persists before anything else is stored.
     ensures version { MatchResult result
         (λ opened. LeavesOnly (D.state device) (D.state opened.device) (IsUpdatedFirst (image_of (D.state device))))
         (λ e. LeavesOnly (D.state device) (D.state e.1) (IsUpdatedFirst (image_of (D.state device)))) }
@@ -95,7 +95,7 @@ pub fn open<R: Threads + Sync, D: Pmem + Drop + Send + Sync>(
     }
 }
 
-/// What an opening gives beside the device.
+/// What opening gives besides the device.
 #[derive(Drop)]
 pub struct OpenedImage {
     pub geometry: Geometry,
@@ -184,7 +184,7 @@ impl Examined {
     }
 }
 
-// The gaps to go on with. Where a record can't hold them they are swept, and none is left.
+// The gaps to go on with. If a record can't hold them, they are swept, and none is left.
 fn keep_gaps<D: Pmem>(
     device: &mut D,
     geometry: Geometry,

@@ -1,4 +1,4 @@
-//! An image is read by what an opening reads it by, so what is printed of an image is what its opening would find.
+//! An image is read by the functions that open it, so what is printed about an image is what opening it would find.
 
 ghost use Rattle.std.specs.Prelude.{IfOk, IfErr};
 ghost use Rattle.pmem.specs.Words.{image_of};

@@ -1,4 +1,4 @@
-//! An opening needs the key and the number of a slot alone. Rows are read for whoever prints an image.
+//! Opening needs only the key and the number of a slot. Rows are read only to print an image.
 
 ghost use Rattle.std.specs.Prelude.{◌≡◌, length, map, IfOk};
 ghost use Rattle.base.specs.Images.{Image, layout_of};

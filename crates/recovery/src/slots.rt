@@ -1,5 +1,5 @@
-//! Reading the slots is most of an opening's work, and none of them depends on another, so threads share them. An opening
-//! reads no row, and of a free slot no more than begin and end.
+//! Reading the slots is most of the work when an image is opened, and none depends on another, so threads share them. Opening
+//! reads no row, and of a free slot only its begin and end.
 
 ghost use Rattle.std.specs.Prelude.{◌≡◌, ◌+◌, ◌&&◌, ◌<◌, ◌≤◌, ℕ, not, get_or, length, IfOk};
 ghost use Rattle.base.specs.Layout.{total_words};

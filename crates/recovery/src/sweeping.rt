@@ -1,5 +1,5 @@
-//! A record names eight gaps at most. Where an opening would have more, each begin and end that lies in one becomes 0, and that
-//! persists before a record without gaps is written: under a record that drops a gap, a timestamp that lies in it would count as
+//! A record names eight gaps at most. If opening would leave more, each begin and end that is in one becomes 0, and that
+//! persists before a record without gaps is written: under a record that drops a gap, a timestamp that is in it would count as
 //! committed.
 
 ghost use Rattle.std.specs.Prelude.{◌≡◌, ◌+◌, ◌<◌, ◌||◌, IfOk, IfErr, OnOk, OnErr, map};
@@ -38,8 +38,8 @@ pub fn hit_slots(
     Ok(hits)
 }
 
-/// Stores 0 in each begin and each end that lies in a gap with which the image is opened, flushes the first lines of
-/// these slots, where both stand, and waits until that persists. It reads no slot but those.
+/// Stores 0 in each begin and each end that is in a gap with which the image is opened, flushes the first lines of
+/// these slots, which have both, and waits until that persists. It reads no other slot.
 pub fn sweep<D: Pmem>(
     device: &mut D,
     geometry: Geometry,
@@ -61,7 +61,7 @@ pub fn sweep<D: Pmem>(
     Ok(())
 }
 
-// Stores 0 in the begin and in the end of a slot where they lie in a gap, and then flushes its first line.
+// Stores 0 in the begin and in the end of a slot if they are in a gap, and then flushes its first line.
 fn sweep_slot<D: Pmem>(
     device: &mut D,
     geometry: Geometry,
@@ -82,7 +82,7 @@ fn sweep_slot<D: Pmem>(
     Ok(())
 }
 
-// Stores 0 in a word that lies in a gap.
+// Stores 0 in a word that is in a gap.
 fn zero_in_gap<D: Pmem>(device: &mut D, ruling: Record, word: usize) -> Result<(), Fault>
     requires may_rule { MayRule ruling }
     requires within { word < (D.state device.old).words }

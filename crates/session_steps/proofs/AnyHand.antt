@@ -1,4 +1,4 @@
--- The sessions agree with the plain state whatever is in hand, and whether it failed or not.
+-- The sessions agree with the plain state whichever batch is pending, and whether the state has failed or not.
 use Rattle.std.proofs.Common.{ℕ, Bool, sym, ap, subst, Option, arith}
 use Rattle.std.specs.Prelude.{slice_index_or}
 use Rattle.machine.specs.Machine.{State, Hand, Version, Writer, ByCommit}
@@ -14,7 +14,7 @@ use Rattle.simulation.specs.steps.Moves.{IsSlotOf}
 use Rattle.session_steps.specs.declared.sessions.Sessions.{Sessions}
 use Rattle.session_steps.specs.Shows.{Hidden, plain_of, HasItsSlot, HoldsSession, HoldsDrawn, Agrees, Shows}
 
--- with another batch in hand, or another mark
+-- with another pending batch, or another mark of failure
 abbrev pub hidden_with : Hidden → Option Hand → Bool → Hidden
 hidden_with h hand failed = record h { hand = hand; failed = failed }
 
@@ -54,7 +54,7 @@ module _ (s : Sessions) (h : Hidden) (hand : Option Hand) (failed : Bool) (a : A
     sized = a.sized;
   }
 
--- the sessions show the state with that batch in hand, or that mark, on a device that upholds it
+-- the sessions show the state with that pending batch, or that mark, on a device that upholds it
 pub shows-hand : (s : Sessions) (before now : Device) (q : State) (hand : Option Hand) (shown : Shows s before q) → Upholds shown.hidden.origin (record q { hand = hand }) now → Shows s now (record q { hand = hand })
 shows-hand s before now q hand shown upholds =
     let same = ap (λ (p : State). record p { hand = hand }) shown.plain in

@@ -7,7 +7,7 @@ pub filter-whole : {X : Type 0} (xs : List X) → filter (λ x. true) xs ≡ xs
 filter-whole [] = refl
 filter-whole (x ∷ xs) = ap (λ ys. x ∷ ys) (filter-whole xs)
 
--- an element that passes stands in the whole list
+-- an element that passes is in the whole list
 pub filter-at : {X : Type 0} (p : X → Bool) (xs : List X) (k : ℕ) (d : X) → k < length (filter p xs) → (j : ℕ) × (j < length xs) × (slice_index_or (filter p xs) k d ≡ slice_index_or xs j d) × (p (slice_index_or (filter p xs) k d) ≡ true)
 filter-at p [] k d lt = absurd (omega (arith, lt))
 filter-at p (x ∷ xs) k d lt = by (p x) refl (filter-at p xs) k lt

@@ -32,12 +32,12 @@ covered_by_commits key entry commits = fold (λ entry d. covered_by_all key entr
 abbrev pub HasRoom : List (Key × Entry) → List Write → Type 0
 HasRoom index writes = All (λ write. has_room index write.key ≡ true) writes
 
--- the index of before, with these writes covered
+-- the earlier index, with these writes covered
 pub record CoversWrites (writes : List Write) (old new : List (Key × Entry)) : Type 0 where
   pub entries : (key : Key) → entry_at new key ≡ covered_by_all key (entry_at old key) writes
   pub room : KeepsRoom old new
 
--- the index of before, with these commits covered
+-- the earlier index, with these commits covered
 pub record CoversCommits (commits : List DrawnCommit) (old new : List (Key × Entry)) : Type 0 where
   pub entries : (key : Key) → entry_at new key ≡ covered_by_commits key (entry_at old key) commits
   pub room : KeepsRoom old new
@@ -52,7 +52,7 @@ committed_by ruling drawn = filter (λ d. is_committed ruling d.timestamp) drawn
 abbrev pub left_by : Record → List DrawnCommit → List DrawnCommit
 left_by ruling drawn = filter (λ d. not (is_committed ruling d.timestamp)) drawn
 
--- the batch is in hand, and this record is to cover it
+-- the batch is pending, and this record is to cover it
 pub record IsOf (q : State) (hand : Hand) (ruling : Record) : Type 0 where
   pub in_hand : q.hand ≡ Some hand
   pub target : hand.target ≡ ruling

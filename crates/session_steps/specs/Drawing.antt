@@ -19,7 +19,7 @@ conflict_in entries snapshot writes = find (λ key. is_unseen snapshot (entry_at
 abbrev pub own_lines : Layout → ℕ → List ℕ
 own_lines a slot = map (λ part. slot_start a slot / 8 + part) (range_with_len 0 (version_lines a))
 
--- the line of a version that is ended: the first of its slot, where its end stands
+-- the line of a version that is ended: the first of its slot, which has its end
 abbrev pub ended_lines : Layout → ℕ → List ℕ
 ended_lines a slot = slot_start a slot / 8 ∷ []
 

@@ -10,7 +10,7 @@ use Rattle.txn.specs.declared.transaction.Transaction.TheVariants.{Active}
 use Rattle.txn.specs.Transactions.{transaction_at}
 use Rattle.txn.specs.WriteSets.{HasRoomFor, write_of}
 
--- the slot, if there is one, is one of so many
+-- the slot, if there is one, is one of this many
 abbrev pub fits_slot : ℕ → Option ℕ → Bool
 fits_slot slots None = true
 fits_slot slots (Some slot) = nat_lt slot slots

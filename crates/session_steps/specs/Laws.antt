@@ -1,5 +1,5 @@
--- What follows for whoever lends the sessions to a committer. Each law stands here in words that need no proof, and a public
--- function promises it.
+-- What follows for a caller that lends the sessions to a committer. Each law is stated here in words that need no proof, and a
+-- public function promises it.
 use Rattle.std.specs.Prelude.{◌≡◌, ℕ, Bool, ◌&&◌, nat_eq, List, map, filter, Option, IsTrue}
 use Rattle.std.specs.List.{list_any}
 use Rattle.machine.specs.Machine.{State, Hand, drawn_of}
@@ -12,7 +12,7 @@ use Rattle.dirty_table.specs.Touches.{has, lines_touched}
 use Rattle.session_steps.specs.declared.sessions.Sessions.{Sessions}
 use Rattle.session_steps.specs.Shows.{plain_drawn, line_numbers, HoldsLines, Shows}
 
--- what the sessions show they show with any batch in hand, or as failed, on a device that upholds that
+-- what the sessions show they also show with any pending batch, or as failed, on a device that upholds that state
 pub record ShowsAnyHand : Type 0 where
   pub hand : (s : Sessions) (before now : Device) (q : State) (hand : Option Hand) (shown : Shows s before q) → Upholds shown.hidden.origin (record q { hand = hand }) now → Shows s now (record q { hand = hand })
   pub failed : (s : Sessions) (before now : Device) (q : State) (failed : Bool) (shown : Shows s before q) → Upholds shown.hidden.origin (record q { failed = failed }) now → Shows s now (record q { failed = failed })

@@ -1,4 +1,4 @@
--- What an opening gives to the sessions.
+-- What opening gives to the sessions.
 use Rattle.std.specs.Prelude.{◌≡◌, ℕ, ◌<◌, Bool, true, false, List, [], slice_get, Some, None, is_none, is_some}
 use Rattle.base.specs.declared.key.Key.{Key}
 use Rattle.base.specs.Layout.{Layout}
@@ -33,8 +33,8 @@ ShowsOpened s device a ruling next free = (q : State) → Begins a ruling next f
 
 -- ---- the index
 
--- Of the first so many slots those that aren't free are found: each key of such a slot has one of them, and nothing else is
--- known of any key
+-- Of the first slots, up to this count, those that aren't free are found: each key of such a slot has one of them, and nothing
+-- else is known about any key
 pub record HasFound (image : Image) (free : List Bool) (count : ℕ) (index : List (Key × Entry)) : Type 0 where
   pub nothing_else : (key : Key) → entry_at index key ≡ record blank { newest = (entry_at index key).newest }
   pub newest : (key : Key) (slot : ℕ) → (entry_at index key).newest ≡ Some slot → (slot < count) × (slice_get free slot ≡ Some false) × (key_of image slot ≡ key)

@@ -27,7 +27,7 @@ abbrev pub done : Result ⊤ Fault → SessionReply
 done (Ok nothing) = Done
 done (Err fault) = Refused fault
 
--- the timestamp that was drawn, and none where nothing was written
+-- the timestamp that was drawn, or none if nothing was written
 abbrev pub drawn : Result (Option ℕ) Fault → SessionReply
 drawn (Ok (Some timestamp)) = Drawn timestamp
 drawn (Ok None) = Done
@@ -39,7 +39,7 @@ stamped (Ok true) = Stamped
 stamped (Ok false) = More
 stamped (Err fault) = Refused fault
 
--- how far the commit has come, and that it is done where nothing was written
+-- how far the commit has come; it is done if nothing was written
 abbrev pub polled : Result CommitStatus Fault → SessionReply
 polled (Ok Waits) = Waiting
 polled (Ok (IsCommitted timestamp)) = Committed timestamp

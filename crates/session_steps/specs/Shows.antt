@@ -39,7 +39,7 @@ pub record Hidden : Type 0 where
   pub hand : Option Hand
   pub held : ℕ → Option Version
 
--- the transaction of the plain state, where its snapshot has so many commits
+-- the transaction of the plain state, if its snapshot has this many commits
 abbrev pub plain_session : ℕ → Transaction → Session
 plain_session seen (Active snapshot writes) = Reads seen (plain_writes writes)
 plain_session seen (Drawn t) = Drew t
@@ -69,7 +69,7 @@ pub record HasItsSlot (q : State) (writer : Writer) (write : Write) : Type 0 whe
   pub slot : IsSlotOf q (version_by write.key writer) write.slot
   pub row : is_some write.slot ≡ is_some write.row
 
--- what holds of a session's transaction: its snapshot sees so many commits, and its writes have their slots
+-- what holds of a session's transaction: its snapshot sees this many commits, and its writes have their slots
 abbrev pub HoldsSession : Origin → State → ℕ → ℕ → Option Transaction → Type 0
 HoldsSession o q n seen (Some (Active snapshot writes)) = Sees o q snapshot seen × All (HasItsSlot q (BySession n)) writes
 HoldsSession o q n seen _ = Unit {0}
@@ -121,7 +121,7 @@ pub record HoldsDrawn (s : Sessions) (q : State) (d : DrawnCommit) : Type 0 wher
   pub writes : All (HasItsSlot q (ByCommit d.timestamp)) d.writes
   pub room : All (λ write. has_room s.index write.key ≡ true) d.writes
 
--- the fields agree with the state, where the snapshots see so many commits
+-- the fields agree with the state, if the snapshots see this many commits
 pub record Agrees (s : Sessions) (o : Origin) (seen : ℕ → ℕ) (q : State) : Type 0 where
   pub sessions : (n : ℕ) → HoldsSession o q n (seen n) (transaction_at s.transactions n)
   pub drawn : All (HoldsDrawn s q) s.drawn.commits

@@ -49,9 +49,9 @@ pub record RunsBy (actor : Option ℕ) (old new : Device) : Type 0 where
   pub made : new ≡ after operations old
   pub by_actor : IsTrue (list_all (is_by_actor actor) operations)
 
--- What a step did to its device: a crash within it leaves only such images, at most so many operations succeeded, and each flush
--- and fence was this actor's. The faults that it is refused for: the device's exactly where an operation failed, and any other
--- only where the device is as it was
+-- What a step did to its device: a crash within it leaves only such images, at most this many operations succeeded, and each
+-- flush and fence was this actor's. The faults that it is refused for: the device's exactly if an operation failed, and any other
+-- only if the device is as it was
 pub record HasEffect (before now : Device) (Within : Image → Type 0) (most : ℕ) (by : Option ℕ) (Refuses : Fault → Type 0) : Type 0 where
   pub images : LeavesOnly before now Within
   pub failure : ReportsFailure before now (Refuses DeviceFault)

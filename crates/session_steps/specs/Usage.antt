@@ -9,6 +9,6 @@ use Rattle.machine.specs.Machine.{State}
 abbrev pub free_slots : State → ℕ
 free_slots q = count_below q.layout.slots (λ slot. is_none (q.held slot))
 
--- the list of the covered rows has so many
+-- the list of the covered rows has this length
 abbrev pub CountsRows : State → ℕ → Type 0
 CountsRows q count = (rows : List (Key × List ℕ)) → Lists rows (after q.history) → count ≡ length rows

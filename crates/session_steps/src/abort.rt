@@ -10,7 +10,7 @@ impl Sessions {
     ghost use Rattle.session_steps.specs.Replies.{done};
     ghost use Rattle.session_steps.specs.Steps.{HoldsSome, Takes};
 
-    /// Gives up what a session has written.
+    /// Rolls back what a session has written.
     #[inline(never)]
     pub fn abort(&mut self, session: u8) -> Result<(), Fault>
         requires shown { ∥ HoldsSome self.old ∥₁ }

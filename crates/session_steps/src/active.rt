@@ -14,7 +14,7 @@ pub struct Active<'a> {
     pub writes: &'a WriteSet,
 }
 
-/// A session's transaction isn't one that the step is of. Which fault that is, `bar` says where it is wanted: a fault has room
+/// A session's transaction isn't one that the step applies to. `bar` says which fault that is, when it is needed: a fault has room
 /// for a key, and would be moved from call to call.
 #[derive(Clone, Copy)]
 pub struct Barred;

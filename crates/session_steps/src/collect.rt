@@ -2,7 +2,7 @@
 //! taken from under a reader that began earlier; by the snapshots alone a crash would go back to a record that still reads it.
 //!
 //! The flushes and fences of a visit are the collector's own. A fence completes the flushes of its actor alone: one for the
-//! committer would complete those of the cycle in hand before their turn, and a cycle that counted on the collector's would
+//! committer would complete those of the pending batch's cycle before their turn, and a cycle that relied on the collector's would
 //! store its gate while lines of its batch may still be lost.
 
 ghost use Rattle.std.specs.Prelude.{◌≡◌, ◌<◌};

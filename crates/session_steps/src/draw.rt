@@ -1,5 +1,5 @@
 //! A draw decides a conflict: the first to draw a key wins, covered or not, since what is drawn is never taken back. Later
-//! timestamps may lie behind it by then, and the record names what it commits by timestamps up to a bound. So from here on
+//! timestamps may follow it by then, and the record names what it commits by timestamps up to a bound. So from here on
 //! nothing may fail but the device: all that stamps and covering need is taken before the draw changes anything.
 
 ghost use Rattle.std.specs.Prelude.{◌≡◌, ◌<◌, ℕ, true, All, IfErr, OnOk};
@@ -28,7 +28,7 @@ const LOOKS_A_KEY: usize = 4;
 pub struct Asked {
     /// The least that was last drawn by a commit which the snapshot doesn't cover.
     pub conflict: Option<Key>,
-    /// Whether each has an entry, where none is in conflict.
+    /// Whether each has an entry, if none is in conflict.
     pub all_there: bool,
 }
 
@@ -75,7 +75,7 @@ impl Sessions {
         drawn
     }
 
-    // Draws the next timestamp, against which nothing stands but want of memory. The growths come before any change: room for the
+    // Draws the next timestamp, which only lack of memory can prevent. The growths come before any change: room for the
     // keys in the index, and for the commit among those that are drawn. There is room for the lines since the writes were put.
     #[inline(always)]
     fn draw_next(&mut self, session: u8, all_there: bool) -> Result<Option<Ts>, Fault>

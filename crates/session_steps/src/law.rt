@@ -2,7 +2,7 @@
 
 ghost use Rattle.session_steps.specs.Laws.{ShowsAnyHand, TableHasLines};
 
-/// Which batch is in hand, and whether the device failed, is nothing to the sessions.
+/// What the sessions show doesn't depend on the pending batch, or on a failure of the device.
 pub fn sessions_show_any_hand()
     ensures { ShowsAnyHand }
 {}

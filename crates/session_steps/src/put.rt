@@ -139,7 +139,7 @@ impl Sessions {
     }
 }
 
-// The write of a version that lies in the slot.
+// The write of a version that is in the slot.
 #[inline(always)]
 fn row_write(version: &Version, slot: SlotNo, place: Option<usize>) -> Write
     ensures { result ≡ record { key = version.now.key; row = Some version.now.row; slot = Some slot; place = place } }

@@ -77,7 +77,7 @@ impl Sessions {
                 self.drawn.stamp(timestamp);
                 if is_last { Ok(true) } else { Ok(false) }
             }
-            // The only fault that there is, made anew, so that none is passed on from each store.
+            // The only possible fault, made again here, so that none is passed on from each store.
             Err(_) => Err(Fault::Device),
         }
     }
@@ -101,7 +101,7 @@ fn next_of(timestamp: Ts, commit: &DrawnCommit) -> Option<Unstamped<'_>>
     }
 }
 
-// Stores a timestamp in the begin of the version of a write, and in the end of the one that it ends, where there are such.
+// Stores a timestamp in the begin of a write's version, and in the end of the version that it ends, if it has these.
 #[inline(always)]
 fn stamp_write<D: Pmem>(
     device: &mut D,

@@ -1,9 +1,9 @@
 //! The committer's ticks: which step of the plain machine each operation of a cycle is, and that each image that a device
-//! leaves meanwhile stands. Then what a close does.
+//! leaves meanwhile is consistent with that step. Then what closing does.
 
 ghost use Rattle.simulation.specs.cycles.Laws.{BatchesAreChosen, LinesAreCounted, LinesRise, LinesStay, IdleTicks, ChoosingTicks, RefusedTicks, LineTicks, FenceTicks, OperationTicks, CoveringTicks, FailingTicks, ClosingFlushes, ClosingWrites, ClosesOn};
 
-/// The batch that is chosen keeps what a batch in hand is to keep.
+/// The batch that is chosen keeps what a pending batch has to keep.
 pub fn batches_are_chosen()
     ensures { BatchesAreChosen }
 {}
@@ -18,7 +18,7 @@ pub fn lines_rise()
     ensures { LinesRise }
 {}
 
-/// No step of a session changes which lines the batch in hand touches.
+/// No step of a session changes which lines the pending batch touches.
 pub fn lines_stay()
     ensures { LinesStay }
 {}
@@ -28,7 +28,7 @@ pub fn idle_ticks()
     ensures { IdleTicks }
 {}
 
-/// The first tick of a cycle makes no operation: it takes a batch in hand.
+/// The first tick of a cycle makes no operation: it chooses the batch, which is pending from then on.
 pub fn choosing_ticks()
     ensures { ChoosingTicks }
 {}
@@ -63,17 +63,17 @@ pub fn failing_ticks()
     ensures { FailingTicks }
 {}
 
-/// A close waits until what is drawn persists.
+/// Closing waits until what is drawn persists.
 pub fn closing_flushes()
     ensures { ClosingFlushes }
 {}
 
-/// A close writes the record under which all that is drawn is covered.
+/// Closing writes the record under which all that is drawn is covered.
 pub fn closing_writes()
     ensures { ClosingWrites }
 {}
 
-/// A close that finds a batch in hand covers it first.
+/// Closing covers a pending batch first.
 pub fn closes_on()
     ensures { ClosesOn }
 {}

@@ -23,7 +23,7 @@ pub fn quiet_steps_lead()
     ensures { QuietStepsLead }
 {}
 
-/// A put clears the slot that it takes, and fills its slot. Where an operation fails, the device upholds the failed state.
+/// A put clears the slot that it takes, and fills its slot. If an operation fails, the device upholds the failed state.
 pub fn puts_lead()
     ensures { PutsLead }
 {}
@@ -33,7 +33,7 @@ pub fn puts_count()
     ensures { PutsCount }
 {}
 
-/// A stamp stores its timestamp in the begin of its commit's version, and in the end of the version that this ends. Where
+/// A stamp stores its timestamp in the begin of its commit's version, and in the end of the version that this ends. If
 /// an operation fails, the device upholds the failed state.
 pub fn stamps_lead()
     ensures { StampsLead }

@@ -1,5 +1,5 @@
-//! The collector's visits: which operations they make, where each leads, that every image that a device leaves meanwhile
-//! stands, and what is swept at the end.
+//! The collector's visits: which operations they make, what each leads to, that every image that a device leaves meanwhile is
+//! consistent with the visit, and what is swept at the end.
 
 ghost use Rattle.simulation.specs.visits.Laws.{VisitsKeep, VisitsLead, VisitsCount, SweepsEnd, EndsShowGarbage, VisitsKeepSight};
 
@@ -8,8 +8,8 @@ pub fn visits_keep()
     ensures { VisitsKeep }
 {}
 
-/// A device that makes the operations of a visit upholds the state after it, and each image that it leaves meanwhile stands
-/// within the visit. One that fails upholds the failed state.
+/// A device that makes the operations of a visit upholds the state after it, and each image that it leaves meanwhile is
+/// consistent with the visit. A device that fails upholds the failed state.
 pub fn visits_lead()
     ensures { VisitsLead }
 {}

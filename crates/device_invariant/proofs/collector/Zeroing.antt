@@ -1,4 +1,4 @@
--- The collector makes 0 of a begin or an end that lies in a gap.
+-- The collector makes 0 of a begin or an end that is in a gap.
 use Rattle.std.proofs.Common.{◌≡◌, ◌≢◌, ◌⊎◌, inl, inr, ℕ, zero, suc, ◌<◌, true, false, List, [], refl, sym, ◌∙◌, ap, subst, arith, true≢false, nat_eq}
 use Rattle.std.specs.Prelude.{Option, Some, None, IsTrue, unwrap_or}
 use Rattle.std.specs.List.{list_any}
@@ -41,7 +41,7 @@ module _ (o : Origin) (q : State) (slot : ℕ) (old : Device) (up : q.failed ≡
   was : SlotHolds q old slot
   was = u.holds.slots.each slot lt
 
-  -- ---- what lies in no gap
+  -- ---- what is in no gap
 
   not-zero : (x : ℕ) → is_in q.ruling.gaps x ≡ true → x ≡ 0 → ⊥
   not-zero x gap none = true≢false (sym gap ∙ ap (is_in q.ruling.gaps) none ∙ (zero-facts o q u.keeps).1)

@@ -43,7 +43,7 @@ stage-after a is = grind (arith, lt-ltb, le-ltb)
 same-stage : (a b : WritingStage) → IsStage a → IsStage b → operations_before a ≡ operations_before b → a ≡ b
 same-stage a b of_a of_b same = sym (stage-after a of_a) ∙ ap stage_after same ∙ stage-after b of_b
 
--- ---- the slots lie outside the record's place
+-- ---- the slots are outside the record's place
 
 module _ (q : State) (hand : Hand) (stage : WritingStage) (old new : Device) (staged : IsStage stage) (is : new ≡ applied (operation_of (writing_at q hand stage)) old) (replaces : IsReplacing q.ruling (writing_at q hand stage) old) where
   pub spared : ShrinksSlots q.layout old new

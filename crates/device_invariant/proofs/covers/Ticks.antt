@@ -60,7 +60,7 @@ pub holds-failed : (q : State) (old new : Device) → new ≡ failed old → Hol
 holds-failed q old new is h =
     holds-fails q new (holds-shrink q old new (ap (λ (d : Device). d.words) is) (λ word. failed-shrinks word is) (λ word. behind-failed old new word is) (keeps_log-failed q.layout is) h)
 
--- ---- another batch in hand
+-- ---- another pending batch
 
 slot-with_hand : (q : State) (hand : Option Hand) (device : Device) (slot : ℕ) → SlotHolds q device slot → SlotHolds (record q { hand = hand }) device slot
 slot-with_hand q hand device slot h = grind arith

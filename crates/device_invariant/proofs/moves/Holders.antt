@@ -78,7 +78,7 @@ module _ (q : State) (sessions : ℕ → Option Session) (held : ℕ → Option 
       sweeping = record { over = h.sweeping.over; under_way = h.sweeping.under_way };
     }
 
--- a batch in hand is drawn still
+-- the commits of a pending batch are still drawn
 pub uncovered-hand : (o : Origin) (q : State) → Keeps o q → (hand : Hand) → q.hand ≡ Some hand → (t : ℕ) → drawn_at q t ≡ None → has_timestamp hand.commits t ≡ false
 uncovered-hand o q kept hand in_hand t undrawn = false_from_ne_true (has_timestamp hand.commits t) (λ has.
     let drawn = batch-drawn o q hand kept (kept.numbers.hand hand in_hand) t has in

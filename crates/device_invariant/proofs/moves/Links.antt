@@ -13,7 +13,7 @@ use Rattle.state_invariant.specs.Shown.{word_of}
 use Rattle.state_invariant.proofs.steps.LinksStay.{links-stores}
 use Rattle.device_invariant.proofs.moves.Stores.{others-stored, rest-stored}
 
--- where nothing is stored, each names what it did
+-- if nothing is stored, each link names what it did before
 pub links-shrink : (o : Origin) (q : State) (old new : Device) → ((slot w : ℕ) → slot < q.layout.slots → w < slot_words q.layout.version → value_of new (word_of q.layout slot w) ≡ value_of old (word_of q.layout slot w)) → Links o q (value_of old) → Links o q (value_of new)
 links-shrink o q old new same links = links-stores o q (value_of old) (value_of new) (λ slot v lt held. inl record { each = λ w two low. same slot w lt low }) links
 

@@ -42,7 +42,7 @@ slots-but_one q old new slot others this h = record { each = λ s lt. by_place s
 
 -- ---- the log
 
--- the batch in hand touches no line of the slot
+-- the pending batch touches no line of the slot
 pub record IsUntouched (q : State) (commits : List Commit) (slot : ℕ) : Type 0 where
   pub not_own : is_own commits (q.held slot) ≡ false
   pub not_ended : is_ended q commits (q.held slot) ≡ false

@@ -1,4 +1,4 @@
--- A device that an opening left upholds the opened state.
+-- A device that opening left upholds the opened state.
 use Rattle.std.proofs.Common.{◌≡◌, ◌≢◌, ◌⊎◌, inl, inr, ℕ, ◌<◌, ◌≤◌, true, List, [], length, take, drop, refl, sym, ◌∙◌, ap, subst, arith, true≢false, nat_eq}
 use Rattle.std.specs.Prelude.{Option, Some, None, IsTrue, slice_index}
 use Rattle.std.specs.List.{find}
@@ -59,7 +59,7 @@ module _ (q : State) (device : Device) (fresh : IsFresh q device) (kept : Keeps 
   undrawn : (t : ℕ) (d : Drawn) → drawn_at q t ≡ Some d → ⊥
   undrawn t d found = let none : ◌≡◌ {A = Option Drawn} None (Some d) = sym (ap (find (λ (d : Drawn). nat_eq d.commit.timestamp t)) fresh.drawn) ∙ found in cc none
 
-  -- at an opening the gaps are the record's own
+  -- when an image is opened, the gaps are the record's own
   never-counts : (t : ℕ) → IsNever (origin_of q) q t → NeverCounts q t
   never-counts t a = grind (arith)
 

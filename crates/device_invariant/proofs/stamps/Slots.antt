@@ -42,7 +42,7 @@ module _ (o : Origin) (q : State) (kept : Keeps o q) (t : ℕ) (d : Drawn) (key 
   pub not-last : (other : Key) → t ≢ last_writer q.history other
   not-last other same = let none : ◌≡◌ {A = Option Drawn} None (Some d) = sym (last-undrawn o q kept other) ∙ ap (drawn_at q) (sym same) ∙ found in cc none
 
-  -- the batch in hand has stamped all that it writes, so the commit isn't of it
+  -- the pending batch has stamped all that it writes, so the commit isn't one of its commits
   not-in_batch : (hand : Hand) → KeepsHand q hand → (b : Bool) → has_timestamp hand.commits t ≡ b → b ≡ false
   not-in_batch hand k a is = grind (arith, batch-drawn, all-stamped)
 

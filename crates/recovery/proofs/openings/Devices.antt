@@ -1,4 +1,4 @@
--- What an opening makes of a device.
+-- What opening makes of a device.
 use Rattle.std.proofs.Common.{◌≡◌, ◌⊎◌, inl, inr, ℕ, ◌+◌, ◌-◌, ◌*◌, ◌^◌, ◌<◌, ◌≤◌, Bool, true, false, cond, not, ◌||◌, ◌&&◌, List, [], length, get_or, map, refl, sym, ◌∙◌, ap, subst, arith, nat_le}
 use Rattle.std.specs.Prelude.{Option, None}
 use Rattle.std.specs.List.{range_with_len}
@@ -175,7 +175,7 @@ module _ (old : Device) (rest : IsAtRest old) (layout : Layout) (r : Record) (ga
     follows : IsNextRecord layout r after mid
     follows = record { holds = rest_holds layout r mid kept.rest rules-mid; next = refl; fits = opened-fits (image_of old) layout r gaps free live ex }
 
-    -- the words of the superblock and of the slots lie outside the place
+    -- the words of the superblock and of the slots are outside the place
     outside : (word : ℕ) → 8 + 32 * layout.places ≤ word → IsOutside (begun layout after) word
     outside word le = inr (omega (arith, le, place_below layout after (layout-good layout r (image_of old) rules)))
 

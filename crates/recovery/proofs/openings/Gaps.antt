@@ -1,4 +1,4 @@
--- The gaps of an opening, added by rising timestamp.
+-- The gaps with which an image is opened, added by rising timestamp.
 use Rattle.std.proofs.Common.{◌≡◌, ◌⊎◌, inl, inr, ℕ, zero, suc, ◌+◌, ◌-◌, ◌<◌, ◌≤◌, Bool, true, false, not, ◌&&◌, ◌||◌, nat_eq, nat_lt, nat_le, List, [], ◌∷◌, length, get_or, refl, sym, ◌∙◌, ap, subst, arith}
 use Rattle.std.specs.List.{list_any, list_all}
 use Rattle.std.proofs.lemmas.Bool.{ltb-true, leb-true, lt-ltb, le-leb, eqb-true, eq-eqb, and_parts, and_from, or_cases, or_left, or_right, cases_lt}
@@ -164,7 +164,7 @@ pub record Joined (r : Record) (gaps : List Gap) (last i : ℕ) : Type 0 where
   pub has : HasUpTo r last gaps
   pub at : last ≡ end_of 0 r.gaps i
 
--- ---- what an opening goes on with
+-- ---- what opening goes on with
 
 module _ (r : Record) (may : MayRule r) where
   abbrev lies : ℕ → Bool
@@ -325,7 +325,7 @@ module _ (r : Record) (may : MayRule r) where
         | inr skip ↦ omega (arith, low, ltb-true r.persisted t (and_parts (nat_lt r.persisted t) (nat_lt t r.dirty) skip).0)
       ]
 
-  -- where no gap and no skipped timestamp is, only long commits lie
+  -- if there is no gap and no skipped timestamp in between, only long commits are in these gaps
   longs-between : (above below : ℕ) → below ≤ r.persisted + 1 → ((t : ℕ) → above < t → t < below → In r.gaps t → ⊥) → HasLongsBetween r above below
   longs-between above below low none t up down = both_ways (lies t) (list_any (nat_eq t) r.longs)
       (λ lay. elim (or_cases (is_in r.gaps t || list_any (nat_eq t) r.longs) (nat_lt r.persisted t && nat_lt t r.dirty) (sym (opens.same t) ∙ lay)) [

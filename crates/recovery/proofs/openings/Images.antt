@@ -1,4 +1,4 @@
--- What an image stands for under the record that an opening writes.
+-- What an image stands for under the record that opening writes.
 use Rattle.std.proofs.Common.{◌≡◌, ◌⊎◌, inl, inr, ℕ, ◌<◌, ◌≤◌, true, false, List, [], ◌∷◌, refl, sym, ap, subst, arith}
 use Rattle.std.specs.Prelude.{None, ◌↔◌}
 use Rattle.std.specs.List.{list_all}
@@ -74,7 +74,7 @@ stands-same before image history drawn next r s like alike rules later still =
     covered [] all = refl
     covered (commit ∷ history) all = let parts = and_parts _ _ all in and_from _ _ (still commit.timestamp parts.0) (covered history parts.1)
 
--- the record that an opening of a sound image writes
+-- the record that opening a sound image writes
 abbrev pub record_after : Image → Record
 record_after image = opening_record (layout_of image) (ruling image) (gaps_kept (opened_gaps (ruling image)))
 
@@ -93,7 +93,7 @@ stands-sweeping before image history drawn next s like alike rules = record {
   laid_out = inl like.laid_out;
 }
 
--- what an opening leaves stands for the same history
+-- what opening leaves stands for the same history
 pub stands-opening : (before image : Image) (history drawn : List Commit) (next : ℕ) → Stands before history drawn next → HasSlotsOf (opened_slots before) image
     → IsRuledBy (layout_of before) (ruling before) image ⊎ IsRuledBy (layout_of before) (record_after before) image → StandsOpening before history next image
 stands-opening before image history drawn next s like (inl rules) =

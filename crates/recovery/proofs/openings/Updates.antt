@@ -1,4 +1,4 @@
--- An image that an opening gives the version of today.
+-- An image that opening gives the current version.
 use Rattle.std.proofs.Common.{◌≡◌, ◌≢◌, ◌⊎◌, inl, inr, ℕ, ◌+◌, ◌<◌, ◌≤◌, Bool, true, false, cond, not, ◌&&◌, List, [], ◌∷◌, length, get_or, map, flat_map, refl, sym, ◌∙◌, ap, subst, arith, true≢false}
 use Rattle.std.specs.Prelude.{Option, None}
 use Rattle.std.specs.List.{range_with_len}
@@ -247,7 +247,7 @@ module _ (old mid new : Device) (opens : opening_fault (image_of old) ≡ None) 
   same-counts : record_counts (image_of mid) ≡ record_counts before
   same-counts = ap record_counts updated-is ∙ gone.counts
 
-  -- an opening that is cut short after the update is cut short
+  -- if opening is cut short after the update, it is cut short as a whole
   pub cut-after : IsCutBefore (total (record_counts (image_of mid))) mid new → IsCutShort old new
   cut-after cut = grind (arith, same-counts) steps 800000
 

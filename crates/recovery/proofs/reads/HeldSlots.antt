@@ -199,7 +199,7 @@ are-apart : (image : Image) (n : ℕ) → bad_below image n ≡ None → AreApar
 are-apart image zero good = subst AreApart (sym (live-none image)) (λ i j d lt within. absurd (omega (arith, within)))
 are-apart image (suc n) good = subst (λ (k : ℕ). AreApart (live_below image k)) (add-one n) (apart-more image n good (are-apart image n (fewer-good image n good)))
 
--- the keys of live slots differ, where none is bad
+-- the keys of live slots differ if no slot is bad
 pub distinct-good : (image : Image) (n : ℕ) → bad_below image n ≡ None → IsDistinct (eq_by_cmp key_cmp) (map (λ (s : LiveSlot). s.key) (live_below image n))
 distinct-good image n good = IsDistinct-from_AllPairs same-key (map (λ (s : LiveSlot). s.key) (live_below image n)) (are-apart image n good)
 
@@ -332,7 +332,7 @@ module _ (image : Image) (n : ℕ) (readings : List SlotReading) (are : readings
   count : length readings ≡ n
   count = ap (λ (xs : List SlotReading). length xs) are ∙ readings-size image n
 
-  -- where there are as many keys as live slots, and no slot is bad by itself, none is bad
+  -- if there are as many keys as live slots, and no slot is bad by itself, no slot is bad
   pub none-bad : length places.entries ≡ length live.items → All (λ reading. is_unfit reading.found ≡ false) readings → HasEach readings (length readings) live.items → bad_below image n ≡ None
   none-bad size fit each =
       all-good image n readings are fit live.items places.entries (subst (λ (k : ℕ). HasEach readings k live.items) count each) (have-places live.items places made (counted live.items places made size))

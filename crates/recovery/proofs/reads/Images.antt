@@ -52,11 +52,11 @@ module _ (layout : Layout) (r : Record) (image : Image) (rules : IsRuledBy layou
   unfolding bad_below
   is-read none rows are = grind (arith, no-damage) steps 800000
 
--- what is answered where an image was examined
+-- what is reported if an image was examined
 pub tells-examined : (image : Image) (layout : Layout) (r : Record) (gaps : Option (List Gap)) (free : List Bool) (live : List LiveSlot) → Examined image layout r gaps free live → (fault : Fault) → ReportsLogFault image fault
 tells-examined image layout r gaps free live ex = tells-later layout r image (is image layout r gaps free live ex).rules
 
--- want of memory is all that a sound image is refused for
+-- a sound image is refused only for lack of memory
 pub memory-read : (image : Image) → IsSound image → IsReadRefusal image OutOfMemory
 memory-read image sound = inr (log-sound (log_damage image) refl, refl)
   where

@@ -183,7 +183,7 @@ module _ (device : Device) (layout : Layout) (r : Record) (slot : ℕ) (size : d
   fits-words : IsOrderly device → (w : ℕ) → get_or (image_of device) w 0 < 2 ^ 64
   fits-words orderly w = grind (arith, cases_lt, word-at, get_or_past, length-image) steps 800000
 
-  -- where nothing can be read, the words hold no version
+  -- if nothing can be read, the words hold no version
   pub none-held : IsOrderly device → ((v : Version) → IsVersion layout (slot_at layout slot (value_of device)) v → ⊥) → is_misfit (image_of device) slot ≡ true
   none-held orderly none = by (is_misfit (image_of device) slot) refl
     where

@@ -1,4 +1,4 @@
--- What a sweep makes of a device, and an opening of one whose gaps are swept where a record can't hold them.
+-- What a sweep makes of a device, and how an image is opened whose gaps are swept because a record can't hold them.
 use Rattle.std.proofs.Common.{◌≡◌, ◌≢◌, ◌⊎◌, inl, inr, ℕ, zero, suc, ◌+◌, ◌-◌, ◌*◌, ◌/◌, ◌<◌, ◌≤◌, Bool, true, false, cond, ◌&&◌, ◌||◌, List, [], ◌∷◌, ◌++◌, flat_map, get_or, refl, sym, ◌∙◌, ap, subst, arith, true≢false, length, nat_lt}
 use Rattle.std.specs.List.{Contains, range_with_len}
 use Rattle.std.proofs.Math.Nat.{mul-le-mul_left}
@@ -159,7 +159,7 @@ module _ (a : Layout) (r : Record) (start : Device) where
   kept-old : (word : ℕ) → is_hit a r start word ≡ false → StoreOnly (IsElsewhere word) (whole_sweep a r value)
   kept-old word none = store-weaker (λ other x this same. true≢false (sym this.hit ∙ ap (is_hit a r start) (sym same) ∙ none)) (whole_sweep a r value) whole-only
 
-  -- ---- a begin or an end that lies in a gap
+  -- ---- a begin or an end that is in a gap
 
   module _ (size : start.words ≡ total_words a) where
     record IsOfSlot (word : ℕ) : Type 0 where
@@ -380,7 +380,7 @@ gaps-only layout r old = grind (arith, store-weaker, whole-only, All-nil) steps 
 abbrev counts_at : Image → Bool → Counts
 counts_at image b = cond b (record { stores = 32 + words_swept image; flushes = 5 + lines_swept image; fences = 3 }) (record { stores = 32; flushes = 5; fences = 2 })
 
--- with those of a record they are those of an opening
+-- with those of a record they are those of opening
 abbrev AreCounts : List Operation → Counts → Type 0
 AreCounts ops counts = (32 + count_of one_store ops ≡ counts.stores) × (5 + count_of one_flush ops ≡ counts.flushes) × (2 + count_of one_fence ops ≡ counts.fences)
 

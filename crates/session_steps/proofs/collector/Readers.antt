@@ -33,6 +33,6 @@ inactive-covered t a inactive = grind (arith)
 abbrev pub CoverBelow : List (Option Transaction) → ℕ → ℕ → Type 0
 CoverBelow ts t from = (k : ℕ) → 2 ≤ k → k < from → is_covered_in t (transaction_at ts k) ≡ true
 
--- where there is no next that is Active, that of each does
+-- if no later transaction is active, the snapshot of each one covers it
 pub covers-past : (ts : List (Option Transaction)) (t from : ℕ) → CoverBelow ts t from → ((n : ℕ) → from ≤ n → is_active (transaction_at ts n) ≡ false) → each_covers ts t ≡ true
 covers-past ts t from below none = grind (arith, nat_tests, each-covers, inactive-covered) steps 800000

@@ -130,9 +130,9 @@ draws s h n u snapshot writes numbers ts commits grown index dirty holds at some
     drawn-is : ◌≡◌ {A = InFlight} (record { commits = s.drawn.commits ++ record { session = n; timestamp = s.numbers.next; writes = writes; stamped = 0 } ∷ []; spare = commits.spare }) commits
     drawn-is = λ i. record { commits = sym (pushed ∙ ap (λ (k : ℕ). s.drawn.commits ++ record { session = n; timestamp = k; writes = writes; stamped = 0 } ∷ []) now) i; spare = commits.spare }
 
--- ---- where memory is wanted
+-- ---- if memory is needed
 
--- what agrees where the index has got room and the list of drawn commits too
+-- what agrees once the index has room, and the list of drawn commits too
 agrees-grown : (s : Sessions) (h : Hidden) (spare : ℕ) (index : List (Key × Entry)) → ((key : Key) → entry_at index key ≡ entry_at s.index key) → ((key : Key) → has_room s.index key ≡ true → has_room index key ≡ true) → Agrees s h.origin h.seen (plain_of s h)
     → Agrees (record s { index = index; drawn = record { commits = s.drawn.commits; spare = spare } }) h.origin h.seen (plain_of (record s { index = index; drawn = record { commits = s.drawn.commits; spare = spare } }) h)
 agrees-grown s h spare index same kept agrees = record {

@@ -39,7 +39,7 @@ use Rattle.session_steps.proofs.CodeTests.{same-drawers}
 
 -- ---- writes, one after another
 
--- what the first writes lay over the tables
+-- the tables, overlaid with the first writes
 abbrev pub laid : ℕ → List Write → Tables → Tables
 laid n writes tables = overlaid (plain_writes (take n writes)) tables
 

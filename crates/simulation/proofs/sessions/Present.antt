@@ -21,7 +21,7 @@ module _ (o : Origin) (q : State) (kept : Keeps o q) where
   origin : KeepsOrigin o q
   origin = kept.numbers.origin
 
-  -- what lies in no gap of the record's and in no swept one, lies in none of the opening's
+  -- what is in no gap of the record and in no swept gap is in no gap with which the image was opened
   no-gap : (t : ℕ) → IsOutOfSwept o q t → not (is_in q.ruling.gaps t) ≡ true → not (is_in o.ruling.gaps t) ≡ true
   no-gap t out is = grind (arith)
 

@@ -1,4 +1,4 @@
--- Where a visit leads.
+-- What a visit leads to.
 use Rattle.std.proofs.Common.{◌≡◌, ◌≢◌, ◌⊎◌, inl, inr, ℕ, suc, zero, ◌+◌, ◌/◌, ◌<◌, ◌≤◌, Bool, true, false, cond, not, List, [], ◌∷◌, ◌++◌, take, refl, sym, ◌∙◌, ap, subst, arith, true≢false}
 use Rattle.std.specs.Prelude.{Option}
 use Rattle.std.proofs.lemmas.Bool.{cases_eq, and_parts, ltb-true, ltb-false, not-true}
@@ -35,7 +35,7 @@ use Rattle.simulation.proofs.visits.WithoutOperations.{upholds-moved}
 
 -- ---- whether a sweep is due
 
--- no gap stands, or they are swept
+-- there is no gap, or the gaps are swept
 not-sweeping : (q : State) → is_sweeping q ≡ false → (q.swept ≡ true) ⊎ (q.ruling.gaps ≡ [])
 not-sweeping q is = grind (arith) steps 800000
 
@@ -142,7 +142,7 @@ module _ (o : Origin) (q : State) (up : q.failed ≡ false) (unswept : q.swept �
       )
       by false out = subst (λ (ops : List Operation). Along (IsZeroing o q slot) ops device) (sym (zeroes-by w false out)) z
 
-  -- the word then lies in no gap, and the other one has its value
+  -- the word is then in no gap, and the other one has its value
   zeroes-out : (w : ℕ) (device : Device) → is_in q.ruling.gaps 0 ≡ false → value_of device (word_of q.layout slot w) ≡ value (word_of q.layout slot w) → is_in q.ruling.gaps (value_of (after (zeroes w) device) (word_of q.layout slot w)) ≡ false
   zeroes-out w device none same = grind (arith)
 
@@ -189,7 +189,7 @@ module _ (o : Origin) (q : State) (up : q.failed ≡ false) (unswept : q.swept �
         subst (IsReadyIn collector) (sym (history-flushed_same collector line two (word_of q.layout slot w) (same-line q.layout slot w low)))
         (ready-marked collector (two.history (word_of q.layout slot w)) (value_of two (word_of q.layout slot w)) (zeroed.there w low))
 
-    -- the collector's fence would leave the values alone, which lie in no gap
+    -- the collector's fence would leave the values alone, which are in no gap
     clean : IsSlotOutOfGaps q (fenced collector last) slot
     clean w low = record {
       each = λ x there.

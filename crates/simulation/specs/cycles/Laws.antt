@@ -1,4 +1,4 @@
--- What follows for every life. Each law stands here in words that need no proof, and a public function promises it.
+-- What follows for every life. Each law is stated here in words that need no proof, and a public function promises it.
 use Rattle.std.specs.Prelude.{◌≡◌, ℕ, ◌+◌, ◌^◌, ◌<◌, true, false, List, [], ◌∷◌, length, slice_get, Some, None, IsTrue}
 use Rattle.std.specs.List.{list_any}
 use Rattle.base.specs.declared.fault.Fault.{Fault}
@@ -33,7 +33,7 @@ use Rattle.simulation.specs.cycles.Closing.{closing_record, IsClosing, AreFlushe
 
 -- ---- the batch
 
--- the batch that is chosen keeps what a batch in hand is to keep
+-- the batch that is chosen keeps what a pending batch has to keep
 abbrev pub BatchesAreChosen : Type 0
 BatchesAreChosen = (o : Origin) (q : State) → Keeps o q → KeepsHand q (taken_in_hand q)
 
@@ -48,7 +48,7 @@ pub record LinesRise : Type 0 where
   pub each : (q : State) (commits : List Commit) (line : ℕ) → is_line_of line (line_numbers q commits) ≡ list_any (λ commit. is_line_of line (line_numbers q (commit ∷ []))) commits
   pub one : (xs ys : List ℕ) → IsTrue (are_rising xs) → IsTrue (are_rising ys) → ((line : ℕ) → is_line_of line xs ≡ is_line_of line ys) → xs ≡ ys
 
--- the lines of the batch in hand stay over each step of a session
+-- the lines of the pending batch stay over each step of a session
 abbrev pub LinesStay : Type 0
 LinesStay = (o : Origin) (q : State) (step : Step) (reply : Reply) (q' : State) (hand : Hand) → Keeps o q → q.hand ≡ Some hand → IsTrue (is_no_tick step) → Stepped q step reply q'
     → lines_in q' hand.commits ≡ lines_in q hand.commits
@@ -64,14 +64,14 @@ abbrev pub ChoosingTicks : Type 0
 ChoosingTicks = (o : Origin) (q : State) (device : Device) → IsOrderly device → refusal q CommitTick ≡ None → q.hand ≡ None → is_idle q ≡ false → Upholds o q device
     → Ticks o q (record q { hand = Some (taken_in_hand q) }) (Ticked Chosen) device device
 
--- the tick is refused, also for want of memory where it chooses, and nothing changes
+-- the tick is refused, also for lack of memory if it chooses, and nothing changes
 pub record RefusedTicks : Type 0 where
   pub refused : (o : Origin) (q : State) (device : Device) (fault : Fault) → IsOrderly device → refusal q CommitTick ≡ Some fault → Upholds o q device → Ticks o q q (Refused fault) device device
   pub memory : (o : Origin) (q : State) (device : Device) → IsOrderly device → refusal q CommitTick ≡ None → q.hand ≡ None → is_idle q ≡ false → Upholds o q device → Ticks o q q (Refused OutOfMemory) device device
 
--- ---- ticks of a batch in hand
+-- ---- ticks of a pending batch
 
--- a device that works has this batch in hand, after so many ticks
+-- a device that works has this pending batch, after this many ticks
 pub record HasInHand (o : Origin) (q : State) (hand : Hand) (made : ℕ) (device : Device) : Type 0 where
   pub works : q.failed ≡ false
   pub in_hand : q.hand ≡ Some hand
@@ -105,7 +105,7 @@ FailingTicks = (o : Origin) (q : State) (hand : Hand) (old new : Device) → IsO
 
 -- ---- closing
 
--- where nothing is in hand and all that is drawn is stamped, its lines may be flushed, one after the other, and fenced
+-- if no batch is pending and all that is drawn is stamped, its lines may be flushed, one after the other, and fenced
 pub record ClosingFlushes : Type 0 where
   pub begins : (q : State) (device : Device) → AreFlushed q device 0
   pub line : (o : Origin) (q : State) (i : ℕ) (line : Line) (old new : Device) → IsOrderly old → IsOrderly new → IsClosing o q old → slice_get (lines_in q (drawn_of q)) i ≡ Some line
@@ -114,8 +114,8 @@ pub record ClosingFlushes : Type 0 where
       → AreFlushed q old (length (lines_in q (drawn_of q))) → IsClosingOn o q old new × HasPersisted q new
   pub failing : (o : Origin) (q : State) (old new : Device) → IsOrderly old → IsOrderly new → IsClosing o q old → new ≡ failed old → LeavesOnly old new (StandsClosing q)
 
--- The last record follows the one that rules; while it is written one of the two rules, and each image stands as within the
--- close; once it holds, each stands as after it
+-- The last record follows the one that rules. While it is written, one of the two rules, and each image is consistent with
+-- closing; once it holds, each image is consistent with the state after closing
 pub record ClosingWrites : Type 0 where
   pub follows : (o : Origin) (q : State) (device : Device) → IsClosing o q device → closing_gate q < 2 ^ 62 → IsNextRecord q.layout q.ruling (closing_record q) device
   pub images : (o : Origin) (q : State) (old new : Device) → IsClosing o q old → HasPersisted q old → closing_gate q < 2 ^ 62 → Spares (IsOutside (begun q.layout (closing_record q))) old new
@@ -123,8 +123,8 @@ pub record ClosingWrites : Type 0 where
   pub closed : (o : Origin) (q : State) (old new : Device) → IsClosing o q old → HasPersisted q old → closing_gate q < 2 ^ 62 → Spares (IsOutside (begun q.layout (closing_record q))) old new
       → HoldsRecord q.layout (closing_record q) new → (image : Image) → MayLeave new image → StandsClosed q image
 
--- A close goes on from the state after a tick of the batch in hand, and after a stamp; and each image that is left within one
--- of these, or where it fails, stands as within the close
+-- Closing goes on from the state after a tick of the pending batch, and after a stamp. Each image that is left within one
+-- of these, also if it fails, is consistent with closing
 pub record ClosesOn : Type 0 where
   pub tick : (o : Origin) (q q' : State) (hand : Hand) (reply : Reply) → Keeps o q → q.hand ≡ Some hand → q.failed ≡ false → Stepped q CommitTick reply q' → q'.failed ≡ false → ClosesAs q q'
   pub ticking : (q q' : State) (hand : Hand) (reply : Reply) (image : Image) → q.hand ≡ Some hand → q.failed ≡ false → Stepped q CommitTick reply q' → StandsWithin q q' image → StandsClosing q image

@@ -1,4 +1,4 @@
--- What follows for sessions. Each law stands here in words that need no proof, and a public function promises it.
+-- What follows for sessions. Each law is stated here in words that need no proof, and a public function promises it.
 use Rattle.std.specs.Prelude.{◌≡◌, ℕ, ◌≤◌, Bool, true, false, not, length, map, filter, take, drop, ◌++◌, slice_index, Option, Contains}
 use Rattle.std.specs.List.{list_any}
 use Rattle.base.specs.declared.key.Key.{Key}
@@ -24,7 +24,7 @@ use Rattle.simulation.specs.sessions.Sees.{Sees, SeesBegins, CoversFreed, ReadsB
 abbrev pub PresentSees : Type 0
 PresentSees = (o : Origin) (q : State) → Keeps o q → Sees o q (seen_by q.ruling) (length q.history)
 
--- a snapshot of so many commits stays one over every step
+-- a snapshot of this many commits stays one over every step
 abbrev pub StepsKeepSight : Type 0
 StepsKeepSight =
     (o : Origin) (q q' : State) (step : Step) (reply : Reply) (snapshot : Seen) (begun : ℕ) → Keeps o q → begun ≤ length q.history → Stepped q step reply q' → Sees o q snapshot begun
@@ -60,7 +60,7 @@ Conflicts =
 abbrev pub is_covered_by : Record → Drawn → Bool
 is_covered_by r d = is_committed r d.commit.timestamp
 
--- A batch in hand is of those drawn commits that its record commits; the others stay drawn, the last commit of the life on
+-- A pending batch has exactly the drawn commits that its record commits; the others stay drawn, the last commit of the life on
 -- each key stays, and on each key that the batch writes its commit's version is the newest
 pub record CoversByRecord (o : Origin) (q : State) (hand : Hand) : Type 0 where
   pub batch : hand.commits ≡ map (λ d. d.commit) (filter (is_covered_by hand.target) q.drawn)

@@ -32,11 +32,11 @@ StopsCount =
 
 -- ---- steps that store nothing
 
--- a refusal, also one for want of memory: the state and the device stay
+-- a refusal, also one for lack of memory: the state and the device stay
 abbrev pub RefusalsLead : Type 0
 RefusalsLead = (o : Origin) (q : State) (device : Device) → IsOrderly device → Upholds o q device → Leads o q q device device
 
--- a session's step that stores nothing, whatever it answers
+-- a session's step that stores nothing, whatever it returns
 abbrev pub QuietStepsLead : Type 0
 QuietStepsLead =
     (o : Origin) (q : State) (step : Step) (reply : Reply) (q' : State) (device : Device) → IsOrderly device → is_quiet step ≡ true → Stepped q step reply q' → Upholds o q device

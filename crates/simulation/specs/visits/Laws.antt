@@ -1,4 +1,4 @@
--- What follows for every life. Each law stands here in words that need no proof, and a public function promises it.
+-- What follows for every life. Each law is stated here in words that need no proof, and a public function promises it.
 use Rattle.std.specs.Prelude.{◌≡◌, ℕ, ◌<◌, ◌≤◌, true, false, length, Some}
 use Rattle.base.specs.Commits.{Writes}
 use Rattle.machine.specs.Machine.{State, Active, Version}
@@ -44,6 +44,6 @@ EndsShowGarbage =
     → ((n begun : ℕ) (writes : Writes) → q.sessions n ≡ Some (Active begun writes) → Sees o q (snapshots n) begun) → slot < q.layout.slots → q.held slot ≡ Some v
     → is_covered_by_all q snapshots (value_of device (word_of q.layout slot 1)) ≡ is_garbage q slot
 
--- a snapshot of so many commits stays one over a visit
+-- a snapshot of this many commits stays one over a visit
 abbrev pub VisitsKeepSight : Type 0
 VisitsKeepSight = (o : Origin) (q : State) (snapshot : Seen) (begun : ℕ) → Keeps o q → begun ≤ length q.history → Sees o q snapshot begun → Sees o (visited q) snapshot begun

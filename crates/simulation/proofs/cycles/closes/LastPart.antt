@@ -1,4 +1,4 @@
--- The last part of a close: what is drawn is made to persist, and the record that covers it is written.
+-- The last part of closing: what is drawn is made to persist, and the record that covers it is written.
 use Rattle.std.proofs.Common.{◌≡◌, inl, inr, ℕ, zero, suc, ◌+◌, ◌-◌, ◌^◌, ◌<◌, ◌≤◌, true, cond, ◌||◌, List, [], ◌∷◌, length, take, refl, sym, ◌∙◌, ap, subst, arith}
 use Rattle.std.specs.Prelude.{Option, Some, is_some, slice_get, nat_eq}
 use Rattle.std.proofs.lemmas.Bool.{or_cases, cases_lt}
@@ -82,7 +82,7 @@ closing-flushes = record {
   failing = λ o q old new orderly orderly' c is. leaves-failed (StandsClosing q) orderly orderly' is (stands o q old c.upholds);
 }
 
--- ---- the batch of a close is the one that would be chosen
+-- ---- the batch of closing is the one that would be chosen
 
 module _ (o : Origin) (q : State) (device : Device) (c : IsClosing o q device) where
   kept : Keeps o q
@@ -192,7 +192,7 @@ module _ (o : Origin) (q : State) (device : Device) (c : IsClosing o q device) w
 
 -- ---- the record
 
--- no slot lies in the place that is written
+-- no slot is in the place that is written
 slot-outside : (q : State) (slot w : ℕ) (o : Origin) → Keeps o q → IsOutside (begun q.layout (closing_record q)) (word_of q.layout slot w)
 slot-outside q slot w o kept = inr (omega (arith, place_below q.layout (closing_record q) kept.numbers.layout))
 

@@ -1,4 +1,4 @@
--- From which state a close goes on, after a tick or a stamp.
+-- From which state closing goes on, after a tick or a stamp.
 use Rattle.std.proofs.Common.{◌≡◌, ◌⊎◌, inl, inr, ℕ, ◌+◌, ◌-◌, Bool, true, false, not, ◌||◌, List, [], ◌∷◌, ◌++◌, map, filter, refl, sym, ◌∙◌, ap, subst, arith, append_assoc, true≢false}
 use Rattle.std.specs.Prelude.{Option, Some, Contains, if◌then◌else◌}
 use Rattle.std.proofs.lemmas.Bool.{or_left}
@@ -23,7 +23,7 @@ use Rattle.simulation.specs.cycles.Laws.{ClosesOn}
 use Rattle.simulation.proofs.cycles.closes.Covers.{one-is, among, at-first, second-at, closing-last, within-closing, within-same}
 use Rattle.simulation.proofs.cycles.covers.Ticks.{refusal-in_hand}
 
--- what is drawn, covered and in hand stays
+-- what is drawn, covered and pending stays
 closes-same : (q q' : State) → q'.layout ≡ q.layout → drawn_of q' ≡ drawn_of q → q'.next ≡ q.next → covers_at q' ≡ covers_at q → closed q' ≡ closed q → ClosesAs q q'
 closes-same q q' layout drawn next covers last = grind arith
 
@@ -47,7 +47,7 @@ filter-drawn : (p : Commit → Bool) (ds : List Drawn) → map (λ (d : Drawn). 
 filter-drawn p [] = refl
 filter-drawn p (d ∷ ds) = grind (arith, filter-drawn p ds)
 
--- gaps stand as they did, or are dropped once they are swept
+-- the gaps are as they were, or are dropped once they are swept
 gaps-dropped : (q : State) (gaps : List Gap) → (gaps ≡ q.ruling.gaps) ⊎ ((q.swept ≡ true) × (gaps ≡ [])) → (if q.swept then [] else gaps) ≡ (if q.swept then [] else q.ruling.gaps)
 gaps-dropped q gaps a = grind (arith)
 

@@ -1,4 +1,4 @@
--- The lines of the batch in hand stay over each step of a session.
+-- The lines of the pending batch stay over each step of a session.
 use Rattle.std.proofs.Common.{◌≡◌, ℕ, zero, suc, ◌+◌, ◌<◌, ◌≤◌, Bool, true, false, cond, ◌&&◌, List, refl, sym, ◌∙◌, ap, arith}
 use Rattle.std.specs.Prelude.{Option, Some, None, nat_eq}
 use Rattle.std.specs.List.{range_with_len, flat_map, list_any}

@@ -1,4 +1,4 @@
--- Each tick is a step of the plain machine, and each image that it leaves stands.
+-- Each tick is a step of the plain machine, and each image that it leaves is consistent with that step.
 use Rattle.std.proofs.Common.{◌≡◌, ◌≢◌, inl, inr, ℕ, ◌+◌, ◌^◌, ◌<◌, ◌≤◌, true, false, cond, [], ◌∷◌, ◌++◌, length, refl, sym, ◌∙◌, ap, subst, arith, true≢false}
 use Rattle.std.specs.Prelude.{Option, Some, None, is_some, slice_get, IsTrue, Contains}
 use Rattle.std.proofs.lemmas.Bool.{leb-false}
@@ -99,7 +99,7 @@ one-written q hand FlushGate device un = one-flushed _ _ device
 one-written q hand FenceGate device un = one-fenced _ device
 one-written q hand Done device un = absurd (un refl)
 
--- the covering record of the batch in hand is within the step, and so is each image after the operation
+-- the covering record of the pending batch is within the step, and so is each image after the operation
 one-leads : (o : Origin) (q q' : State) (old new : Device) → IsOrderly old → IsOrderly new → IsOne old new → Upholds o q old → Upholds o q' new
     → ((image : Image) → MayLeave new image → StandsWithin q q' image) → Leads o q q' old new
 one-leads o q q' old new orderly orderly' one before u after = record {
@@ -107,7 +107,7 @@ one-leads o q q' old new orderly orderly' one before u after = record {
   images = leaves_one old new (StandsWithin q q') one.continues one.clock orderly orderly' (λ image may. StandsAt-within q q' image (every-image-stands o q old image before may)) after;
 }
 
--- ---- ticks of a batch in hand
+-- ---- ticks of a pending batch
 
 hand-within : (q : State) (hand : Hand) (image : Image) → StandsAt (record q { hand = Some hand }) image → StandsWithin q (record q { hand = Some hand }) image
 hand-within q hand image s = (s.0, within, record { stands = s.2.stands; ruled = s.2.ruled; laid_out = s.2.laid_out })
@@ -129,7 +129,7 @@ on o q hand stage old new orderly orderly' one up in_hand next before u = record
   operations = omega (arith, one.count, one_at_most q hand in_hand);
 }
 
--- the stage that comes after so many ticks, where the lines are counted
+-- the stage that comes after this many ticks, if the lines are counted
 next-at : (o : Origin) (q : State) (hand : Hand) (n : ℕ) (stage : Option Stage) → Keeps o q → q.hand ≡ Some hand → hand.ticks ≡ n → slice_get (stages (length (lines_in q hand.commits))) n ≡ stage → next_stage q hand ≡ stage
 next-at o q hand n stage kept in_hand ticks is =
     ap (λ (lines : ℕ). slice_get (stages lines) hand.ticks) (sym (lines-in_hand o q hand kept in_hand)) ∙ ap (slice_get (stages (length (lines_in q hand.commits)))) ticks ∙ is

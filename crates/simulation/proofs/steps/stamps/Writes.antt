@@ -53,7 +53,7 @@ module _ (o : Origin) (q : State) (kept : Keeps o q) (t : ℕ) (key : Key) (row 
       none-before next.drawn.commit.writes next.drawn.stamped key row
       (find-all (λ (d : Drawn). nat_eq d.commit.timestamp t) (λ (d : Drawn). is_rising (keys_of d.commit.writes)) q.drawn next.drawn kept.draws.in_order next.found) next.at
 
-  -- what isn't stamped after it wasn't before, and is no write of its key
+  -- what isn't stamped after it wasn't stamped before, and isn't a write of its key
   pub unstamped-before : (u : ℕ) (e : Drawn) (other : Key) → drawn_at q u ≡ Some e → is_key_stamped (counted t e) other ≡ false → (is_key_stamped e other ≡ false) × (u ≡ t → key_eq key other ≡ false)
   unstamped-before u e other found not_yet = by (cases_eq u t)
     where
