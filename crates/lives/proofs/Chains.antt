@@ -35,7 +35,7 @@ use Rattle.lives.specs.Parts.{HasLived, HasObeyed, HasEnded, MayAsk, HasPlayed}
 use Rattle.lives.proofs.Taken.{runs-up}
 use Rattle.lives.proofs.Ends.{leaves-now, may-ask, ends-as_asked}
 
--- ---- an opening that was refused
+-- ---- opening was refused
 
 pub lived-refused : (old new : Device) (image image' : Image) (life : Life) (report : LifeReport) (fault : Fault)
     → IsAtRest old → IsOrderly new → image ≡ image_of old → MayLeave new image'
@@ -79,7 +79,7 @@ lived-refused old new image image' life report fault rest tidy is may opening te
           ))),
         )
 
--- ---- an opening that succeeded
+-- ---- opening succeeded
 
 same-option : {X : Type 0} (a b : Option X) → ((x : X) → a ≡ Some x → b ≡ Some x) → ((x : X) → b ≡ Some x → a ≡ Some x) → a ≡ b
 same-option a b to from = grind (arith)

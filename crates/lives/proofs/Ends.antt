@@ -37,11 +37,11 @@ stopped q covers lost image (cover, one, stands) = (
   record { cover = cover; one = one; stands = stands; history = refl; drawn = refl; next = refl; loses = refl },
 )
 
--- without a close
+-- without closing
 pub ends-open : (q : State) (image : Image) → StandsAt q image → HasEnded q false None image
 ends-open q image stands lost = let s = stopped q (covers_at q) lost image stands in (s.0, s.1, (refl, s.2))
 
--- after a close that succeeded
+-- after closing succeeded
 pub ends-closed : (q : State) (image : Image) (told : Result ReportedNumbers Fault) → q.failed ≡ false → closing_fault q ≡ None → StandsClosed q image
     → IfOk told (λ numbers. numbers_of numbers ≡ ruling_numbers image) → IfErr told (λ fault. log_damage image ≡ Some fault)
     → HasEnded q true (closed_of (Some told)) image
@@ -50,7 +50,7 @@ ends-closed q image (Ok numbers) works may stands is found = λ lost.
     (s.0, s.1, (refl, works, may, is ∙ ap (λ (r : Record). record { gate = r.gate; persisted = r.persisted; dirty = r.dirty }) stands.ruled, s.2))
 ends-closed q image (Err fault) works may stands is found = absurd (none-some fault (sym stands.stands.sound ∙ log-first image fault found))
 
--- within a close that failed
+-- while closing, if it failed
 pub ends-refused : (q : State) (image : Image) (old new : Device) (fault : Fault) → q.failed ≡ false → IsClosingRefusal q old new fault
     → (new ≡ old → StandsAt q image) → StandsClosing q image → HasEnded q true (Some (Err fault)) image
 ends-refused q image old new fault works (inl (because, same)) at within = λ lost.
@@ -58,7 +58,7 @@ ends-refused q image old new fault works (inl (because, same)) at within = λ lo
 ends-refused q image old new fault works (inr (none, is, failed)) at within = λ lost.
     let s = stopped q (covers_closing q) lost image within in (s.0, s.1, (refl, works, inr (none, is, s.2)))
 
--- so a close may be asked
+-- so closing may be asked for
 pub may-ask : (q : State) (close failed : Bool) → q.failed ≡ failed → MayAsk (close && not failed) q
 may-ask q close a is asked = grind (arith)
 

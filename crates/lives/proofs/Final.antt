@@ -1,4 +1,4 @@
--- A step that was refused, or found nothing to do, changes nothing, and would be answered the same again.
+-- A step that was refused, or found nothing to do, changes nothing, and would have the same reply again.
 use Rattle.std.proofs.Common.{◌≡◌, ℕ, zero, suc, Bool, true, false, cond, List, [], ◌++◌, replicate, refl, ◌∙◌, ap, inr, arith}
 use Rattle.std.specs.Prelude.{Option}
 use Rattle.base.specs.declared.step.Step.{Step}
@@ -18,7 +18,7 @@ use Rattle.lives.specs.ReportedReplies.{is_final}
 
 -- ---- replies
 
--- one that is not final is no failure
+-- a reply that is not final isn't a failure
 pub final-works : (reply : Reply) → is_final reply ≡ false → is_failure reply ≡ false
 final-works a e = grind (arith)
 

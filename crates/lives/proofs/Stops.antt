@@ -221,15 +221,15 @@ damage-not image =
       ),
     )
 
--- no image is why an opening answers Device
+-- opening never returns Device because of the image
 pub opening-not : (image : Image) → IsNotDevice (opening_fault image)
 opening-not image = grind (arith, first-not, damage-not image, if-not (is_near_limit image) TimestampsOut timestamps-not, timestamps-not)
 
--- nor is a state why a close does
+-- nor does closing because of the state
 closing-not : (q : State) → IsNotDevice (closing_fault q)
 closing-not q = grind (arith, first-not, if-not, failed-not, timestamps-not)
 
--- ---- an opening
+-- ---- opening
 
 abbrev opening-fault : Result Opened Fault → Fault
 opening-fault (Ok opened) = OutOfMemory
@@ -238,7 +238,7 @@ opening-fault (Err fault) = fault
 none-closed : ClosesWithDevice None → ⊥
 none-closed e = cc
 
--- an opening that was refused
+-- opening was refused
 pub refused-goes : (old new : Device) (image : Image) (fault : Fault) (report : LifeReport) → report.opening ≡ Err fault → report.replies.items ≡ [] → report.closed ≡ None
     → IsRefusal (opening_fault image) old new fault → Continues old new → GoesOn old new (ReportsDevice report)
 refused-goes old new image fault report opening replies closed refusal continues = grind (arith, none-yet, none-closed, opening-not, memory-not, goes-nowhere)
@@ -293,7 +293,7 @@ opened-stops life report replies before q old mid left opens same stops = record
 
 -- ---- an end
 
--- without a close
+-- without closing
 pub open-stops : (choice : Choice) (q : State) (old last : Device) (left : Image) → last ≡ old → IsOrderly last → IsWithinLimit last → IsChosen choice last left
     → StopsBy choice old (ClosesWithDevice None) (EndsOn q None old) left
 open-stops choice q old last left same tidy within chosen = record { last = last; leads = same; goes_on = goes-nowhere old last same none-closed; orderly = tidy; within = within; chosen = chosen }
@@ -308,7 +308,7 @@ read-not : (image : Image) (told : Result Numbers Fault) → damage image ≡ No
 read-not image (Ok numbers) sound is e = numbers-not numbers e
 read-not image (Err fault) sound is e = none-some fault (sym sound ∙ log-first image fault is)
 
--- after a close that succeeded
+-- after closing succeeded
 pub closed-stops : (choice : Choice) (q : State) (old last : Device) (left : Image) (told : Result Numbers Fault) → LeavesOnly old last (StandsClosing q) → last.failures ≡ old.failures
     → ((image : Image) → MayLeave last image → StandsClosed q image) → damage left ≡ None → IfErr told (λ fault. log_damage left ≡ Some fault)
     → IsOrderly last → IsWithinLimit last → IsChosen choice last left → StopsBy choice old (ClosesWithDevice (Some told)) (EndsOn q (Some told) old) left
@@ -329,7 +329,7 @@ abbrev close-fault : Result Numbers Fault → Fault
 close-fault (Ok numbers) = OutOfMemory
 close-fault (Err fault) = fault
 
--- within a close that failed
+-- while closing, if it failed
 pub refused-stops : (choice : Choice) (q : State) (old last : Device) (left : Image) (fault : Fault) → LeavesOnly old last (StandsClosing q) → IsClosingRefusal q old last fault
     → IsOrderly last → IsWithinLimit last → IsChosen choice last left → StopsBy choice old (ClosesWithDevice (Some (Err fault))) (EndsOn q (Some (Err fault)) old) left
 refused-stops choice q old last left fault images refusal tidy within chosen = record { last = last; leads = (refusal, images); goes_on = by refusal; orderly = tidy; within = within; chosen = chosen }

@@ -42,11 +42,11 @@ pub record HasObeyed (q : State) (device : Device) (steps : List Repeated) (kept
   pub after_it : P last
   pub failure : q.failed ≡ false → last.failed ≡ failed
 
--- a life ends in the state, and leaves this image: without a close, after one that succeeded, or within one that failed
+-- a life ends in the state, and leaves this image: without closing, after closing succeeded, or while closing, if it failed
 abbrev pub HasEnded : State → Bool → Option (Result Numbers Fault) → Image → Type 0
 HasEnded q closes closed image = (lost : List ℕ) → (after : World) × (after.image ≡ image) × EndsAs q closes closed lost after
 
--- a close is asked in this state only where the device hasn't failed
+-- closing is asked for in this state only if the device hasn't failed
 abbrev pub MayAsk : Bool → State → Type 0
 MayAsk closes q = closes ≡ true → q.failed ≡ false
 

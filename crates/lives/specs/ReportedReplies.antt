@@ -23,8 +23,8 @@ abbrev pub has_failed : Option Reply → Bool
 has_failed None = false
 has_failed (Some reply) = is_failure reply
 
--- What is reported of the replies to one step: the last of them, which each has from the first on that is a refusal or says that
--- nothing is left to do. Nothing is reported where there is none
+-- What is reported of the replies to one step: the last of them. All replies from the first that is a refusal, or says that nothing
+-- is left to do, are equal to it. Nothing is reported if there are no replies
 abbrev pub IsReported : List Reply → Option Reply → Type 0
 IsReported replies None = replies ≡ []
 IsReported replies (Some answer) =

@@ -29,7 +29,7 @@ use Rattle.lives.specs.ReportedReplies.{steps_of}
 
 -- ---- what a life does on its device
 
--- an opening leads from one device to the other, by all operations of its record, after those of a sweep, and in the end the
+-- opening leads from one device to the other, by all operations of its record, after those of a sweep, and in the end the
 -- device shows the opened state
 pub record OpensOn (begun : Device) (before : World) (q : State) (opened : Device) : Type 0 where
   pub opens : OpensAs before.image before.history before.lost q
@@ -47,7 +47,7 @@ StepsOn q device (step ∷ steps) (reply ∷ replies) last end =
     × (((is_failure reply ≡ true) × (replies ≡ []) × (last ≡ q') × (end ≡ next)) ⊎ ((is_failure reply ≡ false) × StepsOn q' next steps replies last end))
 StepsOn q device _ _ last end = ⊥
 
--- the end of a life leads from one device to the other: none without a close, and by one that failed or succeeded
+-- the end of a life leads from one device to the other: by nothing without closing, otherwise by closing, which failed or succeeded
 abbrev pub EndsOn : State → Option (Result Numbers Fault) → Device → Device → Type 0
 EndsOn q None device last = last ≡ device
 EndsOn q (Some (Err fault)) device last = IsClosingRefusal q device last fault × LeavesOnly device last (StandsClosing q)
@@ -63,21 +63,21 @@ pub record PlaysOn (q : State) (opened : Device) (life : Life) (report : LifeRep
   pub steps : StepsOn q opened (steps_of life.steps.items) replies after left
   pub ends : EndsOn after report.closed left last
 
--- an opening that failed leads from one device to the other
+-- opening that failed leads from one device to the other
 pub record FailsOn (begun : Device) (before : World) (report : LifeReport) (last : Device) : Type 0 where
   pub fault : Fault
   pub fails : report.opening ≡ Err fault
   pub refusal : IsRefusal (opening_fault before.image) begun last fault
   pub images : LeavesOnly begun last (StandsOpening before.image before.history before.next)
 
--- a whole life does, over what the stop before it left: by an opening that failed; or by one that succeeded, the steps and the end
+-- a whole life leads on, over what the stop before it left: by opening that failed; or by opening that succeeded, the steps and the end
 abbrev pub LivesOn : Device → World → Life → LifeReport → List Reply → Device → Type 0
 LivesOn begun before life report replies last =
     FailsOn begun before report last ⊎ ((q : State) × (opened : Device) × OpensOn begun before q opened × PlaysOn q opened life report replies last)
 
 -- ---- where it was stopped
 
--- a close reports that the device failed
+-- closing reports that the device failed
 abbrev pub ClosesWithDevice : Option (Result Numbers Fault) → Type 0
 ClosesWithDevice closed = closed ≡ Some (Err DeviceFault)
 

@@ -58,7 +58,7 @@ fn live_under_fuse<R: Threads + Sync>(
     match Room::open(rt, alloc, device) {
         Ok(room) => match checked {
             Ok(found) => play(alloc, room, found.rows, life),
-            // What opens is sound, so that only memory can be wanting.
+            // An image that opens is sound, so only memory can be lacking.
             Err(_) => Err(Fault::OutOfMemory),
         },
         Err((fault, device)) => {

@@ -48,8 +48,8 @@ pub fn end(
     }
 }
 
-/// The device after a crash with this choice, at rest, and without a fuse. Fails where the device couldn't keep what was
-/// done to it for want of memory, so that an operation failed that no fuse stopped.
+/// The device after a crash with this choice, at rest, and without a fuse. Fails if the device couldn't keep what was
+/// done to it for lack of memory, so that an operation failed that no fuse stopped.
 pub fn stop(device: &SimPmem, choice: &Choice) -> Result<SimPmem, Fault>
     ensures chosen { IfOk result (λ left. IsChosen choice.now (device_of device.now) (image_of (device_of left))) }
     ensures possible { IfOk result (λ left. MayLeave (device_of device.now) (image_of (device_of left))) }

@@ -36,7 +36,7 @@ pub struct Numbers {
     pub dirty: Ts,
 }
 
-/// What an opening gave.
+/// What opening gave.
 #[derive(Debug, Drop)]
 pub struct Opened {
     pub numbers: Numbers,
@@ -54,6 +54,6 @@ pub struct LifeReport {
     /// Of each of the steps, up to the one in which the device failed: the reply to the last time that it was taken, which
     /// is that of the first time that it was refused or found nothing to do. `None`: it was to be taken no times.
     pub replies: Vec<Option<Reply>>,
-    /// The numbers after a close, or its fault. `None`: none was asked, or the device failed before.
+    /// The numbers after closing, or its fault. `None`: closing wasn't asked for, or the device failed before.
     pub closed: Option<Result<Numbers, Fault>>,
 }

@@ -58,7 +58,7 @@ fn repeat(room: &mut Room<SimPmem>, asked: Repeated) -> Option<Reply>
 }
 
 // The reply to the last time. Once the step was refused, or found nothing to do, it isn't made again: that would change
-// nothing, and be answered the same.
+// nothing, and have the same reply.
 fn take(room: &mut Room<SimPmem>, asked: Repeated) -> Reply
     requires { 1 ≤ asked.times }
     ensures { (q : State) → Shows device_of room.old q

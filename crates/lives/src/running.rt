@@ -20,7 +20,7 @@ use std::alloc::Global;
 use std::thread::Threads;
 
 /// Formats a device and plays the lives on it, each over the image that the one before it left, under its own fuse and with
-/// its own choice. It fails where a report or a device can't be kept for want of memory; want of memory within a life is in
+/// its own choice. It fails if a report or a device can't be kept for lack of memory; lack of memory within a life is in
 /// its report.
 pub fn run_lives<R: Threads + Sync>(
     rt: &R,
@@ -43,7 +43,7 @@ pub fn run_lives<R: Threads + Sync>(
     Ok(reports)
 }
 
-// A device at rest with a fresh image. A format without a fuse fails for want of memory alone.
+// A device at rest with a fresh image. A format without a fuse fails only for lack of memory.
 fn formatted(alloc: Global, geometry: Geometry) -> Result<SimPmem, Fault>
     ensures image { IfOk result (λ device. image_of (device_of device) ≡ fresh_image geometry) }
     ensures empty { IfOk result (λ device. Stands (image_of (device_of device)) [] [] 1) }

@@ -67,7 +67,7 @@ the-device a is = grind (arith)
 fails-with : (r : SessionReply) → is_failure (as_reply r) ≡ true → r ≡ Refused DeviceFault
 fails-with a is = grind (arith, the-device)
 
--- it doesn't where nothing is done to the device
+-- a step doesn't fail if nothing is done to the device
 pub unfailing : (old new : Sessions) (cycle : Option Cycling) (device : Device) (s : SessionStep) (r : SessionReply) → SessionSteps old new device device s r → ∥ ShowsSomeIn old cycle device ∥₁ → is_failure (as_reply r) ≡ false
 unfailing old new cycle device s r steps some = by (is_failure (as_reply r)) refl
   where
@@ -106,7 +106,7 @@ pub shows-after-call : (old new : Sessions) (cycle : Option Cycling) (before now
 shows-after-call old new cycle before now s r failed tells steps some =
     ∥∥₁_map some (λ shown. let one = session-steps old new cycle before now s r steps shown.0 shown.1 shown.2 in (one.0, one.1.shows, failed-after shown.0 (as_step s) (as_reply r) one.0 one.1.stepped shown.2 ∙ sym tells))
 
--- the same where nothing is done to the device
+-- the same if nothing is done to the device
 pub shows-after-quiet : (old new : Sessions) (cycle : Option Cycling) (device : Device) (s : SessionStep) (r : SessionReply) (failed : Bool) → failed ≡ false → SessionSteps old new device device s r
     → ∥ ((q : State) × ShowsIn old cycle device q × (q.failed ≡ failed)) ∥₁ → ∥ ((q' : State) × ShowsIn new cycle device q' × (q'.failed ≡ failed)) ∥₁
 shows-after-quiet old new cycle device s r failed works steps some =
@@ -114,14 +114,14 @@ shows-after-quiet old new cycle device s r failed works steps some =
     shows-after-call old new cycle device device s r failed (works ∙ sym (unfailing old new cycle device s r steps working)) steps working
 
 module _ {D : Type 0} {G : Ghosts D} (state : D → Device) where
-  -- the room makes the step, with the reply for which stands what is returned
+  -- the room makes the step, with the reply that the returned value stands for
   pub call-leads : (old new : Room D G) (s : SessionStep) (r : SessionReply) → old.failed ≡ false → new.failed ≡ is_failure (as_reply r) → new.volatile.cycle ≡ old.volatile.cycle
       → SessionSteps old.volatile.sessions new.volatile.sessions (state old.device) (state new.device) s r → Leads state old new (as_step s) (as_reply r)
   call-leads old new s r works tells same steps = step-on state old new (as_step s) (as_reply r) works tells (λ q shows here.
       let one = session-steps old.volatile.sessions new.volatile.sessions old.volatile.cycle (state old.device) (state new.device) s r steps q shows here in
       (one.0, subst (λ (c : Option Cycling). StepsToIn new.volatile.sessions c (state old.device) (state new.device) (as_step s) (as_reply r) q one.0) (sym same) one.1))
 
-  -- the same where nothing is done to the device
+  -- the same if nothing is done to the device
   pub quiet-leads : (old new : Room D G) (s : SessionStep) (r : SessionReply) → old.failed ≡ false → new.failed ≡ old.failed → new.volatile.cycle ≡ old.volatile.cycle → state new.device ≡ state old.device
       → ∥ ShowsAs old.volatile (state old.device) old.failed ∥₁ → SessionSteps old.volatile.sessions new.volatile.sessions (state old.device) (state old.device) s r → Leads state old new (as_step s) (as_reply r)
   quiet-leads old new s r works same_failed same same_device some steps =

@@ -27,7 +27,7 @@ use Rattle.room.specs.Committing.{Shows as CommitterShows}
 use Rattle.room.specs.Steps.{Steps, ShowsSome, ShowsAs}
 use Rattle.room.specs.Room.{Shows, StepsTo, IsClear}
 
--- what a volatile state shows stands in each image that its device may leave
+-- each image that the device of a volatile state may leave is consistent with the state shown
 pub shown-stands : (c : VolatileState) (device : Device) (q : State) → CommitterShows c device q → (image : Image) → MayLeave device image → StandsAt q image
 shown-stands c device q shows image left = every-image-stands shows.shown.hidden.origin q device image shows.shown.upholds left
 

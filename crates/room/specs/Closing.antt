@@ -1,4 +1,4 @@
--- What the parts of a close make of the volatile state and its device.
+-- What the parts of closing make of the volatile state and its device.
 use Rattle.std.specs.Prelude.{◌≡◌, ◌⊎◌, ℕ, ◌+◌, ◌-◌, ◌<◌, false, not, List, length, find, Option, None, Some}
 use Rattle.std.specs.Option.{option_map}
 use Rattle.base.specs.declared.fault.Fault.{Fault}
@@ -20,8 +20,8 @@ use Rattle.simulation.specs.cycles.Closing.{ClosesAs}
 use Rattle.room.specs.declared.volatile.VolatileState.{VolatileState}
 use Rattle.room.specs.Committing.{Shows}
 
--- The fault is why the close is refused, and then nothing was done to the device; or it is Device, where the close is not
--- refused and an operation failed. Want of memory is no reason, since a close takes none
+-- The fault is why closing is refused, and then nothing was done to the device; or it is Device, if closing is not
+-- refused and an operation failed. Lack of memory isn't a reason, since closing takes none
 abbrev pub IsClosingRefusal : State → Device → Device → Fault → Type 0
 IsClosingRefusal q old new fault =
     ((closing_fault q ≡ Some fault) × (new ≡ old))
@@ -34,7 +34,7 @@ pub record GoesOnFrom (new : VolatileState) (before now : Device) (q q' : State)
   pub closes : ClosesAs q q'
   pub images : LeavesOnly before now (StandsClosing q)
 
--- part of a close is done, and nothing failed
+-- part of closing is done, and nothing failed
 pub record ClosePhaseDone (old new : VolatileState) (before now : Device) : Type 0 where
   pub no_failure : HasNoFailure before now
   pub goes_on : (q : State) → Shows old before q → q.failed ≡ false → (q' : State) × GoesOnFrom new before now q q'
@@ -45,7 +45,7 @@ pub record ClosePhaseFailed (old : VolatileState) (before now : Device) (fault :
   pub failure : before.failures < now.failures
   pub images : (q : State) → Shows old before q → q.failed ≡ false → LeavesOnly before now (StandsClosing q)
 
--- all that was drawn is covered: a crash meanwhile left what a close may leave, and now leaves what one leaves
+-- all that was drawn is covered: a crash meanwhile left what it may leave while closing, and now what it may leave afterwards
 pub record CloseCovered (old : VolatileState) (before now : Device) : Type 0 where
   pub no_failure : HasNoFailure before now
   pub images : (q : State) → Shows old before q → q.failed ≡ false → LeavesOnly before now (StandsClosing q)
@@ -53,7 +53,7 @@ pub record CloseCovered (old : VolatileState) (before now : Device) : Type 0 whe
 
 -- ---- the ticks that are left
 
--- a bound of the ticks that a cycle has left at its stage, where its batch touches so many lines
+-- a bound of the ticks that a cycle has left at its stage, if its batch touches this many lines
 abbrev pub left_at : ℕ → WritingStage → CycleStage → ℕ
 left_at lines writing (FlushLines flushed from) = 41 + (lines - flushed)
 left_at lines writing WriteRecord = 40 - operations_before writing

@@ -13,7 +13,7 @@ use Rattle.session_steps.specs.Shows.{line_numbers, Shows as SessionsShow}
 use Rattle.session_steps.specs.declared.sessions.Sessions.{Sessions}
 use Rattle.room.specs.declared.volatile.VolatileState.{VolatileState}
 
--- The cycle is that of the batch in hand, after the ticks that were made for it: the cycle's sessions drew the commits that its
+-- The cycle is that of the pending batch, after the ticks that were made for it: the cycle's sessions drew the commits that its
 -- record commits, and its last operation isn't made
 pub record HoldsHand (q : State) (drawn : List DrawnCommit) (hand : Hand) (cycle : Cycling) : Type 0 where
   pub sessions : (n : ℕ) → has cycle.sessions n ≡ list_any (λ d. nat_eq d.session n && is_committed hand.target d.timestamp) drawn
@@ -23,14 +23,14 @@ pub record HoldsHand (q : State) (drawn : List DrawnCommit) (hand : Hand) (cycle
   pub unfinished : cycle.writing.stage ≢ Done
   pub ticks : IsAfter (line_numbers q hand.commits) hand.ticks cycle
 
--- there is a cycle exactly while a batch is in hand
+-- there is a cycle exactly while a batch is pending
 abbrev pub HoldsCycle : State → List DrawnCommit → Option Hand → Option Cycling → Type 0
 HoldsCycle q drawn None None = Unit {0}
 HoldsCycle q drawn (Some hand) (Some cycle) = HoldsHand q drawn hand cycle
 HoldsCycle q drawn None (Some cycle) = ⊥
 HoldsCycle q drawn (Some hand) None = ⊥
 
--- the sessions show the state, and the cycle is that of the batch in hand
+-- the sessions show the state, and the cycle is that of the pending batch
 pub record ShowsIn (sessions : Sessions) (cycle : Option Cycling) (device : Device) (q : State) : Type 0 where
   pub shown : SessionsShow sessions device q
   pub cycle_is : HoldsCycle q sessions.drawn.commits q.hand cycle

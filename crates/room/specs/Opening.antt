@@ -1,4 +1,4 @@
--- What an opening makes of a device and its volatile state.
+-- What opening makes of a device and its volatile state.
 use Rattle.std.specs.Prelude.{◌≡◌, ℕ, Bool, List, length, map, Some, None}
 use Rattle.base.specs.declared.key.Key.{Key}
 use Rattle.base.specs.Images.{Image}
@@ -24,12 +24,12 @@ entry_of s = (s.key, record blank { newest = Some s.slot })
 abbrev pub HasEntries : List SlotReading → List (Key × Entry) → Type 0
 HasEntries readings entries = (image : Image) → AreReadings image readings → entries ≡ map entry_of (live_below image (length readings))
 
--- what an opening asks of an image, and the entries of the versions that it found live
+-- what opening needs of an image, and the entries of the versions that it found live
 pub record HasLearnt (image : Image) (learnt : Learnt) : Type 0 where
   pub found : HasExamined image learnt.found
   pub entries_are : learnt.entries.items ≡ map entry_of learnt.found.live.items
 
--- the device was opened, the sessions show each state in which a life begins on it so, nothing is in hand, and no batch waits to
+-- the device was opened, the sessions show each state in which a life begins on it so, no batch is pending, and none waits to
 -- be handed out
 pub record HasBegun (old new : Device) (c : VolatileState) : Type 0 where
   pub layout : Layout

@@ -36,19 +36,19 @@ pub record Agrees {D : Type 0} {G : Ghosts D} (state : D → Device) (room : Roo
   pub shown : CommitterShows room.volatile (device_of state room) q
   pub failed : q.failed ≡ room.failed
 
--- no begin and no end of a slot lies in a gap of the state's record
+-- no begin and no end of a slot is in a gap of the state's record
 abbrev pub IsClear : State → Image → Type 0
 IsClear q image = (slot w : ℕ) → slot < q.layout.slots → w < 2 → is_in q.ruling.gaps (slice_index image (slot_start q.layout slot + w)) ≡ false
 
--- The room shows the state: a crash now leaves only images that the state's record rules, or that
--- of the batch in hand, and that stand for what it covers, and once the gaps are swept only such as are clear of them; and
--- the fields agree with it
+-- The room shows the state. A crash now leaves only images that are ruled by the state's record or by
+-- that of the pending batch, and that stand for what this record covers; once the gaps are swept, no slot has a timestamp in
+-- them. And the fields agree with the state
 pub record Shows {D : Type 0} {G : Ghosts D} (state : D → Device) (room : Room D G) (q : State) : Type 0 where
   pub stands : (image : Image) → MayLeave (device_of state room) image → StandsAt q image
   pub swept : q.swept ≡ true → (image : Image) → MayLeave (device_of state room) image → IsClear q image
   pub agrees : Agrees state room q
 
--- The step leads from q to q', which the room shows then. Where it is refused for another reason than a failing device, want of
+-- The step leads from q to q', which the room shows then. If it is refused for another reason than a failing device, lack of
 -- memory among them, nothing was done to the device
 pub record StepsTo {D : Type 0} {G : Ghosts D} (state : D → Device) (old new : Room D G) (step : Step) (reply : Reply) (q q' : State) : Type 0 where
   pub stepped : Stepped q step reply q'

@@ -36,19 +36,19 @@ RunOf image entries Is = OpensTo image (λ start. (now : State) × Noted start e
 abbrev pub Takes : State → List (Step × Reply) → List State → Type 0
 Takes q taken states = Run q (map (λ one. one.0) taken) (map (λ one. one.1) taken) states
 
--- what a crash leaves since an image that stood for the history was opened: in the opening, or in one of the steps
+-- what a crash leaves since an image of this history was opened: while opening, or in one of the steps
 abbrev pub StandsSince : Image → List Commit → ℕ → State → List State → Image → Type 0
 StandsSince before history next start states image = StandsOpening before history next image ⊎ StandsAlong start states image
 
--- From the state that a device was opened as, which stood for this history, the steps with these replies lead to one of which this holds. A crash
--- since leaves what one may leave in the opening, or in one of the steps
+-- From the state that a device was opened as, which represented this history, the steps with these replies lead to a state of which this holds. A crash
+-- since then leaves what it may leave while opening, or in one of the steps
 pub record RunsOn (opened now : Device) (taken : List (Step × Reply)) (Is : State → Type 0) (history : List Commit) (next : ℕ) (start : State) : Type 0 where
   pub states : List State
   pub run : Takes start taken states
   pub images : LeavesOnly opened now (StandsSince (image_of opened) history next start states)
   pub is : Is (final start states)
 
--- the device was at rest and was opened, and whatever history it stood for, these steps were made since, with these replies, up to a state of which this holds
+-- the device was at rest and was opened, and whatever history it represented, these steps were made since, with these replies, up to a state of which this holds
 pub record RunOver (opened now : Device) (taken : List (Step × Reply)) (Is : State → Type 0) : Type 0 where
   pub at_rest : IsAtRest opened
   pub may_open : opening_fault (image_of opened) ≡ None

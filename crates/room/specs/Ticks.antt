@@ -13,7 +13,7 @@ use Rattle.room.specs.declared.ticks.Tick.{Tick}
 use Rattle.room.specs.declared.ticks.Tick.TheVariants as came
 use Rattle.room.specs.Steps.{ShowsSomeIn, StepsIn}
 
--- with nothing in hand, some state that hasn't failed is shown on some device
+-- with no pending batch, some state that hasn't failed is shown on some device
 abbrev pub ShowsResting : Sessions → Type 0
 ShowsResting sessions = (device : Device) × ShowsSomeIn sessions None device
 
@@ -21,7 +21,7 @@ ShowsResting sessions = (device : Device) × ShowsSomeIn sessions None device
 abbrev pub TicksQuietly : Sessions → VolatileState → Reply → Type 0
 TicksQuietly old new reply = (device : Device) → IsOrderly device → StepsIn old None new device device CommitTick reply
 
--- the reply of a tick that chooses: whether a batch is in hand after it, or why none is
+-- the reply of a tick that chooses: whether a batch is pending after it, or why none is
 abbrev pub chosen_reply : Result Bool Fault → Reply
 chosen_reply (Ok true) = Ticked Chosen
 chosen_reply (Ok false) = Idle

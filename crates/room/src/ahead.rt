@@ -1,4 +1,4 @@
-//! A sync that is made ahead of a fence is no step: the room shows what it showed, on a device to which nothing was done.
+//! A sync made ahead of a fence isn't a step: the room shows what it showed, on a device to which nothing was done.
 
 use crate::room::Room;
 use base::actor::Actor;

@@ -1,6 +1,6 @@
-//! A close runs two cycles. The batch in hand comes first, since its record may be half written. What is drawn and not stamped is
+//! Closing runs two cycles. The pending batch comes first, since its record may be half written. What is drawn and not stamped is
 //! stamped then, so that the second cycle covers all of it. Its record reserves no timestamp, so that the next opening finds no gap
-//! behind it. The record's number is tested before any operation, so a close is refused whole.
+//! behind it. The record's number is tested before any operation, so if closing is refused, nothing was done.
 
 use crate::room::Room;
 use crate::volatile::VolatileState;
@@ -22,7 +22,7 @@ impl<D: Pmem + Drop> Room<D> {
     /// Covers all that is drawn, and returns the device. Fails with `Failed` after a failing device and with `TimestampsOut`
     /// where no record number is left, both before any operation, and with `Device` where one fails meanwhile.
     pub fn close(self) -> Result<D, (Fault, D)>
-        // A crash meanwhile leaves what was covered, with the batch in hand, or with all that was drawn; and after it that last.
+        // A crash meanwhile leaves what was covered, alone or with the pending batch or with all that was drawn; afterwards, the last.
         ensures images { (q : State) → Shows D.state self q → MatchResult result
             (λ device. LeavesOnly (device_of D.state self) (D.state device) (StandsClosing q))
             (λ e. LeavesOnly (device_of D.state self) (D.state e.1) (StandsClosing q)) }
@@ -66,7 +66,7 @@ impl VolatileState {
     pub(crate) fn close<D: Pmem>(&mut self, alloc: Global, device: &mut D) -> Result<(), Fault>
         requires shown { ∥ ShowsSome self.old (D.state device.old) ∥₁ }
 
-        // A crash meanwhile leaves what was covered, with the batch in hand, or with all that was drawn; and after it that last.
+        // A crash meanwhile leaves what was covered, alone or with the pending batch or with all that was drawn; afterwards, the last.
         ensures images { (q : State) → Shows self.old (D.state device.old) q → q.failed ≡ false → LeavesOnly (D.state device.old) (D.state device.new) (StandsClosing q) }
         ensures ok { OnOk result ((q : State) → Shows self.old (D.state device.old) q → q.failed ≡ false → (image : Image) → MayLeave (D.state device.new) image → StandsClosed q image) }
 
@@ -83,7 +83,7 @@ impl VolatileState {
         self.cover_drawn(alloc, device)
     }
 
-    // Makes the ticks that are left of the cycle in hand.
+    // Makes the ticks that are left of the pending batch's cycle.
     fn finish_cycle<D: Pmem>(&mut self, device: &mut D) -> Result<(), Fault>
         requires shown { ∥ ShowsSome self.old (D.state device.old) ∥₁ }
         ensures ok { OnOk result (ClosePhaseDone self.old self.new (D.state device.old) (D.state device.new)) }

@@ -1,4 +1,4 @@
-//! A run is many steps, and what a crash leaves of it is said of all of them: so it is proved once, and not by each caller.
+//! A run is many steps. What a crash leaves is proved once for all of them, and not by each caller.
 
 ghost use Rattle.std.specs.Prelude.{List, [], ◌∷◌};
 ghost use Rattle.base.specs.declared.step.Reply.{Reply};

@@ -1,4 +1,4 @@
-//! An opening takes all its memory before it changes the device, so that want of memory leaves the image as it was: the index and the
+//! Opening takes all its memory before it changes the device, so that lack of memory leaves the image as it was: the index and the
 //! slots are made from what was read, the table of lines from the device's length, and the record is written last.
 
 ghost use Rattle.std.specs.Prelude.{◌≡◌, ℕ, List, IfOk, IfErr};
@@ -43,18 +43,18 @@ impl<D: Pmem + Drop + Send + Sync> Room<D> {
         // No batch waits to be handed out.
         ensures waits { IfOk result (λ room. covered_by room ≡ None) }
 
-        // It opens an image that has none of the faults that an opening reports, and fails with the first of them, or for
-        // want of memory, or where an operation fails.
+        // It opens an image that has none of the faults that opening reports, and fails with the first of them, or for
+        // lack of memory, or if an operation fails.
         ensures may_open { IfOk result (λ room. opening_fault (image_of (D.state device)) ≡ None) }
         ensures no_failure { IfOk result (λ room. HasNoFailure (D.state device) (device_of D.state room)) }
         ensures fault { IfErr result (λ e. IsRefusal (opening_fault (image_of (D.state device))) (D.state device) (D.state e.1) e.0) }
 
-        // What is wrong with its log is reported before want of memory.
+        // What is wrong with its log is reported before lack of memory.
         ensures log { IfErr result (λ e. ReportsLogFault (image_of (D.state device)) e.0) }
 
         // It makes the operations of one record, after those that change the version of an image of the first one, and
-        // those of a sweep where there are more than eight gaps. The words of superblock and slots are settled as they
-        // were, but for that version and for what a sweep stores.
+        // those of a sweep if there are more than eight gaps. The words of superblock and slots are settled as they
+        // were, except for that version and for what a sweep stores.
         ensures made { IfOk result (λ room. MakesOpening (image_of (D.state device)) (D.state device) (device_of D.state room)) }
         ensures superblock { IfOk result (λ room. (word : ℕ) → word < 8 → IsSettledAt (device_of D.state room) word (slice_index (updated (image_of (D.state device))) word)) }
         ensures slots { IfOk result (λ room. (word : ℕ) → 8 + 32 * (layout_of (image_of (D.state device))).places ≤ word → word < (D.state device).words
@@ -131,7 +131,7 @@ struct Learnt {
     entries: Vec<KeyedEntry>,
 }
 
-// Tests all that an opening asks of an image, and makes the index's entries beside that.
+// Tests all that opening needs of an image, and makes the index's entries as well.
 fn learn<R: Threads + Sync, D: Pmem + Sync>(
     rt: &R,
     alloc: Global,
@@ -159,7 +159,7 @@ fn learn<R: Threads + Sync, D: Pmem + Sync>(
 // Fewer slots are not worth a thread.
 const FEW: usize = 1024;
 
-// The entries of the index, and what an opening asks: where there are many slots, in two threads.
+// The entries of the index, and what opening needs: if there are many slots, in two threads.
 fn side_by_side<R: Threads + Sync>(
     rt: &R,
     alloc: Global,

@@ -58,7 +58,7 @@ pub(crate) fn done(returned: Result<(), Fault>) -> Reply
     }
 }
 
-// The timestamp that was drawn, and none where nothing was written.
+// The timestamp that was drawn, or none if nothing was written.
 #[inline(always)]
 pub(crate) fn drawn(returned: Result<Option<Ts>, Fault>) -> Reply
     ensures { result ≡ as_reply (drawn returned) }
@@ -82,7 +82,7 @@ pub(crate) fn stamped(returned: Result<bool, Fault>) -> Reply
     }
 }
 
-// How far the commit has come, and that it is done where nothing was written.
+// How far the commit has come; it is done if nothing was written.
 #[inline(always)]
 pub(crate) fn polled(returned: Result<CommitStatus, Fault>) -> Reply
     ensures { result ≡ as_reply (polled returned) }

@@ -32,7 +32,7 @@ impl<D: Pmem + Drop> Room<D> {
     ghost use Rattle.base.specs.declared.fault.Fault.TheVariants.{OutOfMemory};
     ghost use Rattle.room.specs.Room.{Shows, Leads, RunsTo, ShowsStatus, covered_by, device_of, left_after};
 
-    /// One step. A crash within it leaves the history before it or after it, or with the batch in hand.
+    /// One step. A crash within it leaves the history before it or after it, or with the pending batch.
     #[inline(never)]
     pub fn step(&mut self, step: Step) -> Reply
         ensures step { Leads D.state self.old self.new step result }
@@ -76,7 +76,7 @@ impl<D: Pmem + Drop> Room<D> {
         Ok(replies)
     }
 
-    /// The number of the record that a close would write last.
+    /// The number of the record that closing would write last.
     pub fn closing_gate(&self) -> u64
         ensures { (q : State) → Shows D.state self.now q → result ≡ closing_gate q }
     {

@@ -124,7 +124,7 @@ impl<D: Pmem + Drop> Room<D> {
         self.volatile.sessions.poll(session)
     }
 
-    /// Gives up what a session has written.
+    /// Rolls back what a session has written.
     #[inline(always)]
     pub fn abort(&mut self, session: u8) -> Result<(), Fault>
         ensures step { Leads D.state self.old self.new (Abort session) (as_reply (done result)) }

@@ -21,7 +21,7 @@ impl VolatileState {
     ghost use Rattle.room.specs.Room.{left_after};
     ghost use Rattle.room.specs.Closing.{ticks_left};
 
-    // One tick: the choice of a batch, or the next operation of the one in hand.
+    // One tick: the choice of a batch, or the next operation of the pending one.
     #[inline(always)]
     pub(crate) fn tick<D: Pmem>(&mut self, alloc: Global, device: &mut D) -> Result<Tick, Fault>
         requires shown { ∥ ShowsSome self.old (D.state device.old) ∥₁ }
@@ -58,7 +58,7 @@ impl VolatileState {
         }
     }
 
-    // Takes a batch in hand, unless there is nothing to do. Whether one is in hand then.
+    // Chooses a batch, unless there is nothing to do. Returns whether a batch is pending then.
     #[cold]
     #[inline(never)]
     fn choose(&mut self, alloc: Global) -> Result<bool, Fault>
@@ -82,7 +82,7 @@ impl VolatileState {
         }
     }
 
-    // Makes the next operation of the cycle in hand, where it lies: it is moved only once it is done.
+    // Makes the next operation of the pending batch's cycle in place: the cycle is moved only once it is done.
     #[inline(always)]
     pub(crate) fn advance<D: Pmem>(&mut self, device: &mut D) -> Result<Tick, Fault>
         requires hand { IsSome self.old.cycle }
@@ -104,7 +104,7 @@ impl VolatileState {
         }
     }
 
-    // The batch in hand is covered: its record rules. It is kept until it is handed out, or the next one is covered.
+    // The pending batch is covered: its record rules. The batch is kept until it is handed out, or the next one is covered.
     #[cold]
     #[inline(never)]
     fn cover(&mut self)

@@ -7,6 +7,6 @@ pub enum Tick {
     Idle,
     /// The committer stands at this stage of its cycle.
     Reached(Stage),
-    /// The batch in hand is covered.
+    /// The pending batch is covered.
     Covered,
 }

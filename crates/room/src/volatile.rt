@@ -32,7 +32,7 @@ impl VolatileState {
     ghost use Rattle.room.specs.Committing.{Shows};
     ghost use Rattle.room.specs.Steps.{ShowsSome, Steps};
 
-    // The volatile state of a life that begins with these sessions: nothing is in hand, and no batch waits to be handed out.
+    // The volatile state of a life that begins with these sessions: no batch is pending, and none waits to be handed out.
     pub(crate) fn new(sessions: Sessions) -> VolatileState
         ensures sessions { result.sessions ≡ sessions }
         ensures rests { result.cycle ≡ None }
@@ -52,7 +52,7 @@ impl VolatileState {
         self.sessions.numbers()
     }
 
-    // The number of the record that a close would write last.
+    // The number of the record that closing would write last.
     pub(crate) fn closing_gate(&self) -> u64
         requires { self.now.sessions.numbers.record.gate < 2 ^ 62 }
         ensures { result ≡ self.now.sessions.numbers.record.gate + (if is_some self.now.cycle then 2 else 1) }
@@ -61,7 +61,7 @@ impl VolatileState {
         self.sessions.numbers().record.gate() + records
     }
 
-    // One visit of the collector. The batch in hand stays as it is, also where a sweep ends: the gaps that were swept
+    // One visit of the collector. The pending batch stays as it is, even if a sweep ends: the gaps that were swept
     // are left out of the record that is chosen next.
     #[inline(always)]
     pub(crate) fn collect<D: Pmem>(&mut self, device: &mut D) -> Result<Visit, Fault>

@@ -1,4 +1,4 @@
--- The cycle of a close: the lines of all that is drawn are flushed, the committer fences, and the last record is written.
+-- The cycle of closing: the lines of all that is drawn are flushed, the committer fences, and the last record is written.
 use Rattle.std.proofs.Common.{◌≡◌, ◌≢◌, ℕ, ◌+◌, ◌*◌, ◌/◌, ◌^◌, ◌<◌, Bool, true, false, ◌&&◌, List, length, refl, sym, ◌∙◌, ap, subst, arith}
 use Rattle.std.proofs.Math.Bridge.{le_prop}
 use Rattle.std.proofs.Math.Logic.{∥∥₁_elim}
@@ -54,7 +54,7 @@ use Rattle.room.proofs.covers.Ticks.{found-any, any-has}
 use Rattle.room.proofs.closes.Whole.{gate-is}
 use Rattle.room.proofs.closes.Parts.{stands-closing}
 
--- ---- what a close goes on from
+-- ---- what closing goes on from
 
 -- the state is shown on another device that upholds it
 moved : (c : VolatileState) (old new : Device) (q : State) (shown : Shows c old q) → Upholds shown.shown.hidden.origin q new → Shows c new q
@@ -132,7 +132,7 @@ module _ (c : VolatileState) (before now : Device) (rests : c.cycle ≡ None) (s
 
 -- ---- how far the cycle has come
 
--- so many lines are flushed, as far as this state goes
+-- this many lines are flushed, as far as this state goes
 pub record IsFlushedTo (c : VolatileState) (before now : Device) (q : State) (count : ℕ) : Type 0 where
   pub shown : Shows c now q
   pub flushed : AreFlushed q now count
@@ -155,7 +155,7 @@ abbrev pub HasCome : VolatileState → List ℕ → Device → Device → Progre
 HasCome c lines before now writing (FlushLines count from) = IsCut lines count from × (writing ≡ begun c.sessions.numbers.geometry (last_record c)) × ((q : State) → Shows c before q → q.failed ≡ false → IsFlushedTo c before now q count)
 HasCome c lines before now writing WriteRecord = IsRecording c before now writing
 
--- the cycle of a close, on its way
+-- the cycle of closing, under way
 pub record IsCovering (c : VolatileState) (before now : Device) (cycle : Cycling) : Type 0 where
   pub drew : HaveDrawn c cycle.sessions
   pub layout : cycle.writing.layout ≡ c.sessions.numbers.geometry

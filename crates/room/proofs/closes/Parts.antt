@@ -1,4 +1,4 @@
--- The parts of a close, one after the other.
+-- The parts of closing, one after the other.
 use mathlib.Core.HLevel.{⊥_prop}
 use Rattle.std.proofs.Common.{◌≡◌, refl, ◌∙◌, arith}
 use Rattle.std.proofs.Math.Logic.{∥∥₁_elim, ∥∥₁_map}
@@ -16,7 +16,7 @@ use Rattle.room.specs.Committing.{Shows}
 use Rattle.room.specs.Steps.{ShowsSome}
 use Rattle.room.specs.Closing.{ClosePhaseDone, ClosePhaseFailed, CloseCovered}
 
--- what may be left now may be left within a close
+-- what may be left now may be left while closing
 pub stands-closing : (c : VolatileState) (device : Device) (q : State) → Shows c device q → (image : Image) → MayLeave device image → StandsClosing q image
 stands-closing c device q shown image may = StandsAt-closing q image (every-image-stands shown.shown.hidden.origin q device image shown.shown.upholds may)
 

@@ -1,4 +1,4 @@
--- A stamp, as a part of a close.
+-- A stamp, as a part of closing.
 use Rattle.std.proofs.Common.{◌≡◌, ◌≢◌, ℕ, ◌-◌, ◌<◌, ◌≤◌, Bool, true, false, cond, ◌&&◌, not, List, [], ◌∷◌, length, map, refl, sym, ◌∙◌, ap, subst, arith}
 use Rattle.std.proofs.Math.Bridge.{le_prop}
 use Rattle.std.proofs.Math.Logic.{∥∥₁_elim, ∥∥₁_map}
@@ -156,7 +156,7 @@ stamped-told a fault told = grind (arith)
 
 -- ---- a part
 
--- with no cycle there is no batch in hand
+-- without a cycle there is no pending batch
 still-none : (q q' : State) (ds ds' : List DrawnCommit) (h : Option Hand) → HoldsCycle q ds h None → HoldsCycle q' ds' h None
 still-none q q' ds ds' a none = grind (arith)
 

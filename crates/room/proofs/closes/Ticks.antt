@@ -1,4 +1,4 @@
--- A tick for the batch in hand, as a part of a close.
+-- A tick for the pending batch, as a part of closing.
 use Rattle.std.proofs.Common.{◌≡◌, ◌≢◌, true, false, ◌&&◌, not, refl, sym, ◌∙◌, ap, subst, true≢false, arith}
 use Rattle.std.proofs.Math.Bridge.{le_prop}
 use Rattle.std.proofs.Math.Logic.{∥∥₁_elim}
@@ -44,7 +44,7 @@ module _ (q q' : State) (hand : Hand) (reply : Reply) (in_hand : q.hand ≡ Some
   works-on : ((fault : Fault) → reply ≢ Refused fault) → q'.failed ≡ false
   works-on un = grind (arith) steps 800000
 
--- ---- the cycle in hand
+-- ---- the cycle of the pending batch
 
 pub with-hand : (s : Sessions) (o : Option Cycling) (cycle : Cycling) (device : Device) → o ≡ Some cycle → ∥ ShowsSomeIn s o device ∥₁ → ∥ ShowsSomeIn s (Some cycle) device ∥₁
 with-hand s o cycle device is some = subst (λ (hand : Option Cycling). ∥ ShowsSomeIn s hand device ∥₁) is some
@@ -54,7 +54,7 @@ one-hand o a b first second = cc (first, second)
 
 -- ---- its reply
 
--- it is no refusal where nothing was refused
+-- the reply isn't a refusal if nothing was refused
 pub unrefused-reply : (r : Result Tick Fault) (last : Option Batch) → ((fault : Fault) → r ≢ Err fault) → (fault : Fault) → as_reply r last ≢ Refused fault
 unrefused-reply a last un fault is = grind (arith)
 

@@ -1,4 +1,4 @@
--- The number of the last record of a close, why one is refused, and the close as a whole.
+-- The number of the last record of closing, why closing is refused, and closing as a whole.
 use Rattle.std.proofs.Common.{◌≡◌, inr, ℕ, ◌+◌, ◌^◌, ◌<◌, Bool, false, cond, ◌∙◌, ap, arith}
 use Rattle.std.proofs.Math.Bridge.{le_prop}
 use Rattle.std.proofs.Math.Logic.{∥∥₁_elim}
@@ -21,7 +21,7 @@ use Rattle.room.proofs.closes.Parts.{stands-closing, failed_after, last_after}
 
 -- ---- the number of the last record
 
--- a cycle and a batch in hand go together
+-- there is a cycle exactly if a batch is pending
 hand-is : (q : State) (c : VolatileState) (h : Option Hand) (o : Option Cycling) → HoldsCycle q c.sessions.drawn.commits h o → is_some h ≡ is_some o
 hand-is q c a b holds = grind (arith)
 
@@ -35,7 +35,7 @@ ruling-below c device q shown = grind (arith) steps 800000
 pub some-below : (c : VolatileState) (device : Device) → ∥ ShowsSome c device ∥₁ → c.sessions.numbers.record.gate < 2 ^ 62
 some-below c device some = ∥∥₁_elim some le_prop (λ shown. ruling-below c device shown.0 shown.1)
 
--- ---- why a close is refused
+-- ---- why closing is refused
 
 fault-of : (failed past : Bool) → failed ≡ false → option_or (some_if failed Failed) (option_or (some_if past TimestampsOut) None) ≡ cond past (Some TimestampsOut) None
 fault-of a past works = grind (arith)

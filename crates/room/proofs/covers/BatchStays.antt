@@ -1,5 +1,5 @@
--- A step that is no tick of the committer leaves the batch in hand as it is, and its cycle with it: one of a session, and
--- a visit of the collector, also where a sweep ends with it.
+-- A step that isn't a tick of the committer leaves the pending batch as it is, and its cycle with it: a step of a session, or
+-- a visit of the collector, even if a sweep ends with it.
 use Rattle.std.proofs.Common.{◌≡◌, ℕ, ◌<◌, Bool, true, false, ◌&&◌, ◌||◌, not, List, [], ◌∷◌, ◌++◌, length, map, refl, sym, ◌∙◌, ap, subst, arith, nat_eq, nat_le}
 use Rattle.std.specs.Prelude.{Option, Some, None, Result, Err}
 use Rattle.std.specs.List.{list_any, list_all}
@@ -89,7 +89,7 @@ times-in ds = map (λ (d : DrawnCommit). d.timestamp) ds
 abbrev times-of : List Commit → List ℕ
 times-of cs = map (λ (c : Commit). c.timestamp) cs
 
--- one of the timestamps that pass stands beside this session
+-- one of the timestamps that pass is paired with this session
 abbrev any-beside : ℕ → (ℕ → Bool) → List ℕ → List ℕ → Bool
 any-beside n test [] ts = false
 any-beside n test (m ∷ ms) [] = false
@@ -122,7 +122,7 @@ later-none : (r : Record) (next : ℕ) (cs : List Commit) → r.persisted < next
 later-none r next [] low all = refl
 later-none r next (c ∷ cs) low all = grind (arith, and_parts, and_from, uncommitted-above, leb-true, later-none r next cs low)
 
--- the cycle is that of the batch in hand after the step too
+-- after the step, too, the cycle is that of the pending batch
 module _ (o : Origin) (q q' : State) (step : Step) (reply : Reply) (old new : List DrawnCommit) (kept : Keeps o q) (session : is_no_tick step ≡ true) (stepped : Stepped q step reply q')
     (drawn : q.drawn ≡ map plain_drawn old) (drawn-after : q'.drawn ≡ map plain_drawn new) (drawers : (more : List ℕ) × (sessions-in new ≡ sessions-in old ++ more)) where
   l : LeavesHand q q'

@@ -33,7 +33,7 @@ use Rattle.session_steps.proofs.Effects.{nothing-done}
 use Rattle.room.specs.Committing.{HoldsHand, HoldsCycle, ShowsIn}
 use Rattle.room.specs.Steps.{StepsToIn}
 
--- without a cycle nothing is in hand
+-- without a cycle no batch is pending
 pub rests-of : (q : State) (drawn : List DrawnCommit) → HoldsCycle q drawn q.hand None → q.hand ≡ None
 rests-of q drawn holds = grind (arith) steps 800000
 

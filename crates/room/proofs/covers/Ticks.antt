@@ -1,4 +1,4 @@
--- A tick of the batch in hand, by the stage that its cycle is in.
+-- A tick of the pending batch, by the stage that its cycle is in.
 use Rattle.std.proofs.Common.{◌≡◌, ◌≢◌, inl, inr, ℕ, ◌+◌, ◌*◌, ◌/◌, ◌<◌, Bool, true, false, ◌&&◌, List, [], ◌∷◌, length, map, filter, get_or, refl, sym, ◌∙◌, ap, subst, arith, nat_eq, nat_lt, nat_le}
 use Rattle.std.specs.Prelude.{Option, Some, None, slice_get, find}
 use Rattle.std.specs.List.{list_any, list_all}
@@ -56,9 +56,9 @@ use Rattle.room.specs.Committing.{HoldsHand, HoldsCycle, ShowsIn}
 use Rattle.room.specs.Steps.{StepsToIn}
 use Rattle.room.specs.Closing.{left_at}
 
--- ---- the batch in hand
+-- ---- the pending batch
 
--- with a cycle there is one
+-- with a cycle there is a pending batch
 pub record Held (q : State) (drawn : List DrawnCommit) (cycle : Cycling) : Type 0 where
   pub hand : Hand
   pub in_hand : q.hand ≡ Some hand

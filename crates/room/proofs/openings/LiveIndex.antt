@@ -1,4 +1,4 @@
--- The index of the versions that an opening found live.
+-- The index of the versions that opening found live.
 use Rattle.std.proofs.Common.{◌≡◌, ◌⊎◌, inl, inr, ℕ, zero, suc, ◌+◌, ◌<◌, Bool, true, false, cond, List, [], ◌∷◌, map, refl, sym, ◌∙◌, ap, subst, arith, add-one}
 use Rattle.std.specs.Prelude.{Option, Some, is_some, slice_get, unwrap_or}
 use Rattle.std.specs.List.{Contains}

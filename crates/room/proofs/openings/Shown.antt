@@ -1,4 +1,4 @@
--- What an opening gives is shown.
+-- What opening gives is shown.
 use Rattle.std.proofs.Common.{◌≡◌, ℕ, ◌+◌, ◌*◌, ◌<◌, ◌≤◌, Bool, true, false, cond, not, ◌&&◌, List, [], length, get_or, map, refl, sym, ◌∙◌, ap, subst, nat_lt, nat_le, ◌^◌, arith}
 use Rattle.std.specs.Prelude.{slice_get, Option, Some, None, is_none, is_some}
 use Rattle.std.specs.List.{range_with_len}
@@ -104,7 +104,7 @@ module _ (old new : Device) (layout : Layout) (r : Record) (next : ℕ) (free : 
 
   -- ---- the words of the opened device
 
-  -- the words of the slots that are no begins and no ends are as they were
+  -- the words of the slots that are neither begins nor ends are as they were
   word-now : (word : ℕ) → 8 + 32 * layout.places ≤ word → word < old.words → get_or (image_of new) word 0 ≡ get_or (opened_slots image) word 0
   word-now word past within = image_word new word (omega (arith, within, new-words)) ∙ (opened.slots word past within).holds ∙ sym (up.slots word (omega (arith, past)))
 

@@ -19,7 +19,7 @@ use Rattle.room.proofs.opening.begin.Goals as goal
 pub returns-in-Err-clause-fault : goal.returns-in-Err-clause-fault
 returns-in-Err-clause-fault g c = refusal-examined (g.D.Pmem.state c.args.device.now) c.in-Err.fault c.in-Err.ensures.fault
 
--- a bound beside `Sync` holds wherever a thread may run, and so here
+-- a bound next to `Sync` holds wherever a thread may run, so it holds here too
 pub returns-in-Err-clause-images : goal.returns-in-Err-clause-images
 returns-in-Err-clause-images g c = images-refused (g.D.Pmem.state c.args.device.now) ((g.met.D.Pmem g.world.𝓛 g.world.𝓜 g.world.𝓡 ((λ s x. x), (λ x. x), (λ x. x), λ x. x)).orderly c.args.device.now) c.requires.at_rest
 
