@@ -4,7 +4,8 @@ use base::row::Row;
 use base::step::Step;
 use std::alloc::Global;
 
-/// What is asked of a room: keys are of table 1 where no other is named, and each row is one byte, or 96 alike.
+/// What is asked of a room: keys are of table 1 if no other is named, and each row is one byte, or 96 equal
+/// bytes.
 #[derive(Clone, Copy, Debug)]
 pub enum Ask {
     Begin,
@@ -21,9 +22,9 @@ pub enum Ask {
     Poll(u8),
     Abort(u8),
     End(u8),
-    /// So many ticks.
+    /// This many ticks.
     Commit(u64),
-    /// So many visits.
+    /// This many visits.
     Collect(u64),
 }
 

@@ -1,7 +1,7 @@
 use crate::asks::Ask;
 use crate::asks::Ask::{Begin, Commit, Delete, Draw, Poll, Put, Stamp};
 
-/// What is asked in a life, in parts of which others have the same.
+/// What is asked in a life, in parts that several lives share.
 pub type Life = &'static [&'static [Ask]];
 
 /// A life, and whether the crash that ends it leaves the newest value of each word, or the oldest.

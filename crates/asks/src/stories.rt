@@ -18,9 +18,9 @@ pub struct Story {
     pub version: u64,
     pub before: &'static [Past],
     pub life: Life,
-    /// Whether the room is closed then.
+    /// Whether the room is closed at the end.
     pub closes: bool,
-    /// How many operations are made once each of its records rules: that of its opening, and those that it writes then.
+    /// How many operations are made once each of its records rules: that of its opening, and those that it writes later.
     pub records: &'static [u64],
     /// How many operations it makes in all.
     pub operations: u64,
@@ -32,8 +32,8 @@ impl Story {
         self.records.first().copied().unwrap_or(0)
     }
 
-    /// How many of its records rule after so many operations, at least and at most. The last three of a record store,
-    /// flush and fence its gate: it may rule from the first of these on, and rules from the last on.
+    /// How many of its records rule after this many operations, at least and at most. The last three operations of a record
+    /// store, flush and fence its gate: it may rule from the first of these on, and rules from the last on.
     pub fn ruling(&self, made: u64) -> (usize, usize) {
         let mut least: usize = 0;
         let mut most: usize = 0;
@@ -49,8 +49,8 @@ impl Story {
     }
 }
 
-// An opening of a fresh device. It makes 39 operations. In the stories a put makes 10, a stamp one or, of an update, two, and
-// a cycle of so many lines 40 more.
+// A fresh device is opened, by 39 operations. In the stories a put makes 10, a stamp one or, of an update, two, and a cycle
+// 40 plus one for each line.
 const FRESH: Story = Story {
     name: "opening of a fresh device",
     slots: 4,
@@ -62,7 +62,7 @@ const FRESH: Story = Story {
     operations: 39,
 };
 
-/// The row of a first commit is updated, and that is lost.
+/// The row of a first commit is updated, and the update is lost.
 pub const UPDATE_LOST: Story = Story {
     name: "update that is lost",
     life: LOST_UPDATE,
@@ -71,7 +71,7 @@ pub const UPDATE_LOST: Story = Story {
     ..FRESH
 };
 
-/// So is a second update.
+/// A second update is lost too.
 pub const UPDATE_LOST_AGAIN: Story = Story {
     name: "update that is lost again",
     before: &[(LOST_UPDATE, true)],
@@ -105,7 +105,7 @@ pub const BATCH_OF_THREE: Story = Story {
     ..FRESH
 };
 
-/// It writes what that cycle would, but for the timestamps that it reserves. None are left over, and no gap.
+/// It writes what that cycle would, except for the timestamps that it reserves. None are left over, and there is no gap.
 pub const CLOSE_OF_THREE: Story = Story {
     name: "close",
     life: &[&[Begin, Begin, Begin], THREE_WRITES, THREE_DRAWS],
@@ -150,14 +150,14 @@ pub const SLOT_REUSED: Story = Story {
     ..FRESH
 };
 
-/// The opening after a first commit.
+/// Opening after a first commit.
 pub const ONE_ROW_OPENED: Story = Story {
     name: "opening",
     before: &[(ONE_ROW, false)],
     ..FRESH
 };
 
-/// Over an image of the first version it changes the version first, by a store, a flush and a fence.
+/// Opening an image of the first version, which changes the version first, by a store, a flush and a fence.
 pub const FIRST_VERSION_OPENED: Story = Story {
     name: "opening of the first version",
     version: 1,
@@ -166,7 +166,7 @@ pub const FIRST_VERSION_OPENED: Story = Story {
     ..ONE_ROW_OPENED
 };
 
-/// Over one with two rows a commit follows.
+/// Opening such an image with two rows, after which a commit follows.
 pub const FIRST_VERSION_UPDATED: Story = Story {
     name: "image of the first version",
     version: 1,
@@ -177,7 +177,7 @@ pub const FIRST_VERSION_UPDATED: Story = Story {
     ..FRESH
 };
 
-/// The opening meets a ninth gap, in which a begin and an end lie. It sweeps them first, by 2 stores, 2 flushes and 1 fence.
+/// Opening with a ninth gap, which has a begin and an end. It sweeps them first, by 2 stores, 2 flushes and 1 fence.
 pub const NINE_GAPS_OPENED: Story = Story {
     name: "opening of nine gaps",
     slots: 16,
@@ -187,7 +187,7 @@ pub const NINE_GAPS_OPENED: Story = Story {
     ..FRESH
 };
 
-/// Its rows.
+/// The rows of that image.
 pub const NINE_ROWS: Table = &[
     (1, 1),
     (2, 2),

@@ -51,7 +51,7 @@ fifth text = slice_index text 4
 size-joined : (choice : Choice) (value : Text) → length (option_word choice ++ 61 ∷ value) ≡ length (option_word choice) + suc (length value)
 size-joined choice value = length-append (option_word choice) (61 ∷ value)
 
--- a name alone is no name with a value
+-- a name alone isn't a name with a value
 alone : (a b : Choice) (value : Text) → option_word a ≡ option_word b ++ 61 ∷ value → ⊥
 alone a b value h = grind (arith, by_letter, letter-plain, letter-at, size-joined)
 
@@ -70,7 +70,7 @@ no_file-name a more = grind (arith)
 no_file-plain : (choice : Choice) → is_file_name (option_word choice) ≡ false
 no_file-plain a = grind (arith)
 
--- the word for wide slots is no option's name, alone or with a value
+-- the word for wide slots isn't an option's name, alone or with a value
 not_wide-letter : (choice : Choice) → 100 ≡ letter choice → ⊥
 not_wide-letter a h = grind (arith)
 

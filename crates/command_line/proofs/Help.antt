@@ -1,4 +1,4 @@
--- What the command line is, as clap's statements take it, and which kinds of error answer with help.
+-- What the command line is, as clap's statements take it, and which kinds of error print help.
 use Rattle.std.proofs.Common.{◌≡◌, ◌⊎◌, IfOk, IsOkAnd, Result, Bool, true, false, not, ◌&&◌, List, [], ◌∷◌, ◌++◌, ◌∙◌, ap, subst, arith}
 use Rattle.std.proofs.lemmas.Result.{IfOk-weaker}
 use Rattle.clap.specs.Words.{AddsArg, AddsSubcommand, App, IsAmong, Rule, Shape, app_of, fault_of, rule_of, shape_of, with_rule, with_subcommand}
@@ -55,7 +55,7 @@ pub answers : (words : List Text) (is : ErrorKind) (fault : WordFault) → Repor
     → AnswersHelp words fault
 answers words is a help met = grind (arith)
 
--- where the words have no fault, bad words are blamed for being unusual
+-- if the words have no fault, bad words are reported for being unusual
 pub unusual : (words : List Text) (is : ErrorKind) (fault : WordFault) → ReportsKind is fault → is ≡ kind.InvalidValue → fault_of wbl words ≡ []
     → AnswersHelp words fault
 unusual words is a help same none = grind (arith)

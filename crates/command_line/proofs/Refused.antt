@@ -1,4 +1,4 @@
--- Words that give an order are no others: which subcommand they name, and what its file and options are.
+-- Words that give an order give no other: which subcommand they name, and what its file and options are.
 use Rattle.std.proofs.Common.{◌≡◌, ◌≤◌, ℕ, Bool, List, [], ◌∷◌, true, false, Option, Some, None, refl, sym, ◌∙◌, ap, subst, inl, inr, unwrap_or, codes, is_some, slice_index, arith, Bor}
 use Rattle.std.specs.Prelude.{IfNone, IsOk, Result, is_err, ◌↔◌}
 use Rattle.std.specs.List.{flat_map}
@@ -204,7 +204,7 @@ number_given words found choice default n (parts, spelled, s) is = subst (HasNum
 pub left_out : (words : List Text) (found : Given) (choice : Choice) (given : AreGiven words found) → number_at choice found ≡ None → IsLeftOut given.0 choice
 left_out words found choice (parts, spelled, s) none = subst (WritesAtMostOne (flat_map (value_of choice) parts)) none (s.numbers_given choice)
 
--- the word for wide slots, where it is found, or is not
+-- the word for wide slots, whether it is found or not
 pub width_given : (words : List Text) (found : Given) (given : AreGiven words found) → flat_map flag_of given.0 ≡ flag_words found.wide
 width_given words found (parts, spelled, s) = s.wide_asked
 

@@ -117,7 +117,7 @@ row_of-row_text (b ∷ rest) h = grind (arith, length-encode_with, false_from_ne
 pub no_row : (text : Text) → row_of text ≡ None → IsNoRow text
 no_row text none bytes h e = grind (arith, row_of-row_text)
 
--- ---- the test before memory is wanted
+-- ---- the test before memory is needed
 
 one_of_three : (a b d : Bool) (x y z : ℕ) → is_some (if a then Some x else if b then Some y else if d then Some z else None) ≡ ((d || a) || b)
 one_of_three a b d x y z = grind (arith)
@@ -152,7 +152,7 @@ row_by : (dash bad : Bool) (r : Result (List ℕ) FromHexError) (o : Option (Lis
     → (if dash then Some [] else if bad then None else result_ok r) ≡ o
 row_by a bad r o d b h = grind (arith)
 
--- a text that isn't one is no row
+-- a text that isn't one isn't a row
 pub no_hex-no_row : (text : Text) → bytes_eq text (codes "-") ≡ false → (length text == 0 || list_any is_ascii_uppercase text) ≡ false → is_hex text ≡ false
     → row_of text ≡ None
 no_hex-no_row text dash bad odd = row_by (bytes_eq text (codes "-")) (length text == 0 || list_any is_ascii_uppercase text) (decode_of text) None dash bad (undecoded text (decode_of text) refl odd)

@@ -34,7 +34,7 @@ lives-with before life = flat_map-append lines_of_life before (life ∷ []) ∙ 
 
 -- ---- lines that are out of place
 
--- where no life is open, the last line leaves none open
+-- if no life is open, the last line leaves none open
 shut-last : (slots places window : ℕ) (lives : List ScriptLife) → IsShut lives
     → (earlier : List ScriptLine) × (last : ScriptLine) × (lines_with slots places window lives ≡ earlier ++ last ∷ []) × (leaves_life_open last ≡ false)
 shut-last slots places window lives (inl none) = ([], line.Geometry slots places window, ap (lines_with slots places window) none, refl)
@@ -58,7 +58,7 @@ pub out-of-lives : (slots places window : ℕ) (lives : List ScriptLife) (one : 
 out-of-lives slots places window lives one (inl geometry) = inr (inl (no-cons _ _, geometry))
 out-of-lives slots places window lives one (inr (within, shut)) = let last = shut-last slots places window lives shut in inr (inr (within, last.0, last.1, last.2, last.3))
 
--- ---- why a text is no script
+-- ---- why a text isn't a script
 
 pub wrong-by : (fault : ScriptFault) (P Q : ℕ → Type 0) → ((number : ℕ) → P number → Q number) → IfWrongLine P fault → IfWrongLine Q fault
 wrong-by a b d says p = grind (arith)

@@ -8,12 +8,12 @@ use Rattle.command_line.specs.declared.given.Given.{Given}
 use Rattle.command_line.specs.declared.orders.Choice.{Choice}
 use Rattle.command_line.specs.declared.orders.Choice.TheVariants.{Slots, Places, Window, Sessions, Commits}
 
--- the file, where there is one
+-- the file, if there is one
 abbrev pub at_most_one : Option (Bor Text) → List Text
 at_most_one None = []
 at_most_one (Some name) = name.now ∷ []
 
--- the file, where there is one, has a file's name
+-- the file, if there is one, has a file's name
 abbrev pub IsNamed : Option (Bor Text) → Type 0
 IsNamed file = IfSome file (λ name. is_file_name name.now ≡ true)
 
@@ -33,7 +33,7 @@ with_number Window number given = record given { window = number }
 with_number Sessions number given = record given { sessions = number }
 with_number Commits number given = record given { commits = number }
 
--- these parts name this file and these numbers, and the word for wide slots where that is given
+-- these parts name this file and these numbers, and the word for wide slots if that is given
 pub record Shows (parts : List Part) (given : Given) : Type 0 where
   pub one_file : flat_map file_of parts ≡ at_most_one given.file
   pub file_named : IsNamed given.file
@@ -44,20 +44,20 @@ pub record Shows (parts : List Part) (given : Given) : Type 0 where
 abbrev pub AreGiven : List Text → Given → Type 0
 AreGiven words given = (parts : List Part) × (flat_map words_of_part parts ≡ words) × Shows parts given
 
--- the file is set, which was not, by a file's name
+-- the file, which wasn't set before, is set by a file's name
 pub record SetsFile (old : Given) (name : Text) (new : Given) : Type 0 where
   pub was_none : old.file ≡ None
   pub is_now : at_most_one new.file ≡ name ∷ []
   pub named : is_file_name name ≡ true
   pub others_same : new ≡ record old { file = new.file }
 
--- the option has the number that the text writes, and had none
+-- the option gets the number that the text writes, and had none before
 pub record SetsNumber (old : Given) (choice : Choice) (value : Text) (new : Given) : Type 0 where
   pub was_none : number_at choice old ≡ None
   pub writes : is_some (number_below (2 ^ 64) value) ≡ true
   pub is_now : new ≡ with_number choice (number_below (2 ^ 64) value) old
 
--- wide slots are asked for, which were not
+-- wide slots are asked for, and weren't before
 pub record SetsWide (old new : Given) : Type 0 where
   pub was_not : old.wide ≡ false
   pub is_now : new ≡ record old { wide = true }

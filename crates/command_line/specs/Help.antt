@@ -56,15 +56,15 @@ abbrev pub threads_shape : Shape
 threads_shape = subcommand_shape (codes "threads") (name_rule (codes "FILE")
     ∷ number_rule (codes "sessions") (codes "4") 1 32 ∷ number_rule (codes "commits") (codes "8") 1 1000 ∷ [])
 
--- the program with no subcommand
+-- the program without subcommands
 abbrev pub wbl_alone : App
 wbl_alone = record { top = record (new_shape (codes "wbl")) { no_binary_name = true; subcommand_required = true }; subs = [] }
 
--- with some
+-- the program with these subcommands
 abbrev pub wbl_with : List Shape → App
 wbl_with subs = record { top = record wbl_alone.top { is_leaf = false }; subs = subs }
 
--- all of it
+-- the whole program
 abbrev pub wbl : App
 wbl = wbl_with (format_shape ∷ run_shape ∷ check_shape ∷ lives_shape ∷ threads_shape ∷ [])
 
@@ -78,14 +78,14 @@ MayGetHelp words = IsAmong DisplayHelp (fault_of wbl words)
 abbrev pub GetsHelp : List Text → Type 0
 GetsHelp words = fault_of wbl words ≡ DisplayHelp ∷ []
 
--- what a kind of error is answered by: help by its text, want of memory as such, and any other as bad words, unless memory
--- is wanted for the text
+-- how a kind of error is reported: help by its text, a lack of memory as one, and any other as bad words, unless memory for
+-- the text is lacking
 abbrev pub ReportsKind : ErrorKind → WordFault → Type 0
 ReportsKind is (Help text) = is ≡ DisplayHelp
 ReportsKind is (BadWords text) = (is ≢ DisplayHelp) × (is ≢ kind.OutOfMemory)
 ReportsKind is (OutOfMemory error) = ⊤
 
--- where help is answered, the words may get it, and where bad words are blamed, help isn't the one answer
+-- if help is printed, the words may get it, and if bad words are reported, help isn't the one answer
 abbrev pub AnswersHelp : List Text → WordFault → Type 0
 AnswersHelp words (Help text) = MayGetHelp words
 AnswersHelp words (BadWords text) = GetsHelp words → ⊥

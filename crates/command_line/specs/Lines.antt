@@ -20,7 +20,7 @@ texts = map (λ s. s.now)
 abbrev pub is_word : Text → Text → Bool
 is_word = bytes_eq
 
--- what stands between the spaces of a line
+-- what is between the spaces of a line
 abbrev pub words_of : Text → List Text
 words_of line = filter (λ word. not (length word == 0)) (slice_split (λ byte. byte == 32) line)
 
@@ -99,7 +99,7 @@ four_word_command name session table key last =
     if is_word name (codes "scan") then option_map Step (scan_step session table key last)
     else put_command name session table key last
 
--- the command that some words spell, where they spell one
+-- the command that some words spell, if they spell one
 abbrev pub command_of : List Text → Option Command
 command_of [] = None
 command_of (name ∷ []) = bare_command name
@@ -109,7 +109,7 @@ command_of (name ∷ session ∷ table ∷ key ∷ []) = option_map Step (spelle
 command_of (name ∷ session ∷ table ∷ key ∷ last ∷ []) = four_word_command name session table key last
 command_of (name ∷ a ∷ b ∷ c ∷ d ∷ e ∷ more) = None
 
--- a space stands before the first word or after the last
+-- there is a space before the first word or after the last
 abbrev pub has_outer_space : Text → Bool
 has_outer_space line = slice_index line 0 == 32 || slice_index line (length line - 1) == 32
 
@@ -117,7 +117,7 @@ has_outer_space line = slice_index line 0 == 32 || slice_index line (length line
 abbrev pub is_skipped : Text → Bool
 is_skipped line = length line == 0 || slice_index line 0 == 35
 
--- what a line is read as: `None` where it is no command, `Some None` where it is skipped
+-- what a line is read as: `None` if it isn't a command, `Some None` if it is skipped
 abbrev pub line_of : Text → Option (Option Command)
 line_of line =
     if is_skipped line then Some None

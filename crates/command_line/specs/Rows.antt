@@ -12,7 +12,7 @@ abbrev pub row_text : List ℕ → Text
 row_text [] = codes "-"
 row_text (byte ∷ bytes) = encode_lower (byte ∷ bytes)
 
--- the row that a word writes, where it writes one
+-- the row that a word writes, if it writes one
 abbrev pub row_of : Text → Option (List ℕ)
 row_of text =
     if bytes_eq text (codes "-") then Some []

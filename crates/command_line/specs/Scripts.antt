@@ -25,7 +25,7 @@ line_of_command command.Cycle = None
 line_of_command (command.Crash keeps) = None
 line_of_command c = Some (line.Command c)
 
--- so some words spell a command
+-- some words spell a command in this way
 abbrev pub command_line_of : List Text → Option ScriptLine
 command_line_of words = option_and_then line_of_command (command_of words)
 
@@ -49,8 +49,8 @@ abbrev pub geometry_line : Text → Text → Text → Option ScriptLine
 geometry_line slots places window =
     option_and_then (λ s. option_and_then (λ p. option_map (line.Geometry s p) (number_below (2 ^ 64) window)) (number_below (2 ^ 64) places)) (number_below (2 ^ 64) slots)
 
--- the line of a name and what follows it, where the name is one that no command has. `None` stands for another name, and
--- `Some None` for words that are wrong after this one
+-- the line of a name and what follows it, if the name is one that no command has. `None` stands for another name, and `Some None` for words that are
+-- wrong after this one
 abbrev pub close_line : Text → Option (Option ScriptLine)
 close_line name = if is_word name (codes "close") then Some (Some line.Close) else None
 
@@ -68,11 +68,11 @@ own_line (name ∷ fuse ∷ keeps ∷ []) = named_life name fuse keeps
 own_line (name ∷ slots ∷ places ∷ window ∷ []) = named_geometry name slots places window
 own_line (name ∷ a ∷ b ∷ c ∷ d ∷ more) = None
 
--- the line that some words spell, where they spell one
+-- the line that some words spell, if they spell one
 abbrev pub line_of_words : List Text → Option ScriptLine
 line_of_words words = unwrap_or (own_line words) (command_line_of words)
 
--- what a line is read as: `None` where it is no line of a script, `Some None` where it is skipped
+-- what a line is read as: `None` if it isn't a line of a script, `Some None` if it is skipped
 abbrev pub script_line_of : Text → Option (Option ScriptLine)
 script_line_of text =
     if is_skipped text then Some None
@@ -89,20 +89,20 @@ SpellsScriptPut text = (session : ℕ) × (key : Key) × (row : List ℕ) × (sc
 
 -- ---- the whole
 
--- what stands between the line feeds of a text
+-- what is between the line feeds of a text
 abbrev pub script_lines : Text → List Text
 script_lines = slice_split (λ byte. byte == 10)
 
--- the texts are read as these lines, those that are skipped left out
+-- the texts are read as these lines, without those that are skipped
 abbrev pub AreReadAs : List Text → List ScriptLine → Type 0
 AreReadAs written lines = (each : List (Option ScriptLine)) × (map script_line_of written ≡ map (λ read. Some read) each) × (lines ≡ flat_map option_to_list each)
 
--- a close, where one is asked
+-- the closing line, if it is asked for
 abbrev pub closing : Bool → List ScriptLine
 closing true = line.Close ∷ []
 closing false = []
 
--- the lines of a life: its beginning, its commands, and perhaps a close
+-- the lines of a life: its beginning, its commands, and perhaps its closing
 abbrev pub lines_of_life : ScriptLife → List ScriptLine
 lines_of_life life = line.Life life.fuse life.keeps ∷ (map (λ c. line.Command c) life.commands.items ++ closing life.closes)
 
@@ -125,27 +125,27 @@ abbrev pub is_geometry : ScriptLine → Bool
 is_geometry (line.Geometry slots places window) = true
 is_geometry _ = false
 
--- the line stands within a life
+-- the line is within a life
 abbrev pub is_within_life : ScriptLine → Bool
 is_within_life (line.Command c) = true
 is_within_life line.Close = true
 is_within_life _ = false
 
--- after this line a life goes on
+-- a life goes on after this line
 abbrev pub leaves_life_open : ScriptLine → Bool
 leaves_life_open (line.Life fuse keeps) = true
 leaves_life_open (line.Command c) = true
 leaves_life_open _ = false
 
--- The line can't stand after these: the geometry is the first line and no other, and what belongs to a life stands after its
--- beginning and before its close
+-- The line can't come after these: the geometry is the first line and no other, and what belongs to a life comes after its beginning and before its
+-- close
 abbrev pub IsOutOfPlace : List ScriptLine → ScriptLine → Type 0
 IsOutOfPlace before one =
     ((before ≡ []) × (is_geometry one ≡ false))
     ⊎ ((before ≢ []) × (is_geometry one ≡ true))
     ⊎ ((is_within_life one ≡ true) × (earlier : List ScriptLine) × (last : ScriptLine) × (before ≡ earlier ++ last ∷ []) × (leaves_life_open last ≡ false))
 
--- after these lines the text is no line of a script, or spells one that is out of its place
+-- after these lines the text isn't a line of a script, or spells one that is out of place
 abbrev pub IsWrongAfter : List ScriptLine → Text → Type 0
 IsWrongAfter before text = (script_line_of text ≡ None) ⊎ ((one : ScriptLine) × (script_line_of text ≡ Some (Some one)) × IsOutOfPlace before one)
 
@@ -167,7 +167,7 @@ pub record IsFirstWrongLine (text : Text) (number : ℕ) : Type 0 where
   pub wrong : IsWrongAfter read line
   pub counted : number ≡ min (length before + 1) (2 ^ 64 - 1)
 
--- the line of this number is the first wrong one; or there is none but skipped ones, and then it is the first
+-- the line of this number is the first wrong one; or all lines are skipped, and then it is the first
 abbrev pub IsWrongLine : Text → ℕ → Type 0
 IsWrongLine text number = IsFirstWrongLine text number ⊎ (AreReadAs (script_lines text) [] × (number ≡ 1))
 
@@ -180,15 +180,15 @@ pub record HasBadGeometry (text : Text) : Type 0 where
   pub lines : AreReadAs (script_lines text) (lines_with slots places window lives)
   pub outside : is_in_limits (layout_with plain_version slots places window) ≡ false
 
--- ---- why a text is no script
+-- ---- why a text isn't a script
 
--- this of the number of the line, where a line is wrong
+-- this of the number of the line, if a line is wrong
 abbrev pub IfWrongLine : (ℕ → Type 0) → ScriptFault → Type 0
 IfWrongLine P (WrongLine number) = P number
 IfWrongLine P BadGeometry = ⊤
 IfWrongLine P OutOfMemory = ⊤
 
--- this, where the geometry is out of its limits
+-- this, if the geometry is out of its limits
 abbrev pub IfBadGeometry : Type 0 → ScriptFault → Type 0
 IfBadGeometry P (WrongLine number) = ⊤
 IfBadGeometry P BadGeometry = P

@@ -30,7 +30,7 @@ gaps_text (gap ∷ gaps) = flat_map gap_text (gap ∷ gaps)
 abbrev pub long_text : ℕ → Text
 long_text timestamp = codes " " ++ decimal timestamp
 
--- the long commits, a space before each, where there are any
+-- the long commits, with a space before each, if there are any
 abbrev pub longs_text : List ℕ → Text
 longs_text [] = []
 longs_text (long ∷ longs) = codes " longs" ++ flat_map long_text (long ∷ longs)
@@ -40,12 +40,12 @@ abbrev pub survivor_text : Survivor → Text
 survivor_text Oldest = codes "oldest"
 survivor_text Newest = codes "newest"
 
--- the line of an opening, with these numbers and gaps
+-- the line printed on opening, with these numbers and gaps
 abbrev pub opened_line : ℕ → ℕ → ℕ → ℕ → List Gap → Text
 opened_line gate persisted dirty next gaps =
     codes "opened gate " ++ (decimal gate ++ (codes " p " ++ (decimal persisted ++ (codes " d " ++ (decimal dirty ++ (codes " next " ++ (decimal next ++ (codes " gaps" ++ gaps_text gaps))))))))
 
--- the line of a close, with these numbers
+-- the line printed on closing, with these numbers
 abbrev pub closed_line : ℕ → ℕ → ℕ → Text
 closed_line gate persisted dirty = codes "closed gate " ++ (decimal gate ++ (codes " p " ++ (decimal persisted ++ (codes " d " ++ decimal dirty))))
 

@@ -47,16 +47,16 @@ file_of flag = []
 file_of (spaced choice value) = []
 file_of (joined choice value) = []
 
--- the word for wide slots, where a part is it
+-- the word for wide slots, if a part is it
 abbrev pub flag_of : Part → List Text
 flag_of flag = wide_word ∷ []
 flag_of _ = []
 
--- that word, where wide slots are asked for
+-- that word, if wide slots are asked for
 abbrev pub flag_words : Bool → List Text
 flag_words wide = if wide then wide_word ∷ [] else []
 
--- the value, where it is given for the option that is asked about
+-- the value, if it is given for the option that is asked about
 abbrev pub value_for : Choice → Choice → Text → List Text
 value_for Slots Slots value = value ∷ []
 value_for Places Places value = value ∷ []
@@ -81,13 +81,13 @@ WritesAtMostOne values (Some n) = (value : Text) × (values ≡ value ∷ []) ×
 abbrev pub IsLeftOut : List Part → Choice → Type 0
 IsLeftOut parts choice = WritesAtMostOne (flat_map (value_of choice) parts) None
 
--- an option has the number of its one value, or the default where it has none
+-- an option has the number of its one value, or the default if it has none
 abbrev pub HasNumber : List Part → Choice → ℕ → ℕ → Type 0
 HasNumber parts choice default n =
     (IsLeftOut parts choice × (n ≡ default))
     ⊎ WritesAtMostOne (flat_map (value_of choice) parts) (Some n)
 
--- the layout that a format asks for: of slots of two lines where it asks for wide ones
+-- the layout that a format asks for: with slots of two lines if it asks for wide ones
 abbrev pub asked_layout : Bool → ℕ → ℕ → ℕ → Layout
 asked_layout wide slots places window = layout_with (if wide then wide_version else plain_version) slots places window
 

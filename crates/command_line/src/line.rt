@@ -12,7 +12,7 @@ use base::step::SessionStep;
 use std::alloc::Global;
 use thiserror::Error;
 
-/// Why no command was read.
+/// Why a line isn't read as a command.
 #[derive(Clone, Copy, Debug, Error)]
 pub enum LineFault {
     #[error("not a command")]
@@ -53,7 +53,7 @@ pub(crate) fn is_skipped(line: &[u8]) -> bool
     }
 }
 
-/// Does a space stand before the first word or after the last?
+/// Is there a space before the first word or after the last?
 pub(crate) fn has_outer_space(line: &[u8]) -> bool
     requires { 0 < length line.now }
     ensures { result ≡ has_outer_space line.now }
@@ -61,10 +61,10 @@ pub(crate) fn has_outer_space(line: &[u8]) -> bool
     line[0] == b' ' || line[line.len() - 1] == b' '
 }
 
-/// One word more than a command has.
+/// One more word than a command has.
 pub(crate) const MOST_WORDS: usize = 6;
 
-/// The first words of a line, and how many they are.
+/// The first words of a line, and how many there are.
 pub(crate) fn first_words<'a>(line: &'a [u8]) -> ([&'a [u8]; MOST_WORDS], usize)
     ensures count { result.1 ≤ 6 }
     ensures words { texts (take result.1 result.0) ≡ take 6 (words_of line.now) }

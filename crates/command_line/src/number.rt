@@ -3,7 +3,7 @@ ghost use Rattle.command_line.specs.Numbers.{number_below};
 
 const MOST_DIGITS: usize = 20;
 
-/// The number that 1 to 20 decimal digits write, where it fits.
+/// The number that 1 to 20 decimal digits write, if it fits.
 pub fn number(word: &[u8]) -> Option<u64>
     ensures { result ≡ number_below (2 ^ 64) word.now }
 {

@@ -11,7 +11,7 @@ use thiserror::Error;
 /// What the words of the command line ask for.
 #[derive(Clone, Copy)]
 pub enum Order<'a> {
-    /// A new image is written into the file, with slots of two lines where wide ones are asked for.
+    /// A new image is written into the file, with slots of two lines if wide ones are asked for.
     Format {
         file: &'a str,
         wide: bool,
@@ -19,7 +19,7 @@ pub enum Order<'a> {
         places: u64,
         window: u64,
     },
-    /// The image in the file is opened, and lines of commands are obeyed.
+    /// The image in the file is opened, and the lines of commands are run.
     Run {
         file: &'a str,
     },
@@ -31,8 +31,8 @@ pub enum Order<'a> {
     Lives {
         file: &'a str,
     },
-    /// The image in the file is opened, and so many threads, each with a session of its own, make
-    /// so many commits each.
+    /// The image in the file is opened, and this many threads, each with a session of its own, make
+    /// this many commits each.
     Threads {
         file: &'a str,
         sessions: u64,
@@ -56,8 +56,8 @@ pub const MOST_SESSIONS: u64 = 32;
 /// How many commits each of them may make, from 1 on.
 pub const MOST_COMMITS: u64 = 1_000;
 
-/// The layout that a format asks for: of version 3, with slots of two lines, where it asks for wide
-/// ones, and else of version 2. `BadGeometry` where its numbers are out of their limits.
+/// The layout that a format asks for: version 3, with slots of two lines, if it asks for wide ones,
+/// and version 2 otherwise. `BadGeometry` if its numbers are out of their limits.
 pub fn asked_geometry(wide: bool, slots: u64, places: u64, window: u64) -> Result<Geometry, Fault>
     ensures ok { IfOk result (λ geometry. geometry ≡ asked_layout wide slots places window) }
     ensures limits { IsOk result ↔ IsTrue (is_in_limits (asked_layout wide slots places window)) }

@@ -26,7 +26,7 @@ pub enum Printed<'a> {
         next: u64,
         gaps: &'a [Gap],
     },
-    /// The image that a close leaves.
+    /// The image that closing leaves.
     Closed {
         gate: u64,
         persisted: u64,
@@ -52,7 +52,7 @@ pub enum Printed<'a> {
     End {
         rows: usize,
     },
-    /// Rows, a line each, and then how many they are.
+    /// Rows, a line each, and then how many there are.
     Rows(&'a [(Key, Row)]),
     Session(u8),
     Row(&'a [u8]),
@@ -70,14 +70,14 @@ pub enum Printed<'a> {
     Visited(u64),
     SweepEnd,
     Stopped(Survivor),
-    /// A life of a script begins, the number of which counts from 1.
+    /// A life of a script begins. Its number counts from 1.
     Life(usize),
     /// It is over.
     LifeStopped,
     /// The room that threads worked on is closed.
     ThreadsClosed,
     Refused(Fault),
-    /// The number of a line that is no command, from 1.
+    /// The number of a line that isn't a command, from 1.
     NotACommand {
         line: u64,
     },

@@ -7,16 +7,16 @@ ghost use Rattle.command_line.specs.declared.line.LineFault.TheVariants.{NotACom
 use crate::line::LineFault;
 use std::alloc::Global;
 
-/// The bytes of a row, written as two lower case hex digits each, or as `-` where there are none.
+/// The bytes of a row, written as two lower case hex digits each, or as `-` if there are none.
 pub fn row(alloc: Global, word: &[u8]) -> Result<Vec<u8>, LineFault>
     ensures value { IfOk result (λ row. row_of word.now ≡ Some row.items) }
     ensures spelled { IfOk result (λ row. word.now ≡ row_text row.items) }
 
-    // No row is written so.
+    // No row has this text.
     ensures refused { IfErr result (λ fault. fault ≡ NotACommand → row_of word.now ≡ None) }
     ensures unspelled { IfErr result (λ fault. fault ≡ NotACommand → IsNoRow word.now) }
 
-    // Memory is wanted for a row alone.
+    // Only a row takes memory.
     ensures memory { IfErr result (λ fault. fault ≡ OutOfMemory → IsSome (row_of word.now)) }
 {
     decoded(alloc, word)

@@ -14,7 +14,7 @@ use std::alloc::{AllocError, Global};
 /// A life that a script asks for.
 #[derive(Drop)]
 pub struct ScriptLife {
-    /// After so many operations the device fails. `None`: it doesn't.
+    /// The device fails after this many operations. `None`: it doesn't.
     pub fuse: Option<u64>,
     /// What the stop keeps.
     pub keeps: Survivor,
@@ -29,10 +29,10 @@ pub struct Script {
     pub lives: Vec<ScriptLife>,
 }
 
-/// Why a text is no script.
+/// Why a text isn't a script.
 #[derive(Clone, Copy)]
 pub enum ScriptFault {
-    /// The line of this number, from 1 on, is none that may stand there.
+    /// The line of this number, from 1 on, can't come there.
     WrongLine(u64),
     BadGeometry,
     OutOfMemory,
@@ -58,8 +58,7 @@ struct Draft {
     lives: Vec<ScriptLife>,
 }
 
-/// Reads a script whole. Of several wrong lines the first is reported, and the numbers of the image only where no line is
-/// wrong.
+/// Reads the whole script. Of several wrong lines it reports the first, and the numbers of the image only if no line is wrong.
 pub fn read_script(alloc: Global, text: &[u8]) -> Result<Script, ScriptFault>
     ensures spelled { IfOk result (λ script. SpellsScript text.now script.geometry script.lives.items) }
     ensures wrong_line { IfErr result (IfWrongLine (IsWrongLine text.now)) }
@@ -80,7 +79,7 @@ pub fn read_script(alloc: Global, text: &[u8]) -> Result<Script, ScriptFault>
     }
 }
 
-// The script of a draft, where the numbers of its image are within their limits.
+// The script of a draft, if the numbers of its image are within their limits.
 fn finish(draft: Draft) -> Result<Script, ScriptFault>
     ensures ok { IfOk result (λ script. lines_of script.geometry script.lives.items ≡ lines_in draft) }
     ensures newest { IfOk result (λ script. script.geometry.version ≡ plain_version) }

@@ -17,12 +17,12 @@ pub enum ScriptLine {
         places: u64,
         window: u64,
     },
-    /// A life begins, whose device fails after so many operations, or doesn't.
+    /// A life begins. Its device fails after this many operations, or doesn't.
     Life {
         fuse: Option<u64>,
         keeps: Survivor,
     },
-    /// A life ends with a close.
+    /// A life ends by closing.
     Close,
     Command(Command),
 }
@@ -63,7 +63,8 @@ fn read_words(alloc: Global, words: &[&[u8]]) -> Result<ScriptLine, LineFault>
     }
 }
 
-// The line of the words that begin with a name which no command has.
+// A line that only scripts have: `geometry`, `life` or `close`. `None` if it begins with another word, and `Some(None)` if what follows
+// the word is wrong.
 fn own_line(words: &[&[u8]]) -> Option<Option<ScriptLine>>
     ensures { result ≡ own_line (texts words.now) }
 {

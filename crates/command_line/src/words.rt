@@ -18,7 +18,7 @@ pub fn order<'a>(alloc: Global, words: &'a [&'a str]) -> Result<Order<'a>, WordF
     ensures gives { IfOk result (λ order. Gives (texts words.now) order) }
     ensures refused { OnErr result (GivesNothing (texts words.now)) }
 
-    // Help is answered where it is asked for, and only there.
+    // Help is printed if it is asked for, and only then.
     ensures help { IfErr result (AnswersHelp (texts words.now)) }
 {
     match spelled_order(words) {
@@ -30,7 +30,7 @@ pub fn order<'a>(alloc: Global, words: &'a [&'a str]) -> Result<Order<'a>, WordF
     }
 }
 
-// What to say of words that give no order: help where it was asked for, and else what is wrong with them.
+// What to report for words that give no order: help if it was asked for, and otherwise what is wrong with them.
 fn bad_words<'a>(alloc: Global, words: &'a [&'a str]) -> Result<WordFault, AllocError>
     ensures help { IfOk result (AnswersHelp (texts words.now)) }
 {
@@ -39,7 +39,7 @@ fn bad_words<'a>(alloc: Global, words: &'a [&'a str]) -> Result<WordFault, Alloc
     Ok(word_fault(alloc, &error))
 }
 
-// What clap says of the words, or where it takes them, that they are unusual.
+// What clap reports about the words, or if it accepts them, that they are unusual.
 fn error_of<'a>(command: &mut Command<'a>, words: &'a [&'a str]) -> Result<clap::Error, AllocError>
     requires { app_of command.old ≡ wbl }
     ensures help { IfOk result (λ error. (fault : WordFaultValue) → ReportsKind (kind_of error) fault → AnswersHelp (texts words.now) fault) }
@@ -76,8 +76,8 @@ fn command_line<'a>(alloc: Global) -> Result<Command<'a>, AllocError>
     with_subcommand(lives, threads_command(alloc))
 }
 
-// Adds a subcommand, where there was memory for both. What failed is passed on as it is, since a function with many ways out takes
-// the prover long.
+// Adds a subcommand, if there was memory for both. An error is passed on as it is, since a function with many ways out takes the prover
+// long.
 fn with_subcommand<'a>(
     made: Result<Command<'a>, AllocError>,
     subcommand: Result<Command<'a>, AllocError>,
@@ -87,7 +87,7 @@ fn with_subcommand<'a>(
     made?.subcommand(subcommand?)
 }
 
-// Adds an argument, where there was memory for what was made before.
+// Adds an argument, if there was memory for the command so far.
 fn with_argument<'a>(
     made: Result<Command<'a>, AllocError>,
     argument: Arg<'a>,

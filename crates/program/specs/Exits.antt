@@ -1,4 +1,4 @@
--- What the program's end says of the words that it was given.
+-- What the exit status says about the words that the program was given.
 use Rattle.std.specs.Prelude.{◌≡◌, ◌⊎◌, ℕ, ◌≤◌, Bool, false, true, List, [], ⊤}
 use Rattle.command_line.specs.Numbers.{Text}
 use Rattle.command_line.specs.Words.{Gives, GivesNothing}
@@ -31,7 +31,7 @@ NameWritten words name = (order : Order) × Gives words order × (file_of order 
 abbrev pub WriteNoFile : List Text → Type 0
 WriteNoFile words = GivesNothing words ⊎ ((order : Order) × Gives words order × (writes_file order ≡ false))
 
--- the order obeys lines: a run those of the input, and lives those of a script
+-- the order runs lines: a run those of the input, and lives those of a script
 abbrev pub obeys_lines : Order → Bool
 obeys_lines (Format name wide slots places window) = false
 obeys_lines (Run name) = true
@@ -39,7 +39,7 @@ obeys_lines (Check name) = false
 obeys_lines (Lives name) = true
 obeys_lines (Threads name sessions commits) = false
 
--- the words are none, which obey the input, or give an order that obeys lines
+-- there are no words, and the input is run, or they give an order that runs lines
 abbrev pub ObeyLines : List Text → Type 0
 ObeyLines words = (words ≡ []) ⊎ ((order : Order) × Gives words order × (obeys_lines order ≡ true))
 
@@ -51,25 +51,25 @@ reads_input (Check name) = false
 reads_input (Lives name) = false
 reads_input (Threads name sessions commits) = false
 
--- the words are none, which obey the input, or give a run
+-- there are no words, and the input is run, or they give a run
 abbrev pub ReadInput : List Text → Type 0
 ReadInput words = (words ≡ []) ⊎ ((order : Order) × Gives words order × (reads_input order ≡ true))
 
--- the exit status where this is reported: 2 of bad words, 1 where a file, the input or the output failed
+-- the exit status when this is reported: 2 for bad words, 1 if a file, the input or the output failed
 abbrev pub HasStatus : Diagnostic → ℕ → Type 0
 HasStatus Nothing status = status ≤ 2
 HasStatus (BadWords text) status = status ≡ 2
 HasStatus (Broken reason) status = status ≡ 1
 HasStatus (FileFault name reason) status = status ≡ 1
 
--- where a file failed, this of its name
+-- if a file failed, this of its name
 abbrev pub IfFileFault : (Text → Type 0) → Diagnostic → Type 0
 IfFileFault P Nothing = ⊤
 IfFileFault P (BadWords text) = ⊤
 IfFileFault P (Broken reason) = ⊤
 IfFileFault P (FileFault name reason) = P name.now
 
--- where the words are bad, this
+-- if the words are bad, this
 abbrev pub IfBadWords : Type 0 → Diagnostic → Type 0
 IfBadWords P Nothing = ⊤
 IfBadWords P (BadWords text) = P

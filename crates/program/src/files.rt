@@ -11,10 +11,10 @@ use std::os::unix::fs::{MetadataExt, OpenOptionsExt, PermissionsExt, fchown};
 use std::rt::Files;
 use std::{fs, io};
 
-/// How many names are tried for the file beside FILE.
+/// How many names are tried for the file next to FILE.
 const MOST_BESIDE: u32 = 100;
 
-/// The permissions of a file: who may read, write and run it. To take on its owner's rights isn't among them.
+/// The permissions of a file: who may read, write and run it. The bits that run it as its owner or group aren't among them.
 const PERMISSIONS: u32 = 0o777;
 
 /// A name at which a file is to be put, and the file that has it now: locked until this is dropped, so that no other
@@ -22,11 +22,11 @@ const PERMISSIONS: u32 = 0o777;
 #[derive(Drop)]
 pub struct Target {
     name: String,
-    /// None where there is no file of the name yet.
+    /// None if there is no file of the name yet.
     old: Option<File>,
 }
 
-/// What an order's file holds, and where it is to be replaced.
+/// What an order's file holds, and where it will be replaced.
 #[derive(Drop)]
 pub struct Found {
     /// Nothing of a format, the image that a file stands for, or no more than shows that it is too long, and a script whole.
@@ -48,7 +48,7 @@ pub fn name_of<'a>(order: &Order<'a>) -> &'a str
     }
 }
 
-/// Finds the order's file, and locks it where the order is to replace it.
+/// Finds the order's file, and locks it if the order will replace it.
 pub fn find<R: Files<File = File>>(rt: &R, alloc: Global, order: &Order) -> io::Result<Found>
     ensures target { IfOk result (λ found. is_some found.target ≡ writes_file order.now) }
 {
@@ -96,7 +96,7 @@ fn place_for<R: Files<File = File>>(rt: &R, alloc: Global, name: &str) -> io::Re
     Ok(Target { name, old })
 }
 
-// The name of the file itself, where the last part of this one is a link.
+// The name of the file itself, if the last part of this one is a link.
 fn without_link<R: Files>(rt: &R, alloc: Global, name: &str) -> io::Result<String> {
     if fs::symlink_metadata(rt, name)?.is_symlink() {
         return Ok(rt.canonicalize(alloc, name)?.into_string());
@@ -104,7 +104,7 @@ fn without_link<R: Files>(rt: &R, alloc: Global, name: &str) -> io::Result<Strin
     Ok(String::from_str(alloc, name)?)
 }
 
-// What isn't a regular file isn't opened: the open of a pipe would wait.
+// Only a regular file is opened: opening a pipe would wait.
 fn open_locked<R: Files<File = File>>(rt: &R, name: &str) -> io::Result<File> {
     if !fs::symlink_metadata(rt, name)?.is_file() {
         return Err(Error::new(ErrorKind::InvalidInput, "not a regular file"));
@@ -126,7 +126,7 @@ fn locked(outcome: Result<(), TryLockError>) -> io::Result<()> {
     }
 }
 
-// Fails where the name is no longer that of the locked file: another process has replaced it, and holds no lock on this one.
+// Fails if the name is no longer that of the locked file: another process has replaced it, and holds no lock on this one.
 fn is_still(rt: &impl Files, name: &str, file: &File) -> io::Result<()> {
     let (named, locked) = (fs::symlink_metadata(rt, name)?, file.metadata()?);
     if named.dev() == locked.dev() && named.ino() == locked.ino() && locked.is_file() {
@@ -142,7 +142,8 @@ fn read_image(alloc: Global, file: &File) -> io::Result<Vec<u8>> {
     image_bytes(alloc, bytes)
 }
 
-// An image that is only read. Nobody writes it meanwhile who locks it; what is no regular file has no such writer.
+// An image that is only read. While it is locked, no process that locks it writes it; what isn't a regular file has no such
+// writer.
 fn read_shared<R: Files<File = File>>(rt: &R, alloc: Global, name: &str) -> io::Result<Vec<u8>> {
     let file = File::open(rt, name)?;
     if file.metadata()?.is_file() {
@@ -158,11 +159,11 @@ fn read_whole(rt: &impl Files, alloc: Global, name: &str) -> io::Result<Vec<u8>>
 }
 
 impl Target {
-    /// Puts a file with these bytes in the place of the old one, whose owner and permissions it gets. It is written
-    /// beside it and synced first, and only a file that is whole takes the name, so at an error the old one is as it was.
-    /// The file beside it is removed then, where the system allows it; a program that is killed meanwhile leaves it, and
-    /// nobody takes it for his own. The answer is the folder, which is still to be synced: until then a power failure
-    /// may bring the old file back.
+    /// Puts a file with these bytes instead of the old one, whose owner and permissions it gets. It is written next to the
+    /// old one and synced first, and only a complete file takes the name, so after an error the old one is as it was. After
+    /// an error the new file is removed, if the system allows it; a program that is killed meanwhile leaves it, and no other
+    /// program takes it for its own. The result is the folder, which still has to be synced: until then a power failure may
+    /// bring the old file back.
     pub fn replace<R: Files<File = File>>(
         &self,
         rt: &R,
@@ -191,7 +192,7 @@ impl Target {
         }
     }
 
-    // A file of a name that nobody had. Nobody else may read it until it has the permissions of the old one.
+    // A file of a name that nobody had. No other user may read it until it has the permissions of the old one.
     fn create_beside<R: Files<File = File>>(
         &self,
         rt: &R,
@@ -236,7 +237,7 @@ impl Target {
     }
 }
 
-// Nothing is asked of the system where the owner is the same: only a superuser may give a file away.
+// The system isn't asked if the owner is the same: only a superuser may give a file away.
 fn give_to_owner_of(old: &Metadata, file: &File) -> io::Result<()> {
     let new = file.metadata()?;
     let owner = (new.uid() != old.uid()).then_some(old.uid());

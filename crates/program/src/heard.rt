@@ -1,8 +1,8 @@
 use std::io;
 use std::io::{Read, Write};
 
-/// An input or an output that keeps the error by which it failed: that has the system's number, where its kind alone may
-/// say nothing.
+/// An input or an output that keeps the error by which it failed: the error has the system's number, while its kind
+/// alone may say nothing.
 #[derive(Drop)]
 pub struct Heard<'a, T> {
     stream: &'a mut T,

@@ -6,13 +6,13 @@ use pmem_file::grown_image;
 use std::alloc::Global;
 use std::io;
 
-/// The bytes of the longest file of an image: one with a journal behind it that has room for an entry of all its lines.
+/// The bytes of the longest file of an image: one with a journal after it that has room for an entry of all its lines.
 pub const MOST_BYTES: usize = 17_860_992;
 
 const WORD_BYTES: usize = 8;
 
-/// The bytes of the image that a file stands for. They are its own, unless a journal lies behind it, as behind that of a store that
-/// wasn't closed, or was being made there: then they are its first ones, with the journal's entries over them.
+/// The bytes of the image that a file stands for. They are all of the file's bytes, unless a journal follows the image, as in a
+/// store that wasn't closed, or was being created there: then they are the first bytes, with the journal's entries applied.
 pub fn image_bytes(alloc: Global, file: Vec<u8>) -> io::Result<Vec<u8>> {
     if file.len() > MOST_BYTES || file.len() % WORD_BYTES != 0 || is_image(file.as_slice()) {
         return Ok(file);
@@ -24,7 +24,7 @@ pub fn image_bytes(alloc: Global, file: Vec<u8>) -> io::Result<Vec<u8>> {
     }
 }
 
-// The image that these words of a file stand for, if a journal lies behind it or was being made there.
+// The image that these words of a file stand for, if a journal follows it or was being created there.
 fn image_behind_journal(alloc: Global, words: &[u64]) -> io::Result<Option<Vec<u64>>> {
     if let Some((count, room)) = extent_of(words) {
         return Ok(Some(image_in(alloc, words, count, room)?));
@@ -35,7 +35,7 @@ fn image_behind_journal(alloc: Global, words: &[u64]) -> io::Result<Option<Vec<u
     }
 }
 
-// The words of so many bytes, each of 8, the lowest first.
+// The words of these bytes, 8 bytes each, the lowest first.
 fn words_in(alloc: Global, bytes: &[u8]) -> io::Result<Vec<u64>> {
     let count = bytes.len() / WORD_BYTES;
     let mut words = Vec::from_elem(alloc, 0, count)?;
@@ -43,7 +43,7 @@ fn words_in(alloc: Global, bytes: &[u8]) -> io::Result<Vec<u64>> {
     Ok(words)
 }
 
-// Whether the superblock names an image of so many bytes: most files are one, and take no more memory.
+// Whether the superblock names an image of this many bytes: most files are such an image, and take no more memory.
 fn is_image(file: &[u8]) -> bool {
     let Some(first) = file.first_chunk::<40>() else {
         return false;

@@ -28,7 +28,7 @@ use std::rt::Files;
 use std::sync::Wait;
 use std::thread::Threads;
 
-/// The exit status where a file or memory failed.
+/// The exit status if a file or memory failed.
 const FAILED: u8 = 1;
 
 /// The exit status of bad words.
@@ -39,7 +39,7 @@ const BAD_WORDS: u8 = 2;
 pub struct Exit<'a> {
     pub status: u8,
     pub diagnostic: Diagnostic<'a>,
-    /// The file that was to be written, and is as it was.
+    /// The file that would have been written, and is as it was.
     pub unwritten: Option<&'a str>,
 }
 
@@ -49,13 +49,13 @@ pub enum Diagnostic<'a> {
     Nothing,
     /// What is wrong with the words.
     BadWords(String),
-    /// The input couldn't be read, or the output not be written, for this reason.
+    /// The input couldn't be read, or the output couldn't be written, for this reason.
     Broken(io::Error),
-    /// The file couldn't be read, or not be written, for this reason.
+    /// The file couldn't be read or written, for this reason.
     FileFault { file: &'a str, reason: io::Error },
 }
 
-/// Does what the words ask for. With no words: obeys the input over a fresh image, and keeps nothing.
+/// Does what the words ask for. Without words it runs the input on a fresh image, and keeps nothing.
 pub fn run_words<
     'a,
     H: Files<File = File> + Threads + Wait + Copy + Drop + Send + Sync + 'static,
@@ -69,19 +69,20 @@ pub fn run_words<
     ensures file { IfFileFault (NameFile (texts words.now)) result.diagnostic }
     ensures unwritten { IfSome result.unwritten (λ name. NameWritten (texts words.now) name.now) }
 
-    // Where neither a file nor the input nor the output is reported as failing, a run that fails names the file that it was to write.
+    // If a run fails, and neither a file nor the input nor the output is reported as failing, it names the file that it would have
+    // written.
     ensures named { result.status ≢ 0 → result.diagnostic ≡ NothingPrinted → result.unwritten ≡ None → WriteNoFile (texts words.now) }
 
-    // Only a line that is no command ends words that aren't bad with 2.
+    // If the words aren't bad, only a line that isn't a command gives exit status 2.
     ensures lines { result.status ≡ 2 → result.diagnostic ≡ NothingPrinted → ObeyLines (texts words.now) }
 
-    // Words that give an order, and no words, are never bad. Bad ones touch neither input nor output, and don't ask for help alone.
+    // Words that give an order are never bad, and neither is their absence. Bad words touch neither input nor output, and don't ask only for help.
     ensures bad_words { IfBadWords ((texts words.now ≢ []) × GivesNothing (texts words.now) × (GetsHelp (texts words.now) → ⊥) × (input.new ≡ input.old) × (output.new ≡ output.old)) result.diagnostic }
 
-    // No words, and those of a run, alone read the input.
+    // Only a run, or no words, reads the input.
     ensures unread { (input.new ≡ input.old) ⊎ ReadInput (texts words.now) }
 
-    // Words that give no order end with 0 only where help was asked for.
+    // Words that give no order end with 0 only if help was asked for.
     ensures help { texts words.now ≢ [] → GivesNothing (texts words.now) → result.status ≡ 0 → MayGetHelp (texts words.now) }
 {
     if words.is_empty() {
@@ -119,8 +120,7 @@ fn run_fresh<'a, H: Threads + Wait + Copy + Drop + Send + Sync + 'static, R: Rea
     }
 }
 
-// Finds FILE, does the work, and puts what FILE is to hold in its place. The line that says that the work was done is held
-// back until that has happened.
+// Finds FILE, does the work, and replaces FILE with the result. The line that reports success is held back until that has happened.
 fn obey<
     'a,
     H: Files<File = File> + Threads + Wait + Copy + Drop + Send + Sync + 'static,
@@ -173,7 +173,7 @@ fn obey<
     }
 }
 
-// Puts the bytes in the place of FILE, and says then that the work was done.
+// Replaces FILE with these bytes, and then reports that the work is done.
 fn put<'a, H: Files<File = File>, W: Write + Drop>(
     rt: &H,
     alloc: Global,
@@ -227,7 +227,7 @@ fn say<'a, W: Write + Drop>(held: LastLine<W>) -> Exit<'a>
     }
 }
 
-// A refusal and a line that is no command are printed on the output.
+// A refusal, and a line that isn't a command, are printed on the output.
 fn diagnostic_of<'a>(stopped: Option<Stop>, failure: Option<io::Error>) -> Diagnostic<'a>
     ensures status { HasStatus result (status_of stopped) }
     ensures file { IfFileFault (λ _. ⊥) result }
@@ -266,7 +266,7 @@ fn refuse<'a, W: Write>(
     }
 }
 
-// Says that a file failed. Where the output fails too, the file is what is reported.
+// Reports that a file failed. If the output fails too, the file is reported.
 fn fail<'a, W: Write>(alloc: Global, file: &'a str, reason: io::Error, output: &mut W) -> Exit<'a>
     ensures status { HasStatus result.diagnostic result.status }
     ensures failed { result.status ≡ 1 }

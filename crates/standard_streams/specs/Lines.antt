@@ -2,23 +2,23 @@
 use Rattle.std.specs.Prelude.{◌≡◌, ◌⊎◌, ℕ, ◌+◌, ◌<◌, ◌≤◌, Bool, true, false, ◌||◌, List, [], ◌∷◌, ◌++◌, length, get_or, eqb, codes, if◌then◌else◌}
 use Rattle.std.specs.List.{starts_with, ends_with}
 
--- a line feed stands nowhere but at the end
+-- a line feed is only at the end
 abbrev pub IsOneLine : List ℕ → Type 0
 IsOneLine bytes = (at : ℕ) → at < length bytes → get_or bytes at 0 ≡ 10 → at + 1 ≡ length bytes
 
--- a line feed stands at the end
+-- a line feed is at the end
 abbrev pub is_ended : List ℕ → Bool
 is_ended bytes = ends_with eqb bytes (10 ∷ [])
 
--- the line says that the work was done, so none follows it
+-- the line reports that the work was done, so none follows it
 abbrev pub ends_work : List ℕ → Bool
 ends_work line = (starts_with eqb line (codes "closed") || starts_with eqb line (codes "formatted")) || starts_with eqb line (codes "stopped")
 
--- the line that isn't ended yet, of what is held
+-- of what is held, the line that isn't ended yet
 abbrev pub unfinished : List ℕ → List ℕ
 unfinished held = if is_ended held then [] else held
 
--- the line is one to hold back: it isn't ended yet, or says that the work was done
+-- the line has to be held back: it isn't ended yet, or reports that the work was done
 abbrev pub IsHeldBack : List ℕ → Type 0
 IsHeldBack line = (is_ended line ≡ false) ⊎ (ends_work line ≡ true)
 
@@ -29,8 +29,8 @@ pub record IsFirstLine (bytes line : List ℕ) : Type 0 where
   pub one_line : IsOneLine line
   pub whole : is_ended line ≡ false → rest ≡ []
 
--- No more than the first line of the bytes is taken. With what was held of its beginning, all of it is held where it is one to hold
--- back; and nothing is where it is another, whole line
+-- At most the first line of the bytes is taken. With what was held of its beginning, all of it is held if it has to be held back; if it is
+-- another, whole line, nothing is held
 pub record TakesLine (old new bytes : List ℕ) (count : ℕ) : Type 0 where
   pub line : List ℕ
   pub first : IsFirstLine bytes line

@@ -12,9 +12,9 @@ pub struct Reserved {
     held: [Option<File>; 3],
 }
 
-/// Takes each number below 3 that is free, so that no file which is opened later has it: what is printed would go into that
-/// file. It is called before anything is opened, and what it returns is kept to the end of the process. An input that was
-/// closed then has no bytes, and an output that was closed fails.
+/// Takes each number below 3 that is free, so that no file opened later gets it: what is printed would go into that file.
+/// It is called before anything is opened, and its result is kept until the process ends. An input that was closed then has
+/// no bytes, and an output that was closed fails.
 pub fn reserve<R: Files<File = File>>(rt: &R) -> io::Result<Reserved> {
     let mut held = [None, None, None];
     for slot in &mut held {

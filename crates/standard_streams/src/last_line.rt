@@ -7,12 +7,11 @@ use std::alloc::{AllocError, Global};
 use std::io;
 use std::io::{ErrorKind, Write};
 
-/// No line that ends the work is longer.
+/// No line that ends the work is longer than this.
 const ROOM: usize = 128;
 
-/// An output that holds back the line by which the work says that it was done, since what it says has yet to come true.
-/// Every other line is passed on as it comes, so one who reads the answers waits for none of them. What is given in
-/// pieces is held until its line has ended and more is written.
+/// An output that holds back the line that reports success, since that has yet to come true. Every other line is passed on as it comes,
+/// so a reader needn't wait for any of them. What is given in pieces is held until its line has ended and more is written.
 #[derive(Drop)]
 pub struct LastLine<W> {
     output: W,

@@ -1,4 +1,4 @@
-//! The program wbl: the process round what the words ask for.
+//! The program wbl: the process around what the words ask for.
 #![tactic(auto)]
 
 use program::{Diagnostic, Exit, run_words};
@@ -8,10 +8,10 @@ use std::io::ErrorKind;
 use std::process::ExitCode;
 use std::{env, io};
 
-/// The exit status of words that are no text.
+/// The exit status of words that aren't text.
 const NO_TEXT: u8 = 2;
 
-/// The exit status where there is no memory for the words.
+/// The exit status if there is no memory for the words.
 const FAILED: u8 = 1;
 
 fn main(rt: HostRuntime) -> ExitCode {
@@ -42,12 +42,12 @@ fn main(rt: HostRuntime) -> ExitCode {
     ExitCode::from(exit.status)
 }
 
-// The words after the program's name, or why they can't be had.
+// The words after the program's name, or why they can't be read.
 fn words_given(rt: &HostRuntime, alloc: Global) -> io::Result<Vec<String>> {
     Ok(env::args(rt)?.skip(1).collect::<Vec<String>>(alloc)?)
 }
 
-// Prints why there are no words, which takes no memory, and how the process ends then.
+// Prints why there are no words, which takes no memory, and how the process then ends.
 fn fail(rt: &impl Eprint, reason: io::Error) -> ExitCode {
     if reason.kind() == ErrorKind::InvalidData {
         let _ = eprint!(rt; "error: an argument is no text in UTF-8\n");
@@ -57,7 +57,7 @@ fn fail(rt: &impl Eprint, reason: io::Error) -> ExitCode {
     ExitCode::from(FAILED)
 }
 
-// What is printed on standard error takes no memory.
+// Printing on standard error takes no memory.
 fn print_diagnostic(rt: &impl Eprint, exit: &Exit) -> io::Result<()> {
     match &exit.diagnostic {
         Diagnostic::Nothing => {}
