@@ -30,7 +30,7 @@ is_eq-nat a b = grind (arith, nat_tests)
 is_lt-nat : (a b : ℕ) → is_lt (nat_cmp a b) ≡ nat_lt a b
 is_lt-nat a b = grind (arith, nat_tests)
 
--- the order distinguishes two keys exactly where they differ
+-- the order distinguishes two keys exactly if they differ
 pub is_at-key : (key other : Key) → is_at (key_cmp key) other ≡ key_eq key other
 is_at-key key other = grind (arith, is_eq-then, is_eq-nat)
 

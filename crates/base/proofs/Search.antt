@@ -10,12 +10,12 @@ use Rattle.base.proofs.Options.{or-none, some_if-none}
 pub cases_below : (k n : ℕ) → k < suc n → (k < n) ⊎ (k ≡ n)
 cases_below k n h = elim (cases_lt k n) [ inl less ↦ inl less | inr least ↦ inr (omega (arith, h, least)) ]
 
--- where none passes, each fails
+-- if no number is found, each one fails the test
 pub first_below-none : (n : ℕ) (test : ℕ → Bool) → first_below n test ≡ None → (k : ℕ) → k < n → test k ≡ false
 first_below-none zero test e k h = absurd (omega (arith, h))
 first_below-none (suc n) test e k h = grind (arith, or-none, cases_below, first_below-none n test, some_if-none)
 
--- where each fails, none passes
+-- if each number fails the test, none is found
 pub first_below-nowhere : (n : ℕ) (test : ℕ → Bool) → ((k : ℕ) → k < n → test k ≡ false) → first_below n test ≡ None
 first_below-nowhere zero test each = refl
 first_below-nowhere (suc n) test each =

@@ -41,7 +41,7 @@ has_it commits used t None at is = absurd (cc is)
 has_it commits used t (Some c) at is =
     (slice_get_within commits used c at, λ d. ap (λ (commit : Commit). commit.timestamp) (get_or_from_slice_get commits used c d at) ∙ cc is)
 
--- where a timestamp that isn't long comes next, the next commit has it
+-- if a timestamp that isn't long comes next, the next commit has it
 pub next_has : (commits : List Commit) (used : ℕ) (longs met rest : List ℕ) (t : ℕ) → used ≤ length commits → is_among longs t ≡ false → Meets commits used longs met
     → map (λ commit. commit.timestamp) commits ≡ filter (stay longs) (met ++ t ∷ rest) → (used < length commits) × ((d : Commit) → (slice_index_or commits used d).timestamp ≡ t)
 next_has commits used longs met rest t le out meets all = has_it commits used t (slice_get commits used) refl (next_due commits used longs met rest t le out meets all)

@@ -107,7 +107,7 @@ pub indexed_removed : (stamp : ℕ) (es fs : List (Place × Option (List ℕ))) 
 indexed_removed stamp es fs batch [] first at is h gone = absurd (cc at)
 indexed_removed stamp es fs batch (b ∷ batches) first at is h gone = indexed_rest stamp es fs batch batches (subst (λ (x : Batch). Indexed stamp es (x ∷ batches)) (sym is) h) gone
 
--- where the first of the batches is above the floor, all are
+-- if the first of the batches is above the floor, all are
 all_above : (stamp floor : ℕ) (batches : List Batch) → Follow stamp batches → floor ≤ stamp → All (λ batch. floor < batch.stamp) batches
 all_above stamp floor [] h le = All-nil (λ batch. floor < batch.stamp)
 all_above stamp floor (b ∷ batches) h le = All-cons (λ batch. floor < batch.stamp) b batches (omega (arith, h.1, le)) (all_above b.stamp floor batches h.2 (omega (arith, h.1, le)))

@@ -26,7 +26,7 @@ use Rattle.board.proofs.Puts.{unwritten_first}
 abbrev pub place_cmp : Place → Place → Ordering
 place_cmp a b = ordering_then (key_cmp a.key b.key) (nat_cmp a.stamp b.stamp)
 
--- the order distinguishes two places exactly where they differ
+-- the order distinguishes two places exactly if they differ
 pub is_at-place : (p q : Place) → is_at (place_cmp p) q ≡ (key_eq p.key q.key && nat_eq p.stamp q.stamp)
 is_at-place p q = is_eq-then (key_cmp p.key q.key) (nat_cmp p.stamp q.stamp) ∙ (λ i. is_at-key p.key q.key i && is_eq-nat p.stamp q.stamp i)
 
@@ -79,7 +79,7 @@ less a b lt = sym (nat_cmp_is a b Less lt)
 equal : (a b : ℕ) → a ≡ b → nat_cmp a b ≡ Equal
 equal a b e = sym (nat_cmp_is a b Equal e)
 
--- what an order by two parts says of the first, and of the second where the first is equal
+-- what an order by two parts says of the first, and of the second if the first is equal
 first_part : (o r : Ordering) → is_gt (ordering_then o r) ≡ false → is_gt o ≡ false
 first_part Less r h = refl
 first_part Equal r h = refl

@@ -21,7 +21,7 @@ pub stands_raise : (coverage : Coverage) (floor : ℕ) (rows : List (Key × List
     → Stands coverage (max floor to) rows batches (changed list (Raise to))
 stands_raise coverage floor rows batches list to h = grind (arith)
 
--- a batch that may come next begins where what is stored ends
+-- a batch that may come next begins at the end of what is stored
 pub comes_next : (coverage : Coverage) (floor : ℕ) (rows : List (Key × List ℕ)) (batches : List Batch) (list : Published) (batch : Batch) → Stands coverage floor rows batches list
     → IsPublished (changed list (Add batch)) → (batch.from ≡ last_from coverage.stamp batches) × (batch.stamp ≡ last_from coverage.stamp batches + 1)
 comes_next coverage floor rows batches list batch h next = grind (arith, follow_rest)

@@ -17,7 +17,7 @@ after_commits key row commits = fold (after_commit key) row commits
 abbrev pub is_written : Key → List Commit → Bool
 is_written key commits = list_any (writes_key key) commits
 
--- the key's row after a batch, where it is not above the stamp
+-- the key's row after a batch, if it is not above the stamp
 abbrev pub after_batch : Key → ℕ → Option (List ℕ) → Batch → Option (List ℕ)
 after_batch key stamp row batch = if nat_le batch.stamp stamp then after_commits key row batch.commits else row
 

@@ -70,7 +70,7 @@ has_commit list timestamp = list_any (λ batch. list_any (λ commit. nat_eq comm
 abbrev pub IsLater : Published → ℕ → Type 0
 IsLater list timestamp = ((list.persisted < timestamp) × (is_among list.longs timestamp ≡ false)) ⊎ ((timestamp ≤ list.persisted) × (is_among list.longs timestamp ≡ true))
 
--- the batch may come next: it begins where the list ends, and covers what is due since
+-- the batch may come next: it begins at the end of the list, and covers what is due since
 pub record Fits (list : Published) (batch : Batch) : Type 0 where
   pub from : batch.from ≡ last_stamp list
   pub stamp : batch.stamp ≡ batch.from + 1

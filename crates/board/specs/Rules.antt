@@ -12,7 +12,7 @@ pub record IsKept (cells : List Cell) (log : List Change) : Type 0 where
 abbrev pub head_of : Book → Named
 head_of b = record { tracked = true; key = 0; book = b }
 
--- where the count was as expected, the change was added to all that had been seen
+-- if the count was as expected, the change was added to all that had been seen
 abbrev pub Adds : Step Change → View Change ℕ → ℕ → View Change ℕ → Type 0
 Adds s v found w = OnTrue (found == s.old) (w.0 ≡ v.0 ++ s.ask ∷ [])
 

@@ -13,7 +13,7 @@ abbrev pub lookup_version : List (Place × Option (List ℕ)) → Key → ℕ �
 lookup_version [] key stamp = None
 lookup_version (version ∷ versions) key stamp = if key_eq version.0.key key && nat_eq version.0.stamp stamp then Some version.1 else lookup_version versions key stamp
 
--- what a list of commits leaves under a key where it writes the key, or the version that was there
+-- what a list of commits leaves under a key if it writes the key, or the version that was there
 abbrev pub version_after : Key → Option (Option (List ℕ)) → List Commit → Option (Option (List ℕ))
 version_after key version commits = fold (λ before commit. option_or (lookup_key commit.writes key) before) version commits
 

@@ -17,7 +17,7 @@ use std::alloc::{AllocError, Global};
 use std::marker::Model;
 use std::sync::Wait;
 
-/// A value that is made by a history, and operations each of which adds a change to it.
+/// A value that a history makes, and operations that each add a change to it.
 pub trait Kept<O> {
     ghost use Rattle.std.specs.Prelude.{List};
     ghost use Rattle.board.specs.declared.change.Change.{Change};
@@ -41,7 +41,7 @@ pub struct BoardWriter<J: Naming, T: Absorb<O> + Kept<O> + Drop, O: Drop, R: Wai
     // The history, with what waits, and what its list covers.
     front: Front<J>,
     coverage: Coverage,
-    // What waits last, where there was no memory to hand it over.
+    // The last change that waits, if there was no memory to hand it over.
     kept: Option<O>,
 }
 

@@ -1,4 +1,4 @@
-//! The shelf's two copies are changed one after the other, so a change is data and no call.
+//! The shelf's two copies are changed one after the other, so a change is data and not a call.
 
 use crate::coverage::Coverage;
 use base::batch::Batch;
@@ -18,7 +18,7 @@ pub enum Change {
     /// The first one.
     Begin(Start),
     Add(Batch),
-    /// Raises the lowest stamp that may be read to this one, where it is lower.
+    /// Raises the lowest stamp that may be read to this one, if it is lower.
     Raise(u64),
 }
 

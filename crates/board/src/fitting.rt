@@ -53,7 +53,7 @@ fn covers_others(before: Ts, left: &Longs, batch: &Batch) -> bool
     }
 }
 
-// How many commits are used up by those that were left, where the first commits are just these without the long ones.
+// How many commits are used up by those that were left, if the first commits are just these without the long ones.
 fn after_left(commits: &[Commit], left: &[Ts], longs: &Longs) -> Option<usize>
     ensures some { IfSome result (λ used. (used ≤ length commits.now) × Meets commits.now used longs.now left.now) }
     ensures none { IfNone result ((rest : List ℕ) → map (λ commit. commit.timestamp) commits.now ≡ filter (stay longs.now) (left.now ++ rest) → ⊥) }
@@ -91,7 +91,7 @@ fn after_range(
     Some(used)
 }
 
-// How many commits are used up once this timestamp has its turn: one more, which has it, or no more where it is long.
+// How many commits are used up once this timestamp has its turn: one more, which has it, or no more if it is long.
 fn after_one(commits: &[Commit], used: usize, timestamp: Ts, longs: &Longs) -> Option<usize>
     requires { used ≤ length commits.now }
     ensures some { IfSome result (λ next. (next ≤ length commits.now) × ((met : List ℕ) → Meets commits.now used longs.now met → Meets commits.now next longs.now (met ++ timestamp ∷ []))) }

@@ -185,7 +185,7 @@ impl<J: Naming> Front<J> {
         let _count = self.count;
     }
 
-    /// It with one change more, or none where the history is longer already.
+    /// It with one change more, or none if the history is longer already.
     pub(crate) fn then(&self, book: &Book<J>, change: &Change) -> Option<Front<J>>
         requires legal { IsPublished (list_of (self.now ++ change.now ∷ [])) }
         ensures { IfSome result (λ front. front ≡ self.now ++ change.now ∷ []) }

@@ -78,7 +78,7 @@ ghost use Rattle.std.specs.Prelude.{◌≡◌, MatchBool};
 ghost use Rattle.board.specs.Changes.{list_of};
 ghost use Rattle.board.specs.Lists.{IsPublished, Begins};
 
-// Moves on to what the shelf shows, where that goes on from what was seen.
+// Moves on to what the shelf shows, if that goes on from what was seen.
 fn see<J: Naming>(front: &mut Front<J>, shelf: &Shelf<J>) -> bool
     ensures { MatchBool result ((front.new ≡ shelf.now) × IsPublished (list_of shelf.now) × Begins (list_of front.old) (list_of shelf.now)) (front.new ≡ front.old) }
 {

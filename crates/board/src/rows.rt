@@ -95,7 +95,7 @@ pub fn settle(
     Ok(())
 }
 
-// Lays the first batch into the rows, where it is not above the floor, and returns whether it did.
+// Lays the first batch into the rows, if it is not above the floor, and returns whether it did.
 fn settle_one(
     rows: &mut Rows,
     versions: &mut Versions,

@@ -1,4 +1,4 @@
-//! A token is a front and a few numbers, so it can be sent anywhere, and who learns it waits for nobody.
+//! A token is a front and a few numbers, so it can be sent anywhere, and a reader that learns it waits for nobody.
 
 use crate::coverage::Coverage;
 use crate::history::{Front, Naming};
@@ -38,7 +38,7 @@ impl<J: Naming> Token<J> {
         self.coverage.stamp
     }
 
-    /// Whether the commit is covered: its timestamp is persisted and isn't that of a long commit. So it is just where a published
+    /// Whether the commit is covered: its timestamp is persisted and isn't that of a long commit. This is so just if a published
     /// batch holds it, or the list began with it.
     pub fn covers(&self, timestamp: Ts) -> bool
         ensures persisted { IsTrue result ↔ ((timestamp ≤ last_persisted self.now) × (is_among (last_longs self.now) timestamp ≡ false)) }

@@ -35,7 +35,7 @@ pub fn latest(versions: &Versions, stamp: u64, key: &Key) -> Option<Option<Row>>
     Some(*row)
 }
 
-/// Enters what the commits of a stamp leave, or nothing where memory runs out. Nothing may be there at the stamp yet.
+/// Enters what the commits of a stamp leave, or nothing if memory runs out. Nothing may be there at the stamp yet.
 pub fn enter(versions: &mut Versions, stamp: u64, commits: &[Commit]) -> Result<(), AllocError>
     requires { (k : KeyOf) → lookup_version versions.old.entries k stamp ≡ None }
     ensures done { OnOk result ((k : KeyOf) (s : ℕ) → lookup_version versions.new.entries k s ≡ (if nat_eq stamp s then version_after k None commits.now else lookup_version versions.old.entries k s)) }

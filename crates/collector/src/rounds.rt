@@ -123,7 +123,7 @@ impl Collector {
         Visit::Slot(slot)
     }
 
-    // Visits the slot of the place, and sweeps it where that is due.
+    // Visits the slot of the place, and sweeps it if that is due.
     #[inline(always)]
     fn visit_slot<D: Pmem, R: Readers>(
         &mut self,

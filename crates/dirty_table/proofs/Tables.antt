@@ -116,7 +116,7 @@ lines_touched-rising which table = rising-passing (λ line. meets which (session
 past-table : (which : SessionSet) (table : List SessionSet) (line : ℕ) → length table ≤ line → meets which (sessions_at table line) ≡ false
 past-table which table line past = ap (λ (s : SessionSet). meets which s) (get_or_past table line (record { bits = 0 }) past) ∙ ap (λ (w : ℕ). not (nat_eq w 0)) (and_zero_r which.bits)
 
--- a line is one of them where one of the sessions touches it
+-- a line is one of them if one of the sessions touches it
 pub lines_touched-member : (which : SessionSet) (table : List SessionSet) (line : ℕ) → list_any (λ x. nat_eq x line) (lines_touched which table) ≡ meets which (sessions_at table line)
 lines_touched-member which table line =
     any-filter_same (λ (x : ℕ). nat_eq x line) test (test line) (λ k is. ap test (eqb-true k line is)) (range_with_len 0 (length table))

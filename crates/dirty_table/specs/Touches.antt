@@ -20,7 +20,7 @@ pub record IsNextIn (sessions : SessionSet) (from n : ℕ) : Type 0 where
 abbrev pub meets : SessionSet → SessionSet → Bool
 meets one two = not (nat_eq (bit_and one.bits two.bits) 0)
 
--- the sessions that touch the line, where a table lists those of each line
+-- the sessions that touch the line, given a table that lists those of each line
 abbrev pub sessions_at : List SessionSet → ℕ → SessionSet
 sessions_at table line = slice_index_or table line (record { bits = 0 })
 

@@ -1,4 +1,4 @@
--- A list of gaps with a range put in is such a list, where it has at most eight.
+-- A list of gaps with a range put in is such a list, if it has at most eight.
 use Rattle.std.proofs.Common.{◌≡◌, ℕ, ◌≤◌, Bool, true, ◌&&◌, List, [], ◌∷◌, length, refl, arith, nat_le}
 use Rattle.std.specs.List.{list_all}
 use Rattle.std.proofs.lemmas.Bool.{and_parts, and_from, le-leb}

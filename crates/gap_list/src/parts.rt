@@ -4,7 +4,7 @@ ghost use Rattle.base.specs.Records.{with_gap};
 use base::gap::{Gap, Gaps};
 
 /// A list of gaps with a range put in: the gaps before it, the one gap that it makes with all that it overlaps or touches,
-/// and where in the list the gaps after it begin.
+/// and the place in the list at which the gaps after it begin.
 #[derive(Clone, Copy)]
 pub struct Parts {
     pub before: Gaps,

@@ -20,7 +20,7 @@ use Rattle.txn.proofs.Passed.{few-filtered}
 pub rising-plain : (writes : List Write) (n : ℕ) (rows : Writes) → rows ≡ plain_writes (take n writes) → length writes ≤ n → IsRising writes → IsTrue (is_rising (map (λ (w : Key × Option (List ℕ)). w.0) rows))
 rising-plain writes n rows is whole rising = grind (arith, take_all, map-map)
 
--- no commit is chosen where none passes
+-- no commit is chosen exactly if none passes
 pub none-chosen : (reach : ℕ) (ds : List DrawnCommit) → is_nil (chosen reach (map plain_drawn ds)) ≡ not (list_any (λ d. is_chosen reach (plain_drawn d)) ds)
 none-chosen reach [] = refl
 none-chosen reach (d ∷ ds) = grind (arith, none-chosen reach ds) steps 800000

@@ -1,4 +1,4 @@
--- Why no cycle begins, and what each tick of one does, where the batch touches these lines.
+-- Why no cycle begins, and what each tick of one does, if the batch touches these lines.
 use Rattle.std.specs.Prelude.{◌≡◌, ◌⊎◌, ℕ, ◌+◌, ◌^◌, ◌<◌, ◌≤◌, Bool, true, nat_le, List, find, Option, Some, None}
 use Rattle.base.specs.declared.fault.Fault.{Fault}
 use Rattle.base.specs.declared.fault.Fault.TheVariants.{OutOfMemory, TimestampsOut}
@@ -48,7 +48,7 @@ operation_at lines writing WriteRecord = operation_of writing
 abbrev pub operation_in : List ℕ → Cycling → Operation
 operation_in lines cycle = operation_at lines cycle.writing cycle.stage
 
--- the stage that it reaches; none where it covers the batch
+-- the stage that it reaches; none if it covers the batch
 abbrev pub flushed_or_fenced : ℕ → Option ℕ → Option Stage
 flushed_or_fenced flushed None = Some LinesFenced
 flushed_or_fenced flushed (Some line) = Some (LineFlushed flushed)

@@ -58,7 +58,7 @@ impl Cycle {
     ghost use Rattle.group_commit.specs.Cycles.{IsBeginFault, line_from, operation_in, reached_in, ticked_in};
 
     /// Takes the drawn commits that the next record may cover, and the memory of their batch: no tick takes any. Fails with
-    /// `TimestampsOut` where no record number is left, and else with `OutOfMemory`.
+    /// `TimestampsOut` if no record number is left, and else with `OutOfMemory`.
     #[inline(always)]
     pub fn begin(
         alloc: Global,
@@ -138,7 +138,7 @@ impl Cycle {
 
     /// The next operation, on the lines that the batch's sessions touch in the table: the flush of the next of them, or the
     /// fence after the last, or the next operation of the record's writing. Returns the stage that it reaches, and none
-    /// where the batch is covered. If the device fails, the next tick tries the operation again.
+    /// if the batch is covered. If the device fails, the next tick tries the operation again.
     #[inline(always)]
     pub fn tick<D: Pmem>(
         &mut self,

@@ -47,7 +47,7 @@ looked-last : (entries : Entries) (key : Key) (entry : Entry) → lookup_key ent
 looked-last [] key entry none k = refl
 looked-last (e ∷ entries) key entry none k = grind (arith, key_eq-true, key_eq-same, looked-last entries key entry) steps 800000
 
--- where no other pair is of its key, the pair at a place may be changed
+-- if no other pair is of its key, the pair at a place may be changed
 looked-set : (entries : Entries) (key : Key) (old entry : Entry) (place : ℕ) → slice_get entries place ≡ Some (key, old) → ((p : ℕ) (e : Entry) → slice_get entries p ≡ Some (key, e) → p ≡ place)
     → (k : Key) → lookup_key (set entries place (key, entry)) k ≡ cond (key_eq key k) (Some entry) (lookup_key entries k)
 looked-set [] key old entry place at once k = absurd (cc at)

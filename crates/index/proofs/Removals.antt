@@ -1,4 +1,4 @@
--- An entry is taken out, and the last one comes to its place.
+-- An entry is taken out, and the last one moves to its place.
 use Rattle.std.proofs.Common.{◌≡◌, ◌⊎◌, inl, inr, ℕ, zero, suc, ◌-◌, ◌<◌, Bool, true, false, not, ◌&&◌, cond, List, [], ◌∷◌, length, take, refl, sym, ◌∙◌, ap, arith, is_some, set}
 use Rattle.std.specs.Prelude.{Option, Some, None, unwrap_or, slice_get}
 use Rattle.std.specs.BTreeMap.{is_at}
@@ -59,7 +59,7 @@ module _ (places : Places) (entries : Entries) (placed : ArePlaced places entrie
     left-below : (p : ℕ) (x : Key × Entry) → slice_get left p ≡ Some x → p < last
     left-below p x is = within-taken (set entries place (moved, e)) last p x (sym (ap (λ (es : Entries). slice_get es p) left_is) ∙ is)
 
-    -- where the last one isn't the one that is taken out, it comes before it
+    -- if the last one isn't the one that is taken out, that one comes before it
     before-last : (key ≡ moved → ⊥) → place < last
     before-last apart = by (same_or_not place last)
       where
@@ -155,7 +155,7 @@ module _ (places : Places) (entries : Entries) (placed : ArePlaced places entrie
         is-at rest left removed-placed k place x (left-there (before-last (λ eq. other-key k out (eq ∙ one))) ∙ pair)
     still k x out found (inr is) = is-at rest left removed-placed k found.0 x is
 
-    -- where what is left at a place was before
+    -- the place before of what is left at a place
     moved-from : (k : Key) (p : ℕ) (x : Entry) → p < last → p ≡ place → slice_get left p ≡ Some (k, x) → slice_get entries last ≡ Some (k, x)
     moved-from k p x lt same is = at_last ∙ sym (get-set_same entries place (moved, e) within) ∙ ap (slice_get (set entries place (moved, e))) (sym same) ∙ sym (left-at p lt) ∙ is
 

@@ -24,7 +24,7 @@ next_at s key bound held =
     else (if is_counted s held.begin then Earlier held.begin held.version.previous else Over))
     else Over
 
--- what it says of the way, and of this row where the snapshot sees the version
+-- what it says about the way, and about this row if the snapshot sees the version
 abbrev pub Looks : Seen → Image → Key → ℕ → ℕ → List ℕ → Next → Type 0
 Looks s image key bound slot row SeesRow = HasSeen (covers s) image slot key row
 Looks s image key bound slot row (Earlier begin previous) =

@@ -17,7 +17,7 @@ pub struct Known {
 /// The entry of each key, which says where its versions are. A key that has no entry has a blank one.
 #[derive(Drop)]
 pub struct Index {
-    // Each with its key. It stays at its place, but for the last where another is taken out.
+    // Each with its key. An entry stays at its place, except that the last one moves to that of an entry that is taken out.
     pub(crate) entries: Vec<KeyedEntry>,
     // By key the place of its entry.
     pub(crate) places: BTreeMap<Key, usize, Global>,
@@ -74,7 +74,7 @@ impl Index {
     }
 
     /// At which place the key's entry is, if it has one. It stays there. The calls that take a place try it first, and search
-    /// where the key's entry isn't there.
+    /// if the key's entry isn't there.
     #[inline(always)]
     pub fn place(&self, key: Key) -> Option<usize>
         ensures some { IfSome result (λ place. IsAt self.now place key) }
@@ -96,7 +96,7 @@ impl Index {
         }
     }
 
-    // The same, where it may be at this place.
+    // The same, given a place at which it may be.
     #[inline(always)]
     fn seek(&self, key: Key, near: Option<usize>) -> Option<usize>
         ensures some { IfSome result (λ place. IsAt self.now place key) }
@@ -142,7 +142,7 @@ impl Index {
         }
     }
 
-    // The same, where the hints say that it may be.
+    // The same, at the place where the hints say that it may be.
     #[inline(always)]
     pub(crate) fn hinted(&self, key: Key) -> Entry
         ensures { result ≡ entry_at self.now key }
@@ -167,7 +167,7 @@ impl Index {
         self.entry(key, near).head()
     }
 
-    /// What a put asks of its key, found once.
+    /// What a put needs to know about its key, found once.
     #[inline(always)]
     pub fn known(&self, key: Key) -> Known
         ensures { result.link ≡ head_of (entry_at self.now key) }
@@ -350,7 +350,7 @@ impl Index {
         }
     }
 
-    /// Takes the key's entry out: it is a blank one then. It takes no memory, and the last entry comes to its place.
+    /// Takes the key's entry out, which is then blank. It takes no memory, and the last entry moves to its place.
     pub fn remove(&mut self, key: Key, near: Option<usize>)
         ensures entries { Sets self.old self.new key blank }
         ensures room { LosesRoom self.old self.new key }

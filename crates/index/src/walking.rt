@@ -78,7 +78,7 @@ impl Index {
     }
 }
 
-// What a walk finds in a slot that it comes to.
+// What a walk finds in a slot that it reaches.
 #[derive(Clone, Copy, Debug)]
 pub(crate) enum Next {
     // The version that the snapshot sees.

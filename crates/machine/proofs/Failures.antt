@@ -16,7 +16,7 @@ use Rattle.machine.proofs.collector.Visits.{visit-changes}
 
 -- ---- no refusal of a step that is not made reports one
 
--- where it is some fault, that fault reports none
+-- if there is a fault, it doesn't report a failing device
 abbrev Quiet : Option Fault → Type 0
 Quiet o = (fault : Fault) → o ≡ Some fault → is_failure (Refused fault) ≡ false
 

@@ -196,7 +196,7 @@ abbrev pub has_closed : Option (Result Numbers Fault) → Bool
 has_closed (Some (Ok numbers)) = true
 has_closed _ = false
 
--- what a life acknowledges: by its replies, and all that it drew where it was closed
+-- what a life acknowledges: by its replies, and all that it drew if it was closed
 abbrev pub acknowledged_in : Report → List ℕ
 acknowledged_in report = flat_map acknowledged_by report.replies ++ (if has_closed report.closed then drawn_in report.replies else [])
 
@@ -229,7 +229,7 @@ pub record AddsDrawn (before : World) (steps : List Step) (replies : List Reply)
   pub drawn : All (λ commit. Contains (drawn_in replies) commit.timestamp) (covered_in replies ++ uncovered (final start states))
   pub each : All (λ t. IsTrue (has_timestamp (covered_in replies ++ uncovered (final start states)) t)) (drawn_in replies)
 
--- what a life adds: nothing where it doesn't open
+-- what a life adds: nothing if it doesn't open
 abbrev pub LifeAdds : World → List Step → Opening → List Reply → World → Type 0
 LifeAdds before steps (Fails fault) replies after = after.history ≡ before.history
 LifeAdds before steps (Opens numbers next gaps rows) replies after = AddsDrawn before steps replies after

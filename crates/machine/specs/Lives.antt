@@ -48,7 +48,7 @@ pub record Report : Type 0 where
   pub replies : List Reply
   pub closed : Option (Result Numbers Fault)  -- the numbers after a close, or its fault; none where it wasn't asked or not come to
 
--- what is asked of it: steps, and whether it closes
+-- what is requested of a life: steps, and whether it closes
 pub record Asked : Type 0 where
   pub steps : List Step
   pub closes : Bool

@@ -329,7 +329,7 @@ takes_memory q step = chooses q step
 abbrev pub stamped_write : State → ℕ → Option (Key × Option (List ℕ))
 stamped_write q n = option_and_then (λ d. slice_get d.commit.writes d.stamped) (drawn_at q (timestamp_of (q.sessions n)))
 
--- a write touches a line where it has a row, or there is one to end
+-- a write touches a line if it has a row, or there is a row to end
 abbrev pub operates_for : State → Option (Key × Option (List ℕ)) → Bool
 operates_for q None = false
 operates_for q (Some write) = is_some write.1 || is_some (after q.history write.0)
@@ -439,7 +439,7 @@ next_state q (End n) = with_session n None q
 next_state q CommitTick = state_ticked q q.hand
 next_state q Collect = visited q
 
--- One step. A refusal changes nothing, but for a failing device, after which each step is refused
+-- One step. A refusal changes nothing, unless the device fails, after which each step is refused
 pub data Stepped (q : State) (step : Step) (reply : Reply) (q' : State) : Type 0 where
   refused : (fault : Fault) → refusal q step ≡ Some fault → reply ≡ Refused fault → q' ≡ q → Stepped q step reply q'
   answered : refusal q step ≡ None → Answers q step reply → q' ≡ next_state q step → Stepped q step reply q'

@@ -55,7 +55,7 @@ answer q (End n) = Done
 answer q CommitTick = ticked q q.hand
 answer q Collect = collected q
 
--- the reply, and the state after it, where this refuses the step
+-- the reply, and the state after it, if this refuses the step
 abbrev pub reply_on : State → Step → Option Fault → Reply
 reply_on q step None = answer q step
 reply_on q step (Some fault) = Refused fault

@@ -20,7 +20,7 @@ visits_answer (suc n) q = collected q ∷ visits_answer n (visited q)
 abbrev pub round_of : State → State
 round_of q = visits (q.layout.slots + 1) q
 
--- steps of the collector that follow each other are visits, where the device has not failed
+-- steps of the collector that follow each other are visits, if the device has not failed
 pub record VisitsFollow : Type 0 where
   pub states : (q : State) (n : ℕ) → q.failed ≡ false → end q (replicate n Collect) ≡ visits n q
   pub replies : (q : State) (n : ℕ) → q.failed ≡ false → replies_to q (replicate n Collect) ≡ visits_answer n q

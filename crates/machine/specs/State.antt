@@ -45,7 +45,7 @@ pub record State : Type 0 where
   pub hand : Option Hand
   pub held : ℕ → Option Version  -- what each slot is taken by
 
--- the function with another value at one number, where that is given
+-- the function with another value at one number, if a number is given
 abbrev pub held_at : {X : Type 0} → Option ℕ → X → (ℕ → Option X) → ℕ → Option X
 held_at None value f = f
 held_at (Some at) value f = replaced at (Some value) f

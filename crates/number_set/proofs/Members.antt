@@ -51,7 +51,7 @@ pub count-is : (n counted : ℕ) (words : List ℕ) → HoldsMembers n counted w
 count-is n counted words holds =
     holds.sums ∙ count-same n (is_in words) (has (members n words)) (λ k lt. sym (has-is n words holds.beyond k)) ∙ ap (λ (m : ℕ). count_below m (has (members n words))) (sym (size-of n words))
 
--- where one number alone changes
+-- if one number alone changes
 module _ (n k : ℕ) (b : Bool) (words now : List ℕ) (lt : k < n) (here : is_in now k ≡ b) (others : (i : ℕ) → i ≢ k → is_in now i ≡ is_in words i) where
   pub members-set : members n now ≡ set (members n words) k b
   members-set =

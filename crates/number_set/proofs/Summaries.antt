@@ -37,7 +37,7 @@ module _ (words summary now summary' : List ℕ) (line : ℕ) (summed : IsSummed
 pub some-bit : (words : List ℕ) (k : ℕ) → is_in words k ≡ true → get_or words (k / 64) 0 ≢ 0
 some-bit words k here none = absurd (cc (sym here ∙ zero-bit (get_or words (k / 64) 0) (k % 64) none))
 
--- where a word has a bit before and after, the summary stays
+-- if a word has a bit before and after, the summary stays
 pub summed-still : (words summary now : List ℕ) (line : ℕ) → IsSummed words summary → length now ≡ length words → ((at : ℕ) → at ≢ line / 64 → get_or now at 0 ≡ get_or words at 0) → get_or words (line / 64) 0 ≢ 0
     → get_or now (line / 64) 0 ≢ 0 → IsSummed now summary
 summed-still words summary now line summed size others some some' = grind (arith, cases_eq, enough, eqb-true) steps 800000

@@ -61,7 +61,7 @@ impl Level for Vec<u64> {
     }
 }
 
-/// Words, and a level above them with a bit for each word that isn't 0: to find the lowest number from one on, a search looks at
+/// Words, and a level above them with a bit for each word that isn't 0: to find the lowest number from a given one on, a search looks at
 /// one or two words of each level. Contracts see the words.
 #[derive(Drop)]
 pub(crate) struct Summed<S: Level> {

@@ -71,7 +71,7 @@ leaves-applied P failure orderly orderly' made here there = leaves-failed P orde
 
 -- ---- what is stored
 
--- it stores nothing but what has Q, and doesn't fail
+-- it stores only what has Q, and doesn't fail
 abbrev pub StoresOnly : (ℕ → ℕ → Type 0) → Operation → Type 0
 StoresOnly Q (store_op word value) = Q word value
 StoresOnly Q (flush_op actor line) = Unit {0}
@@ -256,7 +256,7 @@ module _ (Q : ℕ → ℕ → Type 0) where
       one (fence_op actor) this = refl
       one failure this = absurd this
 
-  -- where one of them fails
+  -- if one of them fails
   module _ {ops : List Operation} {old new : Device} (all : StoreOnly Q ops) (stop : StopsWithin ops old new) where
     front : (s : HasStopped ops old new) → StoreOnly Q (take s.count ops)
     front s = All-take (StoresOnly Q) s.count ops all
@@ -364,7 +364,7 @@ module _ (actor first : ℕ) (value : ℕ → ℕ) (n line lines : ℕ) where
         failures_made = made.failures_made;
       }
 
-  -- each of them is settled where its line is among those that are flushed
+  -- each of them is settled if its line is among those that are flushed
   pub persist-settles : {old new : Device} → Runs (persist_operations actor first value n line lines) old new → (k : ℕ) → k < n → first + k < old.words → line ≤ (first + k) / 8 → (first + k) / 8 < line + lines → IsSettledAt new (first + k) (value k)
   persist-settles run k lt within low high =
       settled-run stores flushes actor (first + k) (value k) within

@@ -12,7 +12,7 @@ pub tracked-fenced : (old new : ℕ → List Entry) (room room' : ℕ) (counts l
     → IsTracked new room' counts' listed'
 tracked-fenced old new room room' counts listed counts' listed' by moment tracked step others = grind (arith, awaited-persisted, awaited-other)
 
--- where the pending lines were visited, and are not all lines, all words are persisted
+-- if the pending lines were visited, and are not all lines, all words are persisted
 pub fenced_listed : (old new : ℕ → List Entry) (room : ℕ) (counts listed : List ℕ) (actor moment : ℕ) → actor < 64 → IsTracked old room counts listed → nat_le room (get_or counts actor 0) ≡ false
     → ((word : ℕ) → new word ≡ cond (is_listed listed actor (word / 8) (get_or counts actor 0)) (persisted actor moment (old word)) (old word))
     → (word : ℕ) → new word ≡ persisted actor moment (old word)

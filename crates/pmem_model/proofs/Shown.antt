@@ -55,7 +55,7 @@ open_passed clock value actor flushed rest rest' (entry ∷ older) lt by deeper 
 
 -- ---- logs that are alike for a word
 
--- the stores are of one word, and the same where it is of the line
+-- the stores are of one word, and the same if it is of the line
 abbrev pub IsAlike : ℕ → Stored → Stored → Type 0
 IsAlike word store store' = (store.word ≡ store'.word) × (store.word / 8 ≡ word / 8 → store ≡ store')
 
@@ -166,7 +166,7 @@ shows-at : (log : List Stored) (from clock word n value actor : ℕ) (actors : �
     → Shows log from clock word (suc n) value actors history → IsSettled clock value (persisted actor clock history)
 shows-at log from clock word n value actor actors history small in_span line mark shown = grind (arith, shows-taken)
 
--- down to where what is older is settled
+-- down to the place at which what is older is settled
 shows-cut : (log : List Stored) (from cut clock word n value actor : ℕ) (actors : ℕ → Bool) (history : List Entry) → actor < 64 → from ≤ cut → actors actor ≡ false
     → ((v : ℕ) (seen : ℕ → Bool) (older : List Entry) → Shows log from clock word cut v seen older → IsSettled clock v (persisted actor clock older))
     → cut ≤ n → NoneTakenIn log actor (word / 8) cut n
@@ -193,7 +193,7 @@ pub shows-passed : (log : List Stored) (from clock word n value actor : ℕ) (hi
     → Shows log from clock word n value nobody history → Shows log from clock word n value nobody (persisted actor clock history)
 shows-passed log from clock word n value actor history small none shown = grind (arith, shows-settled, shows-cut)
 
--- and where this is the newest that is
+-- and if this is the newest that is
 pub shows-persisted : (log : List Stored) (from clock word place n value actor : ℕ) (history : List Entry) → actor < 64 → from < place → place ≤ n
     → (store_at log (place - 1)).word / 8 ≡ word / 8 → bit_at (store_at log (place - 1)).flushed actor ≡ 1 → NoneTakenIn log actor (word / 8) place n
     → Shows log from clock word n value nobody history → Shows log place clock word n value nobody (persisted actor clock history)

@@ -21,6 +21,6 @@ pub record IsListing (lines room : ℕ) (counts listed : List ℕ) : Type 0 wher
   pub within : (actor : ℕ) → slice_index counts actor ≤ room
   pub in_lines : (actor place : ℕ) → actor < 64 → place < slice_index counts actor → line_at listed actor place < lines
 
--- where a fence by an actor would change a word, the word's line is pending for that actor
+-- if a fence by an actor would change a word, the word's line is pending for that actor
 pub record IsTracked (history : ℕ → List Entry) (room : ℕ) (counts listed : List ℕ) : Type 0 where
   pub each : (actor word : ℕ) → actor < 64 → is_awaited actor (history word) ≡ true → is_pending room counts listed actor (word / 8) ≡ true

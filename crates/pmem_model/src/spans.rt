@@ -4,7 +4,7 @@ ghost use Rattle.pmem_model.specs.Spans.{span_at, weight, nowhere};
 
 use std::alloc::{AllocError, Global};
 
-/// The places in a log from one on up to another, without that.
+/// The places in a log from `from` on up to `to`, without `to`.
 #[derive(Clone, Copy, Debug)]
 pub struct Span {
     pub from: usize,

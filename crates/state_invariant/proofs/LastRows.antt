@@ -33,7 +33,7 @@ row-all p key s (c ∷ cs) all here t e = grind (arith, row-all p key (cond (is_
 pub row-place : (cs : List Commit) (n : ℕ) (c : Commit) (key : Key) → slice_get cs n ≡ Some c → last_row (take (suc n) cs) key ≡ cond (is_some (row_in c.writes key)) (Some c.timestamp) (last_row (take n cs) key)
 row-place cs n c key at = ap (λ (xs : List Commit). last_row xs key) (take-place cs n c at) ∙ fold-append (λ (last : Option ℕ) (commit : Commit). cond (is_some (row_in commit.writes key)) (Some commit.timestamp) last) None (take n cs) (c ∷ [])
 
--- where a row is there, its commit is the last that wrote one
+-- if a row is there, its commit is the last that wrote one
 pub row-there : (cs : List Commit) (n : ℕ) (key : Key) (row : List ℕ) → n ≤ length cs → after (take n cs) key ≡ Some row → last_row (take n cs) key ≡ Some (last_writer (take n cs) key)
 row-there cs zero key row within there = absurd (cc there)
 row-there cs (suc n) key row within there = on (λ was. row-there cs n key row (omega (arith, within)) was) (place-within cs n (omega (arith, within)))

@@ -46,7 +46,7 @@ OpenedLinks =
     (image : Image) (history drawn : List Commit) (next : ℕ) (lost : List ℕ) (q : State) (value : ℕ → ℕ) → opening_fault image ≡ None → IsUpToDate image → Stands image history drawn next → OpensAs image history lost q
     → Links (origin_of q) q value
 
--- so it stays over stores in begins and ends, in slots that nothing holds, and in a session's own where the device failed
+-- so it stays over stores in begins and ends, in slots that nothing holds, and in a session's own if the device failed
 abbrev pub StoresLink : Type 0
 StoresLink =
     (o : Origin) (q : State) (value new : ℕ → ℕ)
@@ -92,7 +92,7 @@ stores _ = false
 abbrev pub StepsShow : Type 0
 StepsShow = (o : Origin) (q : State) (step : Step) (reply : Reply) (q' : State) (value : ℕ → ℕ) → Keeps o q → Stepped q step reply q' → stores step ≡ false → SlotsShow o q value → SlotsShow o q' value
 
--- a put that stores its version in its slot: what the slots show is then what the next state says, and, where the device
+-- a put that stores its version in its slot: what the slots show is then what the next state says, and, if the device
 -- stopped it, what the failed state says
 pub record PutShows : Type 0 where
   pub stored : (o : Origin) (q : State) (n : ℕ) (key : Key) (row : List ℕ) (slot : ℕ) (value new : ℕ → ℕ) → Keeps o q → refusal q (Put n key row) ≡ None

@@ -32,7 +32,7 @@ pub record LinksTo (a : Layout) (value : ℕ → ℕ) (slot link : ℕ) : Type 0
       → ((w : ℕ) → 2 ≤ w → w < slot_words a.version → slice_index image (word_of a slot w) ≡ value (word_of a slot w))
       → link_of image slot ≡ link
 
--- the version's slot names that of the row version before it on its key, while that is held, also where a covered deletion
+-- the version's slot names that of the row version before it on its key, while that is held, also if a covered deletion
 -- ended it
 abbrev pub SlotLinks : Origin → State → (ℕ → ℕ) → ℕ → Version → Type 0
 SlotLinks o q value slot v =
@@ -49,7 +49,7 @@ pub record Links (o : Origin) (q : State) (value : ℕ → ℕ) : Type 0 where
 abbrev pub HoldsNewest : State → Key → Option ℕ → Type 0
 HoldsNewest q key newest = (t slot : ℕ) → last_row q.history key ≡ Some t → slot < q.layout.slots → q.held slot ≡ Some (version_by key (ByCommit t)) → newest ≡ Some slot
 
--- where no commit bars the session from drawing, the words of its version name the newest row version that is held
+-- if no commit bars the session from drawing, the words of its version name the newest row version that is held
 abbrev pub NamesNewest : State → (ℕ → ℕ) → ℕ → ℕ → Key → Type 0
 NamesNewest q value slot n key =
     IsFreeToDraw q n key → (t earlier : ℕ) → last_row q.history key ≡ Some t → earlier < q.layout.slots → q.held earlier ≡ Some (version_by key (ByCommit t))

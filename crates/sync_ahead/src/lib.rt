@@ -9,7 +9,7 @@ use pmem::Pmem;
 
 /// A device that may sync ahead of a fence. No promise of the device rests on it: a fence waits for what wasn't synced ahead.
 pub trait SyncAhead: Pmem {
-    /// A sync, which is made where the device isn't at hand, and what came of it.
+    /// A sync, which is made without the device, and its result.
     type Pending: Drop;
 
     /// If this actor's next fence would wait for a sync, hands that sync out, to be made and taken back before the fence. `None`
@@ -17,10 +17,10 @@ pub trait SyncAhead: Pmem {
     fn begin_sync(&mut self, actor: Actor) -> Option<Self::Pending>
         ensures { Self.state self.new ≡ Self.state self.old };
 
-    /// Makes it, and waits until it ends.
+    /// Makes the sync, and waits until it ends.
     fn sync(pending: &mut Self::Pending);
 
-    /// Takes it back. It counts as no operation.
+    /// Takes the sync back. This doesn't count as an operation.
     fn end_sync(&mut self, pending: Self::Pending)
         ensures { Self.state self.new ≡ Self.state self.old };
 }

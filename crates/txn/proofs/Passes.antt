@@ -7,7 +7,7 @@ use Rattle.txn.specs.declared.drawn.DrawnCommit.{DrawnCommit}
 use Rattle.txn.specs.DrawnCommits.{are_in_order, plain_drawn}
 use Rattle.txn.proofs.InOrder.{are_later, later, rest}
 
--- what a walk over commits has come to: the last timestamp that a record may reach, and how many it would pass over
+-- how far a walk over commits has got: the last timestamp that a record may reach, and how many it would pass over
 pub record Walk : Type 0 where
   pub reached : ℕ
   pub unstamped : ℕ

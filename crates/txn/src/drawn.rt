@@ -206,7 +206,7 @@ fn hand_back(commits: &mut Vec<DrawnCommit>, kept: usize, transactions: &mut Tra
     }
 }
 
-// How many come before the first whose timestamp isn't below. A commit is mostly asked for while it is the last.
+// How many come before the first whose timestamp isn't below. Most requests are for the last commit.
 #[inline(always)]
 fn place(commits: &[DrawnCommit], timestamp: Ts) -> usize
     requires { IsTrue (are_in_order commits.now) }

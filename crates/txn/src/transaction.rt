@@ -25,7 +25,7 @@ impl Transaction {
     ghost use Rattle.txn.specs.declared.transaction.Transaction.TheVariants.{Active, Drawn};
     ghost use Rattle.txn.specs.WriteSets.{HasRoomFor, with_write_at};
 
-    // Writes in place, where it is Active.
+    // Writes in place, if it is Active.
     #[inline(always)]
     pub(crate) fn write(&mut self, write: Write)
         requires { (snapshot : Seen) (writes : List Write) → self.old ≡ Active snapshot writes → HasRoomFor write.key writes }

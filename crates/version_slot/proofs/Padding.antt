@@ -50,7 +50,7 @@ short-down (suc left) n from is fits clear =
     let low : n / 256 ^ from % 256 ≡ 0 = sym (byte-is n from (omega (arith, is))) ∙ clear from (omega arith) (omega (arith, is)) in
     none-small n (256 ^ from) (pos from) (omega (arith, few, low))
 
--- where its bytes from one on are 0, nothing is left of it
+-- if its bytes from one on are 0, nothing is left of it
 pub none-left : (n from : ℕ) → n < 2 ^ 64 → from < 8 → ((k : ℕ) → from ≤ k → k < 8 → get_or (to_le_bytes w64 n) k 0 ≡ 0) → n / 2 ^ (8 * from) ≡ 0
 none-left n from fits lt clear =
     let left : from + (8 - from) ≡ 8 = omega (arith, lt) in

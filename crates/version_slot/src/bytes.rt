@@ -2,7 +2,7 @@ ghost use Rattle.std.specs.Prelude.{◌≡◌, ◌↔◌, ◌+◌, ◌-◌, ◌*
 ghost use Rattle.std.specs.Int.{from_le_bytes, w64};
 ghost use Rattle.version_slot.specs.Words.{link_number, slot_byte};
 
-// The eight bytes from one on as a number, the first lowest, with 0 past the end.
+// The eight bytes from `from` on as a number, the first lowest, with 0 past the end.
 #[inline(always)]
 pub fn word_at(bytes: &[u8], from: usize) -> u64
     requires { from ≤ 96 }

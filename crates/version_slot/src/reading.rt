@@ -30,7 +30,7 @@ pub fn read_key<D: Pmem>(device: &D, geometry: Geometry, slot: u64) -> Option<Ke
     held_key(&words_from(device, geometry, slot, 2), geometry)
 }
 
-// The last values of a slot's words from one on. A slot of one line has eight.
+// The last values of a slot's words from `first` on. A slot of one line has eight.
 #[inline(always)]
 fn words_from<D: Pmem>(device: &D, geometry: Geometry, slot: u64, first: usize) -> [u64; 16]
     requires slot { slot < geometry.slots }

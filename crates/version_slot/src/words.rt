@@ -29,7 +29,7 @@ impl Slot {
     ghost use Rattle.std.specs.Prelude.{slice_index, IfSome, IfNone};
     ghost use Rattle.version_slot.specs.Words.{IsSlot};
 
-    /// What these words hold, of which a slot of one line has the first eight. They hold nothing where the row's length,
+    /// What these words hold, of which a slot of one line has the first eight. They hold nothing if the row's length,
     /// an unused bit, a byte past the row's end or the previous slot isn't as it should be.
     #[inline(always)]
     pub fn from_words(words: &[u64; 16], geometry: Geometry) -> Option<Slot>

@@ -11,7 +11,7 @@ use base::fault::Fault;
 use base::geometry::Geometry;
 use pmem::{Pmem, store_all};
 
-/// Stores 0 in a slot's end and then a version in the words after it, to the slot's last: 7 stores, or 15 where a slot has
+/// Stores 0 in a slot's end and then a version in the words after it, to the slot's last: 7 stores, or 15 if a slot has
 /// two lines. The begin stays.
 #[inline(always)]
 pub fn fill<D: Pmem>(

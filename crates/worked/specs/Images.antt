@@ -51,7 +51,7 @@ covered_image = with_words ((72, 1) ∷ (40, 3) ∷ (41, 1) ∷ (42, 10) ∷ ver
 abbrev pub opened_again_image : Image
 opened_again_image = with_words ((8, 4) ∷ (9, 9) ∷ (10, 18) ∷ (11, 1) ∷ (12, 2) ∷ (13, 9) ∷ []) covered_image
 
--- where commit 1 was stamped and not covered
+-- with commit 1 stamped and not covered
 abbrev pub stamped_image : Image
 stamped_image = with_words ((72, 1) ∷ version_words) opened_image
 

@@ -84,7 +84,7 @@ record Reported (before covered : List Commit) (ts : List ℕ) (q : State) : Typ
 widen : (ts us : List ℕ) (commits : List Commit) → All (Among ts) commits → All (Among (ts ++ us)) commits
 widen ts us commits all = All-weaker (Among ts) (Among (ts ++ us)) (λ c h. Contains-append_left ts us c.timestamp h) commits all
 
--- a reply that gives out nothing and covers nothing
+-- a reply that draws nothing and covers nothing
 abbrev IsQuiet : Reply → Type 0
 IsQuiet reply = (covered_by reply ≡ []) × (drawn_by reply ≡ [])
 

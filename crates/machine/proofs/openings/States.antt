@@ -91,7 +91,7 @@ sweep-counts : (image : Image) → IsSound image → CountsAlike (ruling image) 
 sweep-counts image sound =
     sweep-counts-by image sound (swept_record (ruling image)) (λ t less. swept-committed (layout_of image) (ruling image) (opened_gaps (ruling image)) t (covers-of image sound) less) (omega arith)
 
--- an image counts the same as itself, where the record commits the same
+-- an image counts the same as itself, if the record commits the same
 own-counts : (image : Image) → IsSound image → (r' : Record) → ((t : ℕ) → t < (ruling image).dirty → is_committed r' t ≡ is_committed (ruling image) t) → (ruling image).dirty ≤ r'.dirty → CountsAlike (ruling image) image r' image
 own-counts image sound r' same further = record {
   begin = λ slot h. same (begin_of image slot) (below-of image sound slot h).0;

@@ -20,7 +20,7 @@ use Rattle.base.proofs.Lists.{find-passes}
 
 -- ---- sessions after a step
 
--- the sessions of the one state are those of the other, but for the number n, which has this
+-- the sessions of the one state are those of the other, except at the number n, which has this one
 abbrev But : ℕ → Option Session → State → State → Type 0
 But n session q q' = (m : ℕ) → q'.sessions m ≡ replaced n session q.sessions m
 
@@ -81,11 +81,11 @@ sees-opened image history lost q opens n = omega (arith, ap (λ (p : State). beg
 
 -- ---- a session that the step doesn't name
 
--- where no number is free, none begins
+-- if no number is free, no session begins
 refuses-full : (q : State) → is_none (free_session q) ≡ true → is_none (refusal q Begin) ≡ false
 refuses-full q full = grind arith
 
--- where a session begins, it has a number that was free
+-- if a session begins, it has a number that was free
 begun-free : (q : State) (n : ℕ) (session : Session) → refusal q Begin ≡ None → q.sessions n ≡ Some session → nat_eq n (unwrap_or (free_session q) 0) ≡ false
 begun-free q n session ok is_at = grind (arith, ne_eqb, refuses-full, find-passes)
 

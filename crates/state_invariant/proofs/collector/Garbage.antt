@@ -34,7 +34,7 @@ has-more [] (suc m) n t le has = absurd (false≢true has)
 has-more (c ∷ cs) (suc m) zero t le has = absurd (omega (arith, le))
 has-more (c ∷ cs) (suc m) (suc n) t le has = grind (arith, has-more cs m n t)
 
--- where a row is there, the last commit on its key is among the commits
+-- if a row is there, the last commit on its key is among the commits
 has-last : (cs : List Commit) (key : Key) (row : List ℕ) → after cs key ≡ Some row → has_timestamp cs (last_writer cs key) ≡ true
 has-last cs key row there = passes-last_writer (has_timestamp cs) key row cs (all-placed (λ c. has_timestamp cs c.timestamp) cs (λ i c at. has-here cs i c at)) there
 
@@ -121,7 +121,7 @@ module _ (o : Origin) (q : State) (kept : Keeps o q) (value : ℕ → ℕ) (slot
     follows : (n : ℕ) (r : IsChanged q.history key t s.place n) → end ≡ r.commit.timestamp
     follows n r = shows.ended r.commit.timestamp record { place = r.place; since = omega (arith, s.since, r.low); commit = r.commit; at = r.at; writes = r.writes; stamped = refl; last = r.last }
 
-    -- its begin counts where its commit is seen
+    -- its begin counts if its commit is seen
     begins : (n : ℕ) → o.opened ≤ n → has_timestamp (take n q.history) t ≡ true → counts_at o q n begin ≡ true
     begins n low among = by (nat_le t o.ruling.persisted) refl
       where
@@ -144,7 +144,7 @@ module _ (o : Origin) (q : State) (kept : Keeps o q) (value : ℕ → ℕ) (slot
         by true le = or_left (is_committed o.ruling begin) (has_timestamp (drop o.opened (take n q.history)) begin) (shows.begin.earlier (leb-true t o.ruling.persisted le))
         by false above = own (leb-false t o.ruling.persisted above) (placed q.history 0 n t (first (take n q.history) among))
 
-    -- where a later commit is seen, its end counts
+    -- if a later commit is seen, its end counts
     ends : (n : ℕ) → o.opened ≤ n → n ≤ length q.history → has_timestamp (take n q.history) t ≡ true → last_writer (take n q.history) key ≢ t → counts_at o q n end ≡ true
     ends n low within among later =
         by (stays-or_replaced q.history key t (Some has.0) s.place n s.last s.there (s.seen n low (begins n low among)) within)

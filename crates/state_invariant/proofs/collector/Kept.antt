@@ -115,7 +115,7 @@ module _ (o : Origin) (q : State) (kept : Keeps o q) (held : ℕ → Option Vers
 
   -- ---- what the slots show
 
-  -- what no snapshot sees stays so, where a sweep doesn't end
+  -- what no snapshot sees stays so, if a sweep doesn't end
   module _ (value : ℕ → ℕ) (never : (slot w : ℕ) → slot < q.layout.slots → w < 2 → IsNever o q (value (word_of q.layout slot w)) → IsNever o then (value (word_of q.layout slot w))) where
     shows-as : (slot : ℕ) → slot < q.layout.slots → (c : Class) → ShowsAs o q value slot c → ShowsAs o then value slot c
     shows-as slot lt Free (inl none) = inl (never slot 0 lt (omega arith) none)

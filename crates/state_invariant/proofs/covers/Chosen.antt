@@ -158,7 +158,7 @@ pub length-filtered : (p : Drawn → Bool) (n : ℕ) (ds : List Drawn) → fold 
 length-filtered p n [] = omega arith
 length-filtered p n (d ∷ ds) = grind (arith, length-filtered p (n + cond (p d) 1 0) ds)
 
--- where what passes one passes the other, it has no more
+-- if what passes p passes r, no more pass p than r
 pub fewer-filtered : (p r : Drawn → Bool) (ds : List Drawn) → list_all (λ d. not (p d) || r d) ds ≡ true → length (filter p ds) ≤ length (filter r ds)
 fewer-filtered p r [] all = omega arith
 fewer-filtered p r (d ∷ ds) all = grind (arith, fewer-filtered p r ds)
@@ -218,7 +218,7 @@ module _ (o : Origin) (q : State) (kept : Keeps o q) where
       let some = any-unfiltered (is_passed q) (λ d. nat_eq t (time_of d)) q.drawn (sym (any-map (nat_eq t) time_of (filter (is_passed q) q.drawn)) ∙ any) in
       grind (arith, any-by_timestamp, rising, and_parts, eqb-true)
 
-  -- what is drawn and reached is chosen where it is stamped, and else passed over
+  -- what is drawn and reached is chosen if it is stamped, and passed over otherwise
   pub reached-chosen : (t : ℕ) (d : Drawn) → drawn_at q t ≡ Some d → t ≤ reach q → is_stamped d ≡ true → has_timestamp (chosen q) t ≡ true
   reached-chosen t d found le stamped =
       let is = drawn_at-timestamp q t d found in
@@ -246,7 +246,7 @@ module _ (o : Origin) (q : State) (kept : Keeps o q) where
   reach-persisted : q.ruling.persisted ≤ reach q
   reach-persisted = max-least q.ruling.persisted (map time_of (filter (may_be_covered q) q.drawn))
 
-  -- the commit that is reached, where it isn't the one persisted now
+  -- the commit that is reached, if it isn't the one persisted now
   pub reach-is : (reach q ≡ q.ruling.persisted) ⊎ ((d : Drawn) × (drawn_at q (reach q) ≡ Some d) × (may_be_covered q d ≡ true))
   reach-is = elim (max-is q.ruling.persisted (map time_of (filter (may_be_covered q) q.drawn))) [
     | inl same ↦ inl same
@@ -401,7 +401,7 @@ module _ (o : Origin) (q : State) (kept : Keeps o q) where
           inl (committed-from q.ruling t b.0 (omega (arith, le, kept.numbers.origin.further)) out
           (false_from_ne_true (list_any (nat_eq t) q.ruling.longs) (λ long. let f = has-drawn t (kept.numbers.longs t long) in omega (arith, le, (bounds t f.0 f.1).1))))
 
-  -- ---- where all that is drawn is stamped
+  -- ---- if all that is drawn is stamped
 
   module _ (all : list_all is_stamped q.drawn ≡ true) where
     stamped-found : (t : ℕ) (d : Drawn) → drawn_at q t ≡ Some d → is_stamped d ≡ true

@@ -155,7 +155,7 @@ module _ (o : Origin) (q : State) (hand : Hand) (value : ℕ → ℕ) (up : q.fa
   started-here : drawn_at q t ≡ None → HasBegun o t (value (word_of q.layout slot 0)) → Started o q v.key has.0 t (value (word_of q.layout slot 0))
   started-here undrawn begun = started o q kept v.key has.0 t (value (word_of q.layout slot 0)) undrawn has.1 begun
 
-  -- the newest, where the batch doesn't write its key
+  -- the newest, if the batch doesn't write its key
   newest-stays : list_any (writes_key v.key) hand.commits ≡ false → IsNewest o q value slot t v.key row → IsNewest o after_it value slot t v.key row
   newest-stays none w = record {
     begin = w.begin;
@@ -168,7 +168,7 @@ module _ (o : Origin) (q : State) (hand : Hand) (value : ℕ → ℕ) (up : q.fa
       on (inl never) = inl never
       on (inr drawn) = inr (drawn-still o q hand value up kept k v.key (value (word_of q.layout slot 1)) none drawn)
 
-  -- the newest, where it does
+  -- the newest, if it does
   newest-replaced : drawn_at q t ≡ None → last_writer q.history v.key ≡ t → IsNewest o q value slot t v.key row → IsReplaced o after_it value slot t v.key row
   newest-replaced undrawn newest w = record { begin = w.begin; ended = ended; spells = w.spells }
     where

@@ -67,7 +67,7 @@ no-any : {X : Type 0} (p : X → Bool) (xs : List X) (test : X → Bool) (x : X)
 no-any p [] test x none found = cc found
 no-any p (y ∷ ys) test x none found = grind (arith, no-any p ys test x)
 
--- where the draw meets no conflict, what is drawn already writes none of the session's keys
+-- if the draw meets no conflict, what is drawn already writes none of the session's keys
 pub unlike-drawn : (q : State) (n : ℕ) (key : Key) (u : ℕ) (e : Drawn) → conflict_of q n ≡ None → is_some (lookup_key (writes_of (q.sessions n)) key) ≡ true → drawn_at q u ≡ Some e → writes_key key e.commit ≡ false
 unlike-drawn q n key u e alone has found =
     let none : list_any (writes_key key) (unseen_by q n) ≡ false = key-found key (writes_of (q.sessions n)) (λ key. list_any (writes_key key) (unseen_by q n)) has alone in
@@ -287,7 +287,7 @@ module _ (o : Origin) (q : State) (n : ℕ) (write : Key × Option (List ℕ)) (
 
 -- ---- the step
 
--- what is known where a draw isn't refused
+-- what is known if a draw isn't refused
 pub draw-facts : (o : Origin) (q : State) (n : ℕ) (write : Key × Option (List ℕ)) (rest : Writes) → Keeps o q → refusal q (Draw n) ≡ None → writes_of (q.sessions n) ≡ write ∷ rest
     → (q.next < q.ruling.dirty) × (q.next + 2 * q.layout.window < 2 ^ 62) × (conflict_of q n ≡ None)
 draw-facts o q n write rest kept none is = grind (arith, allowed, eqb-false, leb-false)

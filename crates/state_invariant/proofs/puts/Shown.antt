@@ -86,7 +86,7 @@ module _ (o : Origin) (q : State) (n : ℕ) (key : Key) (row : List ℕ) (kept :
   class-before : (x : Option Version) → q.held slot ≡ x → (class_of_version o q x ≡ Free) ⊎ ((k : Key) × (r : List ℕ) × (class_of_version o q x ≡ Waiting k r))
   class-before a at = grind (arith, free_slot-some)
 
-  -- where the device stops it, the slot's begin is 0 already, or its words are as they were
+  -- if the device stops it, the slot's begin is 0 already, or its words are as they were
   shows-stopped_put : (value new : ℕ → ℕ) → StopsPut q.layout value new slot → SlotsShow o q value → SlotsShow o (record q { failed = true }) new
   shows-stopped_put value new stopped shows = record { each = λ s lt_s. by s lt_s (cases_eq s slot) }
     where

@@ -65,7 +65,7 @@ module _ (o : Origin) (q : State) (kept : Keeps o q) where
     abbrev end : ℕ
     end = value (word_of q.layout slot 1)
 
-    -- the test agrees with what counts, but for timestamps in swept gaps
+    -- the test agrees with what counts, except for timestamps in swept gaps
     module _ (begins : IsOutOfSwept o q begin → counts begin ≡ counts_at o q n begin) (ends : IsOutOfSwept o q end → counts end ≡ counts_at o q n end) where
       abbrev Agrees : Type 0
       Agrees = (counts begin && not (counts end)) ≡ (counts_at o q n begin && not (counts_at o q n end))

@@ -155,7 +155,7 @@ module _ (o : Origin) (q : State) (kept : Keeps o q) where
 
   -- ---- until when it is seen
 
-  -- where it is newest, it is so at each snapshot that sees it
+  -- if it is newest, it is so at each snapshot that sees it
   newest-stays : (key : Key) (row : List ℕ) (t begin n : ℕ) → Started o q key row t begin → last_writer q.history key ≡ t → n ≤ length q.history → counts_at o q n begin ≡ true → o.opened ≤ n
       → (last_writer (take n q.history) key ≡ t) × (after (take n q.history) key ≡ Some row)
   newest-stays key row t begin n s newest within counts low =
@@ -170,7 +170,7 @@ module _ (o : Origin) (q : State) (kept : Keeps o q) where
           let w = last-after q.history key r.place (length q.history) r.commit r.at r.writes (omega (arith, r.high, within)) (omega arith) in
           absurd (s.never w.place w.commit (omega (arith, r.low, w.low)) w.at (sym w.last ∙ ap (λ (cs : List Commit). last_writer cs key) all ∙ newest))
 
-  -- where it was replaced and its end doesn't count, it is the last
+  -- if it was replaced and its end doesn't count, it is the last
   replaced-stays : (key : Key) (row : List ℕ) (t begin end n : ℕ) → Started o q key row t begin → ((u : ℕ) → Follows o q key t u → end ≡ u) → n ≤ length q.history → counts_at o q n begin ≡ true → o.opened ≤ n
       → counts_at o q n end ≡ false → (last_writer (take n q.history) key ≡ t) × (after (take n q.history) key ≡ Some row)
   replaced-stays key row t begin end n s ended within counts low out =
@@ -183,7 +183,7 @@ module _ (o : Origin) (q : State) (kept : Keeps o q) where
           let has = has-place q.history o.opened n r.place r.commit (omega (arith, s.since, r.low)) r.high r.at in
           absurd (true≢false (sym (ap (counts_at o q n) is ∙ or_right (is_committed o.ruling r.commit.timestamp) (has_timestamp (drop o.opened (take n q.history)) r.commit.timestamp) has) ∙ out))
 
-  -- where it is the last at a snapshot, its end doesn't count there
+  -- if it is the last at a snapshot, its end doesn't count there
   replaced-open : (key : Key) (t end n : ℕ) → ((u : ℕ) → Follows o q key t u → end ≡ u) → (last_writer q.history key ≡ t → ⊥) → o.opened ≤ n → n ≤ length q.history → last_writer (take n q.history) key ≡ t → counts_at o q n end ≡ false
   replaced-open key t end n ended old low within last =
       by (stays-or_replaced q.history key t (after (take n q.history) key) n (length q.history) last refl within (omega arith))

@@ -137,7 +137,7 @@ module _ (o : Origin) (q : State) (t : ℕ) (unfinished : list_any (λ d. nat_eq
       drew u (inl covered) = inl covered
       drew u (inr (d, found)) = inr (counted t d, found-after u d found)
 
--- what is known where a stamp isn't refused
+-- what is known if a stamp isn't refused
 pub stamp-facts : (q : State) (n : ℕ) → refusal q (Stamp n) ≡ None
     → (q.sessions n ≡ Some (Drew (timestamp_of (q.sessions n)))) × (has_timestamp q.history (timestamp_of (q.sessions n)) ≡ false) × (list_any (λ d. nat_eq d.commit.timestamp (timestamp_of (q.sessions n)) && is_stamped d) q.drawn ≡ false)
 stamp-facts q n none = grind (arith, allowed, stamping)
