@@ -86,7 +86,7 @@ CoveringKeeps =
 
 -- ---- gaps
 
--- where the sweep is over, what may survive in the slots is as under a record without gaps that commits what the old one does
+-- if the sweep is over, what may survive in the slots is as under a record without gaps that commits what the old one does
 abbrev pub GapsDrop : Type 0
 GapsDrop =
     (q : State) (r : Record) (device : Device) → q.swept ≡ true → r.gaps ≡ [] → ((t : ℕ) → is_committed q.ruling t ≡ true → is_committed r t ≡ true) → IsSweeping q device → SlotsHold q device
@@ -161,7 +161,7 @@ DevicesRead = (o : Origin) (q : State) (device : Device) (n : ℕ) → IsOrderly
 pub record RestsOn (a : Layout) (device : Device) (image : Image) : Type 0 where
   pub each : (slot w : ℕ) → slot < a.slots → w < slot_words a.version → IsSettledAt device (word_of a slot w) (slice_index image (word_of a slot w))
 
--- where the slots are as the opening leaves them, swept or as it found them, and the record that it wrote rules, the
+-- if the slots are as opening leaves them, swept or as it found them, and the record that it wrote rules, the
 -- device upholds the opened state
 abbrev pub OpenedUpholds : Type 0
 OpenedUpholds =

@@ -20,7 +20,7 @@ abbrev pub ruling_numbers : Image → Numbers
 ruling_numbers image = record { gate = (ruling image).gate; persisted = (ruling image).persisted; dirty = (ruling image).dirty }
 
 -- The step, as often as it is asked for, leads from the state on the one device to a state on the other, of which this holds,
--- whatever steps come after it; where the device fails in it, none of them is taken. This is reported of its replies
+-- whatever steps come after it; if the device fails in it, none of them is taken. This is reported of its replies
 pub record HasRepeated (q : State) (device : Device) (asked : Repeated) (answer : Option Reply) (left : Device) (P : State → Type 0) : Type 0 where
   pub own : List Reply
   pub reported : IsReported own answer
@@ -33,7 +33,7 @@ pub record HasRepeated (q : State) (device : Device) (asked : Repeated) (answer 
   pub stops : has_failed answer ≡ true → (more : List Step) → StepsOn q device (replicate asked.times asked.step ++ more) own last left
 
 -- the steps lead from the state on the one device to a state on the other, and this is reported of their replies, and this holds of
--- that state; the device has failed in it just where it did so in one of them
+-- that state; the device has failed in it exactly if it failed in one of the steps
 pub record HasObeyed (q : State) (device : Device) (steps : List Repeated) (kept : List (Option Reply)) (failed : Bool) (left : Device) (P : State → Type 0) : Type 0 where
   pub last : State
   pub replies : List Reply

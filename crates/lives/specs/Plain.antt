@@ -25,7 +25,7 @@ closed_of None = None
 closed_of (Some (Ok numbers)) = Some (Ok (numbers_of numbers))
 closed_of (Some (Err fault)) = Some (Err fault)
 
--- what a report says, where these are the replies to the life's steps
+-- what a report says, if these are the replies to the life's steps
 abbrev pub report_of : LifeReport → List Reply → Report
 report_of report replies = record { opening = opening_of report.opening; replies = replies; closed = closed_of report.closed }
 

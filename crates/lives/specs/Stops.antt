@@ -86,7 +86,7 @@ abbrev pub ReportsDevice : LifeReport → Type 0
 ReportsDevice report = (report.opening ≡ Err DeviceFault) ⊎ Contains report.replies.items (Some (Refused DeviceFault)) ⊎ ClosesWithDevice report.closed
 
 -- The life led from the device that was made of the image, with the life's fuse, to the one that was stopped: it made no more
--- operations than the fuse allows, and exactly as many where the report says that the device failed, as it does where an
+-- operations than the fuse allows, and exactly as many if the report says that the device failed, as it does if an
 -- operation failed. The stop left of each word the survivor that the life's choice names
 pub record IsStopped (life : Life) (report : LifeReport) (replies : List Reply) (before : World) (left : Image) : Type 0 where
   pub last : Device
@@ -113,7 +113,7 @@ AreStopped before _ _ _ after = ⊥
 abbrev pub IsRestarted : Device → Type 0
 IsRestarted device = device ≡ restarted (image_of device)
 
--- the device goes on, and this is reported exactly where an operation fails
+-- the device goes on, and this is reported exactly if an operation fails
 pub record GoesOn (old new : Device) (Reported : Type 0) : Type 0 where
   pub continues : Continues old new
   pub cause : Reported → old.failures < new.failures

@@ -19,7 +19,7 @@ use log_area::latest;
 use pmem_model::{Choice, SimPmem};
 use room::Room;
 
-/// Closes the room where that is asked, and stops the device by a crash with this choice. The numbers after the close, or
+/// Closes the room if that is asked for, and stops the device by a crash with this choice. Returns the numbers after closing, or
 /// why it failed, and the device as the crash left it.
 pub fn end(
     room: Room<SimPmem>,

@@ -62,11 +62,11 @@ is_swept device word = needs_sweep (image_of device) && is_hit (layout_of (image
 abbrev pub is_updated : Device → ℕ → Bool
 is_updated device word = updates (image_of device) && nat_eq word 1
 
--- the version becomes that of today, where it is another
+-- the version becomes today's, if the image has another one
 abbrev pub update_operations : Image → List Operation
 update_operations image = if updates image then set_operations committer 1 (opened_version (layout_of image).version) else []
 
--- gaps are swept where a record can't hold them
+-- gaps are swept if a record can't hold them
 abbrev pub gap_operations : Layout → Record → Device → List Operation
 gap_operations layout r device = if needs_sweep (image_of device) then whole_sweep layout r (value_of device) else []
 

@@ -10,7 +10,7 @@ use Rattle.base.specs.Images.{Image, IsRuledBy, IsSound, damage, layout_of, ruli
 use Rattle.recovery.specs.declared.examining.Readings.{Readings}
 use Rattle.recovery.specs.Slots.{readings_below}
 
--- a slot's key and row, where it is live
+-- a slot's key and row, if it is live
 abbrev pub row_at : Image → ℕ → List (Key × List ℕ)
 row_at image slot = if is_shown (ruling image) image slot then (key_of image slot, row_of image slot) ∷ [] else []
 

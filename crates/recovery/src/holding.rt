@@ -1,5 +1,5 @@
 //! Two live slots with one key are damage, which is found by counting the keys: one look at each slot is enough for an image
-//! that is sound. Only where one isn't are the slots gone through in order, for the lowest that is bad.
+//! that is sound. Only if the image isn't sound, the slots are gone through in order, to find the lowest bad one.
 
 ghost use Rattle.std.specs.Prelude.{◌≡◌, ◌<◌, ◌+◌, ℕ, None, false, length, All, IfOk, IfErr, OnOk, IsTrue, ◌↔◌};
 ghost use Rattle.std.specs.BTreeMap.{IsFromIterResult};
@@ -29,7 +29,7 @@ pub struct Held {
     pub places: BTreeMap<Key, usize, Global>,
 }
 
-// It is decided by what was read of the slots. The lowest bad slot is reported. A slot is bad by itself, or where a lower one has its key:
+// This is decided by what was read of the slots. The lowest bad slot is reported. A slot is bad by itself, or if a lower one has its key:
 // then there are fewer keys than live slots.
 pub fn held_slots<R: Threads + Sync>(
     rt: &R,
@@ -169,7 +169,7 @@ fn find_bad(alloc: Global, geometry: Geometry, readings: &[SlotReading]) -> Resu
     Ok(())
 }
 
-// Fails where the slot is bad that holds this. Its key joins those of the slots before.
+// Fails if the slot that holds this is bad. Its key joins those of the slots before.
 fn visit(
     geometry: Geometry,
     slot: u64,

@@ -46,7 +46,7 @@ pub struct Opened<D: Pmem> {
     pub live: Vec<LiveSlot>,
 }
 
-/// Opens a device at rest, and returns it where that is refused. More than eight gaps are swept before the record is
+/// Opens a device at rest, and returns it if opening is refused. More than eight gaps are swept before the record is
 /// written.
 pub fn open<R: Threads + Sync, D: Pmem + Drop + Send + Sync>(
     rt: &R,
@@ -130,7 +130,7 @@ pub fn open_device<R: Threads + Sync, D: Pmem + Sync>(
 }
 
 impl Examined {
-    /// Opens the device that was examined. It takes no memory: it fails where an operation fails, and then alone.
+    /// Opens the device that was examined. It takes no memory: it fails if an operation fails, and only then.
     pub fn open<D: Pmem>(self, device: &mut D) -> Result<OpenedImage, Fault>
         requires at_rest { IsAtRest (D.state device.old) }
         requires examined { IsExaminedAs (image_of (D.state device.old)) self.geometry self.ruling self.gaps self.free.items self.live.items }

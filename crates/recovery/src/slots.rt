@@ -109,7 +109,7 @@ fn look<D: Pmem>(device: &D, geometry: Geometry, ruling: Record, slot: u64) -> S
 // How many slots a thread reads before it looks for more, and fewer are not worth a second thread.
 const CHUNK: usize = 2048;
 
-// What one reading of each slot gives, in their order, by several threads. Each writes what it reads where that stays.
+// What one reading of each slot gives, in their order, by several threads. Each writes what it reads to its final place.
 pub fn read_slots<R: Threads + Sync, D: Pmem + Sync>(
     rt: &R,
     alloc: Global,

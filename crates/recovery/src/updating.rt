@@ -13,7 +13,7 @@ use base::geometry::Geometry;
 use log_area::update_version;
 use pmem::Pmem;
 
-/// Gives an image that opens the version that it has once it is open, where it has another, and waits until that
+/// Gives an image that opens the version that it has once it is open, if it has another, and waits until that
 /// persists. Returns the layout that it has then.
 pub(crate) fn update<D: Pmem>(device: &mut D, geometry: Geometry) -> Result<Geometry, Fault>
     requires opens { opening_fault (image_of (D.state device.old)) ≡ None }

@@ -75,11 +75,11 @@ module _ {D : Type 0} {G : Ghosts D} (state : D → Device) where
 
 -- ---- that some state is shown
 
--- one that hasn't failed, where the room says so
+-- a state that hasn't failed is shown, if the room says so
 pub shows-some : (c : VolatileState) (device : Device) (failed : Bool) → failed ≡ false → ∥ ShowsAs c device failed ∥₁ → ∥ ShowsSome c device ∥₁
 shows-some c device failed works some = subst (λ (b : Bool). ∥ ShowsAs c device b ∥₁) works some
 
--- and after a step, failed where the step reports it
+-- and after a step, one that has failed if the step reports it
 pub shows-then : (old new : VolatileState) (before now : Device) (step : Step) (reply : Reply) (failed : Bool) → failed ≡ is_failure reply → Steps old new before now step reply → ∥ ShowsSome old before ∥₁ → ∥ ShowsAs new now failed ∥₁
 shows-then old new before now step reply failed tells steps some =
     ∥∥₁_map some (λ shown. let one = steps shown.0 shown.1 shown.2 in (one.0, one.1.shows, failed-after shown.0 step reply one.0 one.1.stepped shown.2 ∙ sym tells))

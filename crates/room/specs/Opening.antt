@@ -20,7 +20,7 @@ use Rattle.room.specs.declared.volatile.VolatileState.{VolatileState}
 abbrev pub entry_of : LiveSlot → Key × Entry
 entry_of s = (s.key, record blank { newest = Some s.slot })
 
--- these are the entries of the live versions that were read, where no slot is bad
+-- these are the entries of the live versions that were read, if no slot is bad
 abbrev pub HasEntries : List SlotReading → List (Key × Entry) → Type 0
 HasEntries readings entries = (image : Image) → AreReadings image readings → entries ≡ map entry_of (live_below image (length readings))
 

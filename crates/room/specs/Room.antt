@@ -26,7 +26,7 @@ device_of state room = state room.device
 abbrev pub covered_by : {D : Type 0} → {G : Ghosts D} → Room D G → Option Batch
 covered_by room = room.volatile.covered
 
--- what waits to be handed out after a reply, where this waited before: nothing once a batch is handed out
+-- what waits to be handed out after a reply, if this waited before: nothing once a batch is handed out
 abbrev pub left_after : Option Batch → Reply → Option Batch
 left_after waiting (Covered batch) = None
 left_after waiting _ = waiting

@@ -20,7 +20,7 @@ impl<D: Pmem + Drop> Room<D> {
     ghost use Rattle.room.specs.Room.{Shows, device_of};
 
     /// Covers all that is drawn, and returns the device. Fails with `Failed` after a failing device and with `TimestampsOut`
-    /// where no record number is left, both before any operation, and with `Device` where one fails meanwhile.
+    /// if no record number is left, both before any operation, and with `Device` if one fails meanwhile.
     pub fn close(self) -> Result<D, (Fault, D)>
         // A crash meanwhile leaves what was covered, alone or with the pending batch or with all that was drawn; afterwards, the last.
         ensures images { (q : State) → Shows D.state self q → MatchResult result
@@ -62,7 +62,7 @@ impl VolatileState {
     ghost use Rattle.room.specs.Closing.{IsClosingRefusal, ClosePhaseDone, ClosePhaseFailed, CloseCovered, unstamped_session};
 
     // Covers all that is drawn, under a record that reserves no timestamp. Fails with `TimestampsOut` before any operation
-    // where no record number is left, and with `Device` where an operation fails. It takes no memory.
+    // if no record number is left, and with `Device` if an operation fails. It takes no memory.
     pub(crate) fn close<D: Pmem>(&mut self, alloc: Global, device: &mut D) -> Result<(), Fault>
         requires shown { ∥ ShowsSome self.old (D.state device.old) ∥₁ }
 

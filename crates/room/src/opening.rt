@@ -31,7 +31,7 @@ impl<D: Pmem + Drop + Send + Sync> Room<D> {
     ghost use Rattle.pmem.specs.Words.{IsSettledAt, HasNoFailure};
     ghost use Rattle.room.specs.Room.{Shows, covered_by, device_of};
 
-    /// Opens a device at rest, and returns it where that is refused. More than eight gaps are swept first.
+    /// Opens a device at rest, and returns it if opening is refused. More than eight gaps are swept first.
     pub fn open<R: Threads + Sync>(rt: &R, alloc: Global, device: D) -> Result<Room<D>, (Fault, D)>
         requires at_rest { IsAtRest (D.state device) }
 

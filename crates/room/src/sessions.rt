@@ -87,7 +87,7 @@ impl<D: Pmem + Drop> Room<D> {
         self.volatile.sessions.delete(session, key)
     }
 
-    /// Draws a timestamp for what a session has written. `None` where it wrote nothing.
+    /// Draws a timestamp for what a session has written. `None` if it wrote nothing.
     #[inline(always)]
     pub fn draw(&mut self, session: u8) -> Result<Option<Ts>, Fault>
         ensures step { Leads D.state self.old self.new (Draw session) (as_reply (drawn result)) }

@@ -58,7 +58,7 @@ member-looked : (rows : List Row) (key : Key) → list_any (key_eq key) (map (λ
 member-looked [] key = refl
 member-looked (row ∷ rows) key = grind (arith, key_eq-swap, member-looked rows key) steps 800000
 
--- the slot of a key's newest covered version is there exactly where the key has a covered row
+-- the slot of a key's newest covered version is there exactly if the key has a covered row
 live-row : (o : Origin) (q : State) → Keeps o q → (key : Key) (slot : Option ℕ) → IsSlotOf q (newest_of q key) slot → is_some slot ≡ is_some (after q.history key)
 live-row o q kept key (Some slot) is =
     let has = kept.owns.has slot (newest_of q key) is.0 is.1 in

@@ -15,6 +15,6 @@ use Rattle.session_steps.proofs.Stepping.{on-device, quietly, goes-quietly}
 pub steps-quietly : (old new : Sessions) (device : Device) (s : SessionStep) (r : SessionReply) → IsOrderly device → is_quiet (as_step s) ≡ true → Takes old new s r → Steps old new device device s r
 steps-quietly old new device s r orderly quiet takes = on-device old new device device s r (quietly quiet-steps-lead old new device s r orderly quiet takes)
 
--- or where the device is read
+-- or if the device is read
 pub reads-quietly : (old new : Sessions) (device : Device) (s : SessionStep) (r : SessionReply) → IsOrderly device → is_quiet (as_step s) ≡ true → ((h : Hidden) → HoldsOn old h device → Goes old new s r h) → Steps old new device device s r
 reads-quietly old new device s r orderly quiet goes = on-device old new device device s r (λ h holds. goes-quietly quiet-steps-lead old new device s r orderly quiet h holds (goes h holds))

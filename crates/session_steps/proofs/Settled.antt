@@ -198,7 +198,7 @@ tidies-not s place = record {
   agrees = λ o h keeps agrees. record { sessions = agrees.sessions; drawn = λ k d lt. record { session = (agrees.drawn k d lt).session; writes = (agrees.drawn k d lt).writes; room = (agrees.drawn k d lt).room }; free = agrees.free; counted = agrees.counted; index = agrees.index; lines = agrees.lines; sized = agrees.sized };
 }
 
--- what is done at a place, where another is looked at next
+-- what is done at a place, if another one is looked at next
 pub settles-tidies : (s : Sessions) (place next : ℕ) (index : List (Key × Entry)) (is_out : Bool) → Settles (all_cover (seen_by s.numbers.record) s.transactions) place s.index index is_out → Tidies s (record s { index = index; next_entry = next })
 settles-tidies s place next index is_out (taken_out key at settled is sets loses) = record { same = refl; agrees = λ o h keeps agrees. agrees-tidied s o h keeps agrees key settled index next sets loses }
 settles-tidies s place next index is_out (stays not_settled is same) = subst (λ (es : List (Key × Entry)). Tidies s (record s { index = es; next_entry = next })) (sym same) (tidies-not s next)

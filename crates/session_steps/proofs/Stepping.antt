@@ -75,7 +75,7 @@ goes-quietly law old new device s r orderly quiet h holds goes =
     let leads = law h.origin (plain_of old h) (as_step s) (as_reply r) (plain_of new goes.next) device orderly quiet goes.stepped holds.upholds in
     record { goes = goes; upholds = leads.upholds; effect = nothing-done leads.images (never-told (plain_of old h) (plain_of new goes.next) s r quiet goes.stepped) }
 
--- nothing changes where a step is refused, for another reason than a failing device
+-- nothing changes if a step is refused, for another reason than a failing device
 pub unmoved-on : (s : Sessions) (device : Device) (step : SessionStep) (fault : Fault) (h : Hidden) → IsOrderly device → HoldsOn s h device → SessionStepped (plain_of s h) step (Refused fault) (plain_of s h) → (fault ≡ DeviceFault → ⊥)
     → GoesOn s s device device step (Refused fault) h
 unmoved-on s device step fault h orderly holds stepped other =
@@ -100,7 +100,7 @@ quietly law old new device s r orderly quiet takes = λ h holds. goes-quietly la
     s' : Sessions
     s' = old
 
--- what holds where a state is shown
+-- what holds if a state is shown
 holds-of : (s : Sessions) (device : Device) (q : State) (shown : Shows s device q) → q.failed ≡ false → HoldsOn s shown.hidden device
 holds-of s device q shown works = grind (arith) steps 800000
 

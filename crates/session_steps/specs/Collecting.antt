@@ -62,7 +62,7 @@ Collects old new before now result = (q : State) → Shows old before q → q.fa
 
 -- ---- the index
 
--- What is done once a slot was visited: nothing where it is taken, or was free before; else the version in it is forgotten
+-- What is done once a slot was visited: nothing if it is taken, or was free before; else the version in it is forgotten
 pub data ForgetsFreed (a : Layout) (value : ℕ → ℕ) (slot : ℕ) (was_free : Bool) (free : List Bool) (old new : List (Key × Entry)) : Type 0 where
   taken : is_free free slot ≡ false → new ≡ old → ForgetsFreed a value slot was_free free old new
   known : was_free ≡ true → new ≡ old → ForgetsFreed a value slot was_free free old new

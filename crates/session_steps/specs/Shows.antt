@@ -45,7 +45,7 @@ plain_session seen (Active snapshot writes) = Reads seen (plain_writes writes)
 plain_session seen (Drawn t) = Drew t
 plain_session seen ReadOnly = WroteNothing
 
--- the plain state that the sessions show, where this is hidden
+-- the plain state that the sessions show, if this is hidden
 abbrev pub plain_of : Sessions → Hidden → State
 plain_of s h = record {
   layout = s.numbers.geometry;

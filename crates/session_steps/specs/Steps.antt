@@ -24,13 +24,13 @@ use Rattle.session_steps.specs.Shows.{Hidden, plain_of, Agrees, Shows}
 
 -- ---- what a step did to its device
 
--- a failing device is reported exactly where an operation failed
+-- a failing device is reported exactly if an operation failed
 pub record ReportsFailure (old new : Device) (Reported : Type 0) : Type 0 where
   pub no_fewer : old.failures ≤ new.failures
   pub cause : Reported → old.failures < new.failures
   pub shown : old.failures < new.failures → Reported
 
--- where it is refused for another reason than a failing device, the device is as it was
+-- if it is refused for another reason than a failing device, the device is as it was
 abbrev pub Declines : Device → Device → (Fault → Type 0) → Type 0
 Declines old new Refuses = (fault : Fault) → fault ≢ DeviceFault → Refuses fault → new ≡ old
 

@@ -48,7 +48,7 @@ pub fn find_active(transactions: &Transactions, session: u8) -> Result<Active<'_
     }
 }
 
-/// The session of this number, where it is Active.
+/// The session of this number, if it is Active.
 #[inline(always)]
 pub fn active_in(transactions: &Transactions, session: u8) -> Result<Active<'_>, Fault>
     ensures ok { IfOk result (λ found. transaction_at transactions.now session ≡ Some (IsActiveWith found.snapshot.now found.writes.now)) }

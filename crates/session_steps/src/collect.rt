@@ -108,8 +108,8 @@ impl Sessions {
     }
 
     /// One visit of the collector, on the device on which the sessions show a plain state. It frees the slot of its place
-    /// where nobody reads the version any more, and sweeps it where that is due. It takes no memory, and looks at the
-    /// snapshots of the open sessions alone. A crash within it leaves the history that was.
+    /// if nobody reads the version any more, and sweeps it if that is due. It takes no memory, and looks only at the
+    /// snapshots of the open sessions. A crash within it leaves the history that was.
     #[inline(always)]
     pub fn collect<D: Pmem>(&mut self, device: &mut D) -> Result<Visit, Fault>
         requires shown { ∥ ShowsSome self.old (D.state device.old) ∥₁ }

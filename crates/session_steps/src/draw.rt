@@ -42,7 +42,7 @@ impl Sessions {
     ghost use Rattle.session_steps.specs.Replies.{drawn};
     ghost use Rattle.session_steps.specs.Steps.{HoldsSome, Takes};
 
-    /// Draws a timestamp for what a session has written, and none where it has written nothing.
+    /// Draws a timestamp for what a session has written, or none if it has written nothing.
     #[inline(never)]
     pub fn draw(&mut self, session: u8) -> Result<Option<Ts>, Fault>
         requires shown { ∥ HoldsSome self.old ∥₁ }
@@ -120,7 +120,7 @@ impl Sessions {
     }
 }
 
-// Asks the index of each key, once where each has an entry.
+// Looks up each key in the index, once if each has an entry.
 #[inline(always)]
 fn ask(index: &Index, snapshot: &Snapshot, writes: &WriteSet) -> Asked
     ensures conflict { result.conflict ≡ conflict_in index.now snapshot.now writes.now }
@@ -170,7 +170,7 @@ fn is_last_unseen(snapshot: &Snapshot, entry: Entry) -> bool
     }
 }
 
-// Makes room in the index for each key that is written, where not all have an entry, and for the hints. All entries stay.
+// Makes room in the index for each key that is written, if not all have an entry, and for the hints. All entries stay.
 #[inline(always)]
 fn reserve_keys(index: &mut Index, writes: &WriteSet, all_there: bool) -> Result<(), Fault>
     requires there { all_there ≡ true → All (λ write. has_room index.old write.key ≡ true) writes.now }

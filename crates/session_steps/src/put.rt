@@ -95,7 +95,7 @@ impl Sessions {
         }
     }
 
-    // Writes a row in the lowest free slot, which stays free where the device fails.
+    // Writes a row in the lowest free slot, which stays free if the device fails.
     #[inline(always)]
     fn fill_taken<D: Pmem>(
         &mut self,

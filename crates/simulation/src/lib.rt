@@ -1,4 +1,4 @@
-//! Laws of whole steps: what a session's snapshot sees, and where the steps of sessions, the committer's ticks and the collector's
+//! Laws of whole steps: what a session's snapshot sees, and how the steps of sessions, the committer's ticks and the collector's
 //! visits lead from one plain state to the next on a device, whole or up to an operation that fails.
 #![tactic(auto)]
 

@@ -20,7 +20,7 @@ pub fn links_lead_to_what_is_seen()
     ensures device { LinksLead }
 {}
 
-/// A session's key conflicts exactly where its snapshot doesn't cover the last timestamp that was drawn for the key.
+/// A session's key conflicts exactly if its snapshot doesn't cover the last timestamp that was drawn for the key.
 pub fn conflicts_are_of_last_draws()
     ensures { Conflicts }
 {}

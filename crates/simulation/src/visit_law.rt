@@ -14,7 +14,7 @@ pub fn visits_lead()
     ensures { VisitsLead }
 {}
 
-/// A visit makes at most three operations at a slot, one at the closing place, and none where no sweep is due.
+/// A visit makes at most three operations at a slot, one at the closing place, and none if no sweep is due.
 pub fn visits_count()
     ensures { VisitsCount }
 {}
@@ -24,7 +24,7 @@ pub fn sweeps_end()
     ensures { SweepsEnd }
 {}
 
-/// The slot of a version is freed exactly where its end is covered, by the ruling record and by the snapshot of each active
+/// The slot of a version is freed exactly if its end is covered, by the ruling record and by the snapshot of each active
 /// session.
 pub fn ends_show_garbage()
     ensures { EndsShowGarbage }

@@ -106,7 +106,7 @@ sweeping-covered q hand device k s = record {
     stands unswept (inl same) e = each-weaken (λ x out. ap (λ (gaps : List Gap). is_in gaps x) same ∙ out) e
     stands unswept (inr dropped) e = absurd (true≢false (sym dropped.0 ∙ unswept))
 
--- the device holds the state in which a batch is covered, where its lines persist and its record rules
+-- the device holds the state in which a batch is covered, if its lines persist and its record rules
 pub holds-cover : (o : Origin) (q : State) (hand : Hand) (device : Device) → Keeps o q → KeepsHand q hand → SlotsShow o q (value_of device) → SlotsHold q device → IsSweeping q device → IsBatchSettled q hand.commits device → HoldsRecord q.layout hand.target device
     → HoldsState (state_covered q hand) device
 holds-cover o q hand device kept k shows slots sweeping settled holds = grind (arith, slots-covered, sweeping-covered)

@@ -31,7 +31,7 @@ not-by_commit q slot t key a held = grind (arith)
 
 -- ---- the stores
 
--- where no drawn or covered commit holds the slot, this is what it has to hold
+-- if no drawn or covered commit holds the slot, this is what it has to hold
 pub undrawn-holds : (q : State) (new : Device) (slot : ℕ) → IsUndrawn q slot → EachSurvivor new (word_of q.layout slot 0) (λ x. x < q.next) → EachSurvivor new (word_of q.layout slot 1) (λ x. x < q.next)
     → (q.held slot ≡ None → IsDead q new slot) → ((n : ℕ) (key : Key) → q.held slot ≡ Some (version_by key (BySession n)) → IsSettledAt new (word_of q.layout slot 0) 0) → SlotHolds q new slot
 undrawn-holds q new slot undrawn begin end free own = grind (arith, not-by_commit)

@@ -24,7 +24,7 @@ stamped-writes d key is = stamped-among key d.stamped d.commit.writes is
 
 -- ---- drawn commits
 
--- where all are above a number, so is one that is found
+-- if all are above a number, so is one that is found
 above-on : (low t : ℕ) (key : Key) (drawn : List Drawn) → list_all (nat_lt low) (map (λ (d : Drawn). d.commit.timestamp) drawn) ≡ true
     → list_any (λ d. nat_eq d.commit.timestamp t && writes_key key d.commit) drawn ≡ true → low < t
 above-on low t key [] all any = absurd (cc any)

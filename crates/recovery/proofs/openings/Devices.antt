@@ -279,7 +279,7 @@ module _ (old : Device) (rest : IsAtRest old) (layout : Layout) (r : Record) (ga
           failures_made = made.failures_made;
         })
 
-  -- where it stops
+  -- if it stops
   module _ {new : Device} (stop : StopsWithin (today_operations layout r old) old new) where
     pub today-images_stopped : (history drawn : List Commit) (next : ℕ) → Stands (image_of old) history drawn next → LeavesOnly old new (StandsOpening (image_of old) history next)
     today-images_stopped = by (stops-in_two (gap_operations layout r old) (record_operations layout after) stop)

@@ -166,7 +166,7 @@ module _ (old : Device) where
   abbrev version : ℕ
   version = opened_version (layout_of (image_of old)).version
 
-  -- the word of the version, where an update changes that
+  -- the word of the version, if an update changes it
   abbrev IsNewVersion : ℕ → ℕ → Type 0
   IsNewVersion word x = IsStore 1 version word x × (is_updated old word ≡ true)
 
@@ -218,7 +218,7 @@ module _ {old new : Device} (rest : IsAtRest old) (opens : opening_fault (image_
         first = version-updating old rest opens new keeps;
       }
 
-  -- where it stops
+  -- if it stops
   module _ (stop : StopsWithin (update_operations (image_of old)) old new) where
     stopped : Keeps old new (OldOr old (IsStore 1 (version old)))
     stopped = keeps-stopped (OldOr old (IsStore 1 (version old))) (λ word x there. inl there) (update-keeps old) stop

@@ -364,7 +364,7 @@ module _ (layout : Layout) (r : Record) {old new : Device} (rules : IsRuledBy la
           }
       by false few run = grind (arith)
 
-  -- also where the sweep stops
+  -- also if the sweep stops
   pub kept_stopped : StopsWithin (gap_operations layout r old) old new → Keeps old new (OldOr old (IsSwept layout r old))
   kept_stopped stop = by (needs_sweep (image_of old)) stop
     where

@@ -73,7 +73,7 @@ module _ (old mid new : VolatileState) (before between now : Device) (a : CloseP
   pub shown_after : ∥ ShowsSome old before ∥₁ → ∥ ShowsSome mid between ∥₁
   shown_after some = ∥∥₁_map some (λ shown. let first = a.goes_on shown.0 shown.1 shown.2 in (first.0, first.1.shows, first.1.works))
 
--- the fault is Device where that follows from some state, which need not be known
+-- the fault is Device if that follows from some state, which need not be known
 pub device-fault : {A : Type 0} (fault : Fault) → ∥ A ∥₁ → (A → fault ≡ DeviceFault) → fault ≡ DeviceFault
 device-fault DeviceFault some tells = refl
 device-fault _ some tells = absurd (∥∥₁_elim some ⊥_prop (λ a. cc (tells a)))

@@ -150,7 +150,7 @@ module _ (q q' : State) (n : ℕ) (r : SessionReply) (un : refusal q (step.Stamp
   stamps : ((fault : Fault) → r ≢ Refused fault) → q' ≡ next_state q (step.Stamp n)
   stamps unrefused_so = grind (arith, as-refused) steps 800000
 
--- it is refused where the call returns a fault
+-- the stamp is refused only if the call returns a fault
 pub stamped-told : (r : Result Bool Fault) (fault : Fault) → stamped r ≡ Refused fault → r ≡ Err fault
 stamped-told a fault told = grind (arith)
 

@@ -36,7 +36,7 @@ one-in x s a = grind (arith, is)
 in-one : (x : LiveSlot) → Contains (x ∷ []) x
 in-one x = (0, omega arith, refl)
 
--- one more slot is in the list where it is live
+-- one more slot is in the list if it is live
 live-step : (image : Image) (n : ℕ) (s : LiveSlot) → (Contains (live_below image n) s → (s.slot < n) × (is_free image s.slot ≡ false) × (key_of image s.slot ≡ s.key)) → Contains (live_below image (n + 1)) s
     → (s.slot < suc n) × (is_free image s.slot ≡ false) × (key_of image s.slot ≡ s.key)
 live-step image n s before here = by (is_free image n) refl

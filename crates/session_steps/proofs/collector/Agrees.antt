@@ -1,4 +1,4 @@
--- What agrees where slots of versions that nobody reads are freed, the collector moves on, and a sweep ends.
+-- What agrees when slots of versions that nobody reads are freed, the collector moves on, and a sweep ends.
 use Rattle.std.proofs.Common.{◌≡◌, ℕ, ◌<◌, Bool, true, false, ◌&&◌, ◌||◌, cond, List, [], ◌∷◌, length, refl, sym, ◌∙◌, ap, subst, nat_eq, get_or, Option, Some, None, arith}
 use Rattle.std.specs.Prelude.{is_none, slice_get}
 use Rattle.std.specs.List.{list_any}

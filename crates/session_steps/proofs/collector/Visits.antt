@@ -194,7 +194,7 @@ module _ (s : Sessions) (h : Hidden) (before now : Device) (holds : HoldsOn s h 
     abbrev snapshots : ℕ → Seen
     snapshots n = snapshot_in (transaction_at s.transactions n)
 
-    -- a version is garbage where all cover its end
+    -- a version is garbage exactly if all cover its end
     covered-garbage : (v : Version) → h.held place ≡ Some v → covered ≡ is_garbage q place
     covered-garbage v there =
         (λ i. covers (ruled i) end && list_all (λ n. covered-same end (h.seen n) (transaction_at s.transactions n) i) session_numbers)

@@ -82,7 +82,7 @@ abbrev stamp-of : Writer → ℕ
 stamp-of (BySession n) = n
 stamp-of (ByCommit t) = t
 
--- a slot stays its version's where all slots stay
+-- a slot stays its version's if all slots stay
 slot-same : (q q' : State) (v : Version) (o : Option ℕ) → q'.layout ≡ q.layout → q'.held ≡ q.held → IsSlotOf q v o → IsSlotOf q' v o
 slot-same q q' v a layout held is = grind (arith)
 

@@ -114,7 +114,7 @@ none-commits key [] e (inl none) = none
 none-commits key [] e (inr written) = absurd (cc written)
 none-commits key (d ∷ ds) e either = none-commits key ds (covered_by_all key e d.writes) (none-writes key d.writes e (list_any (λ (d : DrawnCommit). has_key key d.writes) ds) either)
 
--- where none of them is under the key, the entry stays
+-- if no write is under the key, the entry stays
 stays-all : (key : Key) (writes : List Write) (e : Entry) → has_key key writes ≡ false → covered_by_all key e writes ≡ e
 stays-all key [] e none = refl
 stays-all key (w ∷ writes) e none = grind (arith, stays-all key writes e) steps 800000
@@ -135,7 +135,7 @@ module _ (o : Origin) (q : State) (kept : Keeps o q) (key : Key) where
   abbrev row_after : Option ℕ → DrawnCommit → Option ℕ
   row_after last d = cond (is_some (row_in (plain_writes d.writes) key)) (Some d.timestamp) last
 
-  -- the entry has the slot of the version with this timestamp, where that holds one
+  -- the entry has the slot of the version with this timestamp, if a slot holds that version
   abbrev IsNewestAt : Option ℕ → Entry → Type 0
   IsNewestAt last e = (t slot : ℕ) → last ≡ Some t → slot < q.layout.slots → q.held slot ≡ Some (version_by key (ByCommit t)) → e.newest ≡ Some slot
 
@@ -150,7 +150,7 @@ module _ (o : Origin) (q : State) (kept : Keeps o q) (key : Key) where
       by true is either = inl (ap (λ (x : Option ℕ). (covered x e).newest) (slot-of o q v w.slot slot kept lt held (All-head (IsOwn q v key) w writes own is)))
       by false is either = either
 
-  -- where the version has no slot, the newest stays
+  -- if the version has no slot, the newest one stays
   same-writes : (v : Version) (writes : List Write) (e : Entry) → IsSlotOf q v None → All (IsOwn q v key) writes → (covered_by_all key e writes).newest ≡ e.newest
   same-writes v [] e none own = refl
   same-writes v (w ∷ writes) e none own = same-writes v writes (covered_by key e w) none (All-tail (IsOwn q v key) w writes own) ∙ by (key_eq w.key key) refl

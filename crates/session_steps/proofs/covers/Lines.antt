@@ -54,7 +54,7 @@ module _ (q : State) (drawn : List DrawnCommit) (dirty : List SessionSet) (sessi
   mine : All (λ (d : DrawnCommit). has sessions d.session ≡ true) passing
   mine = λ k d lt. own (get_or passing k d).session ∙ list_any_at (λ (e : DrawnCommit). nat_eq e.session (get_or passing k d).session) passing k d lt (eq-eqb (get_or passing k d).session (get_or passing k d).session refl)
 
-  -- one of the sessions touches the line where one of the commits that pass does
+  -- one of the sessions touches the line exactly if one of the commits that pass does
   of-passing : (l : ℕ) → meets sessions (sessions_at dirty l) ≡ list_any (λ (d : DrawnCommit). is_touched dirty d.session l) passing
   of-passing l = by (list_any (λ (d : DrawnCommit). is_touched dirty d.session l) passing) refl
     where

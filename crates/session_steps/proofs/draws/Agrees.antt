@@ -228,7 +228,7 @@ module _ (s : Sessions) (h : Hidden) (n : ℕ) (snapshot : Seen) (writes : List 
       wrote,
     )
 
-    -- where the session doesn't write the key, and no other snapshot is in use
+    -- if the session doesn't write the key, and no other snapshot is in use
     module _ (in-use : (m : ℕ) → IsInUse then m → IsInUse old m) where
       unseen-stays : (key : Key) → write_of key writes ≡ None → IsSeenByAll old key → IsSeenByAll then key
       unseen-stays key none seen m used =

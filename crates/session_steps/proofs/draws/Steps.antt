@@ -110,7 +110,7 @@ draws-plain s h n snapshot (write ∷ writes) holds at ts spare index dirty some
 lines-same : (s : Sessions) (index : List (Key × Entry)) (writes : List Write) → ((key : Key) → entry_at index key ≡ entry_at s.index key) → flat_map (touched_lines s.numbers.geometry index) writes ≡ flat_map (touched_lines s.numbers.geometry s.index) writes
 lines-same s index writes same = λ i. flat_map (λ write. option_map_or (own_lines s.numbers.geometry) write.slot [] ++ option_map_or (ended_lines s.numbers.geometry) (live_of (same write.key i)) []) writes
 
--- so it is where the index has got room first
+-- the same if the index gets room first
 pub draws : (s : Sessions) (h : Hidden) (n u : ℕ) (snapshot : Seen) (writes : List Write) (numbers : Numbers) (ts : List (Option Transaction)) (commits : InFlight) (grown index : List (Key × Entry)) (dirty : List SessionSet) → Holds s h
     → transaction_at s.transactions n ≡ Some (Active snapshot writes) → writes ≢ [] → conflict_in s.index snapshot writes ≡ None → nat_eq s.numbers.next s.numbers.record.dirty ≡ false → nat_le (2 ^ 62) (s.numbers.next + 2 * s.numbers.geometry.window) ≡ false
     → u ≡ s.numbers.next → numbers ≡ record s.numbers { next = s.numbers.next + 1 } → Sets s.transactions ts n (Some (Drawn u))

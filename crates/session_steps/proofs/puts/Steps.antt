@@ -103,7 +103,7 @@ link-fits s h key holds = by (entry_at s.index key).drawn refl (entry_at s.index
     by None is (Some slot) newest = let lt = (e.only slot newest).within in omega (arith, lt)
     by None is None newest = omega arith
 
--- where no commit bars the session from drawing, it is the newest that is held
+-- if no commit bars the session from drawing, the version links to the newest one that is held
 pub link-newest : (s : Sessions) (h : Hidden) (n : ℕ) (v : Content) → Holds s h → v.previous ≡ head_of (entry_at s.index v.key) → LinksNewest (plain_of s h) n v
 link-newest s h n v holds is free t slot last lt held = is ∙ by (entry_at s.index v.key).drawn refl
   where
@@ -328,7 +328,7 @@ own-within s h n snapshot writes key slot holds at own =
 pub free-within : (s : Sessions) (h : Hidden) (slot : ℕ) → Holds s h → lowest_free s.slots ≡ Some slot → slot < s.numbers.geometry.slots
 free-within s h slot holds lowest = (free_slot-some (plain_of s h) slot (sym (free-is s h holds) ∙ lowest)).0
 
--- ---- where no slot is taken
+-- ---- if no slot is taken
 
 -- a slot that was taken is one of the slots
 pub taken-within : (free slots : List Bool) (slot : ℕ) → lowest_free free ≡ Some slot → slots ≡ slice_set free slot false → slot < length slots

@@ -1,4 +1,4 @@
--- What the holders of slots say stays, where one session takes slots and releases them.
+-- What the holders of slots say stays when one session takes slots and releases them.
 use Rattle.std.proofs.Common.{◌≡◌, ◌⊎◌, ℕ, Bool, true, false, cond, List, [], ◌∷◌, map, sym, ◌∙◌, ap, arith}
 use Rattle.std.specs.Prelude.{Option, Some, None, All}
 use Rattle.std.specs.List.{range_with_len, flat_map}
@@ -19,7 +19,7 @@ abbrev pub is_nobodys_or : ℕ → Option Version → Bool
 is_nobodys_or n None = true
 is_nobodys_or n (Some v) = is_by n v.writer
 
--- the holder of each slot stays, but where it is and was this session, or nobody
+-- the holder of each slot stays, unless it was and is this session, or nobody
 abbrev pub Moves : ℕ → (ℕ → Option Version) → (ℕ → Option Version) → Type 0
 Moves n held new = (slot : ℕ) → (new slot ≡ held slot) ⊎ ((is_nobodys_or n (held slot) ≡ true) × (is_nobodys_or n (new slot) ≡ true))
 
@@ -58,7 +58,7 @@ own-no-batch n commits a own = grind (arith)
 own-not-ended : (n : ℕ) (q : State) (commits : List Commit) (o : Option Version) → is_nobodys_or n o ≡ true → is_ended q commits o ≡ false
 own-not-ended n q commits a own = grind (arith)
 
--- where the tests of each slot are the same, so are the lines
+-- if the tests of each slot are the same, so are the lines
 pub lines-by-tests : (q q' : State) (commits : List Commit) → q'.layout ≡ q.layout → ((slot : ℕ) → is_own commits (q'.held slot) ≡ is_own commits (q.held slot))
     → ((slot : ℕ) → is_ended q' commits (q'.held slot) ≡ is_ended q commits (q.held slot)) → lines_in q' commits ≡ lines_in q commits
 lines-by-tests q q' commits layout own ended = λ i. flat_map (λ slot. cond (own slot i) (flat_map (λ part. line_at slot part ∷ []) (range_with_len 0 (version_lines (layout i)))) (cond (ended slot i) (line_at slot 0 ∷ []) [])) (range_with_len 0 (layout i).slots)

@@ -1,4 +1,4 @@
--- What agrees where one transaction is set, and its session takes slots and releases them.
+-- What agrees when one transaction is set, and its session takes slots and releases them.
 use Rattle.std.proofs.Common.{◌≡◌, inl, inr, ℕ, ◌<◌, Bool, true, false, cond, List, length, refl, sym, ◌∙◌, ap, subst, nat_eq, arith}
 use Rattle.std.specs.Prelude.{Option, Some, is_none, slice_get, All}
 use Rattle.std.specs.Option.{option_map}

@@ -1,4 +1,4 @@
--- The sessions of the plain state, where one transaction changes.
+-- The sessions of the plain state, when one transaction changes.
 use Rattle.std.proofs.Common.{◌≡◌, ℕ, zero, suc, ◌+◌, ◌<◌, ◌≤◌, Bool, true, false, cond, List, refl, ◌∙◌, ap, nat_eq, arith}
 use Rattle.std.specs.Prelude.{Option, Some, None, is_none, find}
 use Rattle.std.specs.Option.{option_map}
@@ -34,12 +34,12 @@ pub each-set : (P : ℕ → Option Transaction → Type 0) (old new : List (Opti
     → ((m : ℕ) → nat_eq m n ≡ false → P m (transaction_at old m)) → (m : ℕ) → P m (transaction_at new m)
 each-set P old new n x sets here others m = grind (arith, nat_tests) steps 800000
 
--- the plain sessions, where the snapshots are as they were
+-- the plain sessions, if the snapshots are as they were
 pub sessions-kept : (old new : List (Option Transaction)) (seen : ℕ → ℕ) (n : ℕ) (x : Option Transaction) → Sets old new n x → (m : ℕ)
     → option_map (plain_session (seen m)) (transaction_at new m) ≡ replaced n (option_map (plain_session (seen n)) x) (λ k. option_map (plain_session (seen k)) (transaction_at old k)) m
 sessions-kept old new seen n x sets m = grind (arith, nat_tests) steps 800000
 
--- the plain sessions, where one snapshot is new
+-- the plain sessions, if one snapshot is new
 pub sessions-begun : (old new : List (Option Transaction)) (seen : ℕ → ℕ) (n begun : ℕ) (x : Option Transaction) → Sets old new n x → (m : ℕ)
     → option_map (plain_session (replaced n begun seen m)) (transaction_at new m) ≡ replaced n (option_map (plain_session begun) x) (λ k. option_map (plain_session (seen k)) (transaction_at old k)) m
 sessions-begun old new seen n begun x sets m = grind (arith) steps 800000

@@ -96,7 +96,7 @@ none-on key p (d ∷ ds) all = by (p d) both.0 (none-on key p ds both.1)
     by true un rest = ap (λ (o : Option ℕ). option_or o (cond (writes_key key d.commit) (Some d.commit.timestamp) None)) rest ∙ unwritten (writes_key key d.commit) un
     by false un rest = rest
 
--- where no two of them write one key, those that pass may come before the others
+-- if no two of them write one key, those that pass may come before the others
 last-split : (key : Key) (p : Drawn → Bool) (ds : List Drawn) → are_rising (map time_of ds) ≡ true
     → ((t u : ℕ) (d e : Drawn) → find (λ (x : Drawn). nat_eq x.commit.timestamp t) ds ≡ Some d → find (λ (x : Drawn). nat_eq x.commit.timestamp u) ds ≡ Some e → writes_key key d.commit ≡ true → writes_key key e.commit ≡ true → t ≡ u)
     → option_or (last_on key (commits (filter (λ d. not (p d)) ds))) (last_on key (commits (filter p ds))) ≡ last_on key (commits ds)
@@ -149,7 +149,7 @@ found (e ∷ ds) d rising (suc k, lt, is) =
 not-here : (b rest : Bool) → b ≡ false → (b || rest) ≡ rest
 not-here a rest is = grind (arith)
 
--- where each that writes the key has this timestamp, and one does, it is the last
+-- if each commit that writes the key has this timestamp, and there is one, it is the last
 writer-one : (key : Key) (u : ℕ) (cs : List Commit) (t : ℕ) → ((c : Commit) → Contains cs c → writes_key key c ≡ true → c.timestamp ≡ u) → (list_any (writes_key key) cs ≡ true) ⊎ (t ≡ u) → writer_from key t cs ≡ u
 writer-one key u [] t each some = elim some [ inl any ↦ absurd (false≢true any) | inr is ↦ is ]
 writer-one key u (c ∷ cs) t each some =

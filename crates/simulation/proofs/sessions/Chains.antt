@@ -129,7 +129,7 @@ module _ (o : Origin) (q : State) (image : Image) (s : Seen) (n : ℕ) (key : Ke
     committed : is_committed q.ruling c.timestamp ≡ true
     committed = at-fact (λ (c : Commit). is_committed q.ruling c.timestamp) q.history 0 m c kept.numbers.covered (omega arith) at
 
-    -- the last row version stays, where the commit writes none
+    -- the last row version stays, if the commit writes none
     stays : last_row (take (suc m) q.history) key ≡ last_row (take m q.history) key → (begin_of image r.slot ≤ o.ruling.persisted) ⊎ (begin_of image r.slot ≤ last_writer (take (suc m) q.history) key) → Reaches (suc m)
     stays same low = record { timestamp = r.timestamp; slot = r.slot; last = same ∙ r.last; within = r.within; held = r.held; begun = r.begun; low = low; leads = r.leads }
 

@@ -33,7 +33,7 @@ pub last_on-append : (key : Key) (xs ys : List Commit) → last_on key (xs ++ ys
 last_on-append key [] ys = sym (option_or-none (last_on key ys))
 last_on-append key (x ∷ xs) ys = ap (λ o. option_or o (own key x)) (last_on-append key xs ys) ∙ sym (option_or-assoc (last_on key ys) (last_on key xs) (own key x))
 
--- there is one exactly where a commit writes the key
+-- there is a last one exactly if a commit writes the key
 pub last_on-any : (key : Key) (cs : List Commit) → is_some (last_on key cs) ≡ list_any (writes_key key) cs
 last_on-any key [] = refl
 last_on-any key (c ∷ cs) = grind (arith, last_on-any key cs)

@@ -1,4 +1,4 @@
--- From what holds before, between and after operations to where a step leads.
+-- From what holds before, between and after operations to what a step leads to.
 use Rattle.std.proofs.Common.{zero, suc, ℕ, true, List, [], ◌∷◌, ◌++◌, take, refl, sym, subst}
 use Rattle.machine.specs.Machine.{State, StandsWithin}
 use Rattle.pmem.specs.Device.{Device, MayLeave, failed}

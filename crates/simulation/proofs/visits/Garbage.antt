@@ -32,7 +32,7 @@ module _ (o : Origin) (q : State) (device : Device) (snapshots : ℕ → Seen) (
   present : Sees o q (seen_by q.ruling) (length q.history)
   present = present-sees o q u.keeps
 
-  -- where all cover it, it counts at each snapshot in use
+  -- if all cover the end, it counts at each snapshot in use
   counted : is_covered_by_all q snapshots end ≡ true → (n : ℕ) → IsInUse q n → counts_at o q n end ≡ true
   counted all n in_use = by in_use
     where

@@ -45,7 +45,7 @@ unswept-of q is = not-true q.swept (and_parts (not q.swept) (not (is_nil q.rulin
 -- ---- the state after a visit
 
 module _ (o : Origin) (q : State) (device : Device) (u : Upholds o q device) where
-  -- where no sweep is due
+  -- if no sweep is due
   module _ (quiet : (q.swept ≡ true) ⊎ (q.ruling.gaps ≡ [])) where
     none-in : q.ruling.gaps ≡ [] → (other : Device) (slot : ℕ) → IsSlotOutOfGaps q other slot
     none-in none other slot w low = record { each = λ x there. ap (λ (gaps : List Gap). is_in gaps x) none }
@@ -73,7 +73,7 @@ module _ (o : Origin) (q : State) (device : Device) (u : Upholds o q device) whe
         never (inl swept) (inr (unswept, inside)) = absurd (true≢false (sym swept ∙ unswept))
         never {t} (inr none) (inr (unswept, inside)) = grind (arith)
 
-  -- where the slot is swept
+  -- if the slot is swept
   swept-slot : q.swept ≡ false → IsSlotOutOfGaps q (fenced collector device) q.place → Upholds o (slot_visited q) device
   swept-slot unswept clean =
       upholds-moved o q device (held_after_visit q q.place) q.swept (q.place + 1) (λ is. is) (λ slot. visit-frees o q q.place slot u.keeps) u (λ slot w lt low never. never)
@@ -83,7 +83,7 @@ module _ (o : Origin) (q : State) (device : Device) (u : Upholds o q device) whe
       by is slot lt before (inl same) = subst (IsSlotOutOfGaps q (fenced collector device)) (sym same) clean
       by is slot lt before (inr apart) = u.holds.sweeping.under_way is slot lt (omega (arith, before, apart))
 
-  -- where all are, and the fence is made
+  -- if all slots are swept, and the fence is made
   swept-all : q.swept ≡ false → ((slot : ℕ) → slot < q.layout.slots → IsSlotOutOfGaps q device slot) → ((slot w : ℕ) → slot < q.layout.slots → w < 2 → Survives device (word_of q.layout slot w) (value_of device (word_of q.layout slot w))) → Upholds o (sweep_ended q) device
   swept-all unswept clean there =
       upholds-moved o q device q.held true 0 (λ is. refl) (λ slot. stays refl) u never

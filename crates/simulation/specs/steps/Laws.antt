@@ -1,5 +1,5 @@
--- Which steps of a session a device follows: what its operations make of it upholds the state after the step, and where one
--- fails, the failed state; and each image that a crash within the step might have left stands within it.
+-- Which steps of a session a device follows: what its operations make of it upholds the state after the step, or if one
+-- fails, the failed state; and each image that a crash within the step might have left is consistent with it.
 use Rattle.std.specs.Prelude.{◌≡◌, ℕ, ◌+◌, ◌<◌, true, List, length, Option, Some, None}
 use Rattle.base.specs.declared.key.Key.{Key}
 use Rattle.base.specs.declared.step.Step.{Step}
@@ -44,8 +44,8 @@ QuietStepsLead =
 
 -- ---- a put
 
--- a put of a row as the format has them, whose version links to the newest one that is held, where no commit bars the session
--- from drawing; or one that the device stopped
+-- a put of a row as the format has them, whose version links to the newest one that is held, if no commit bars the session
+-- from drawing; or a put that the device stopped
 pub record PutsLead : Type 0 where
   pub stored : (o : Origin) (q : State) (n actor slot : ℕ) (v : Content) (old new : Device) → Fits q.layout v → refusal q (Put n v.key v.row) ≡ None
       → slot < q.layout.slots → held_after_put q n v.key slot ≡ Some (version_by v.key (BySession n)) → LinksNewest q n v
@@ -70,7 +70,7 @@ pub record StampsLead : Type 0 where
       → IsSlotOf q (version_by key (ByCommit (timestamp_of (q.sessions n)))) own → IsSlotOf q (newest_of q key) ended
       → StopsWithin (stamp_operations q own ended (timestamp_of (q.sessions n))) old new → Upholds o q old → Leads o q (record q { failed = true }) old new
 
--- where it makes an operation, the machine says so
+-- if a stamp makes an operation, the machine says so
 abbrev pub StampsOperate : Type 0
 StampsOperate =
     (o : Origin) (q : State) (n : ℕ) (key : Key) (row : Option (List ℕ)) (own ended : Option ℕ) → Keeps o q → stamped_write q n ≡ Some (key, row)

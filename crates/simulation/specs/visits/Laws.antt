@@ -25,7 +25,7 @@ pub record VisitsLead : Type 0 where
   pub made : (o : Origin) (q : State) (old new : Device) → q.failed ≡ false → Runs (visit_operations q (value_of old)) old new → Upholds o q old → Leads o q (visited q) old new
   pub stopped : (o : Origin) (q : State) (old new : Device) → q.failed ≡ false → StopsWithin (visit_operations q (value_of old)) old new → Upholds o q old → Leads o q (record q { failed = true }) old new
 
--- where it makes an operation, the machine says so, and it makes no more than the machine allows
+-- if a visit makes an operation, the machine says so, and it makes no more than the machine allows
 pub record VisitsCount : Type 0 where
   pub operates : (q : State) (value : ℕ → ℕ) → 0 < length (visit_operations q value) → is_sweeping q ≡ true
   pub made : (q : State) (old new : Device) → Runs (visit_operations q (value_of old)) old new → Takes (most_operations_of_visit q) 0 old new
@@ -37,7 +37,7 @@ SweepsEnd =
     (o : Origin) (q : State) (old new : Device) → q.failed ≡ false → is_at_slot q ≡ false → Runs (visit_operations q (value_of old)) old new → Upholds o q old
     → (slot : ℕ) → slot < q.layout.slots → IsSlotOutOfGaps q new slot
 
--- A version is garbage exactly where its end is covered by the ruling record and by the snapshot of each active session
+-- A version is garbage exactly if its end is covered by the ruling record and by the snapshot of each active session
 abbrev pub EndsShowGarbage : Type 0
 EndsShowGarbage =
     (o : Origin) (q : State) (device : Device) (snapshots : ℕ → Seen) (slot : ℕ) (v : Version) → q.failed ≡ false → IsOrderly device → Upholds o q device

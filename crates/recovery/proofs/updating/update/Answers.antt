@@ -10,7 +10,7 @@ use Rattle.pmem.proofs.Traces.{runs_none}
 use Rattle.recovery.proofs.openings.Updates.{opened-size}
 use Rattle.recovery.proofs.updating.update.Goals as goal
 
--- what is done where the image has this layout
+-- what is done if the image has this layout
 abbrev update_by : Layout → Bool → List Operation
 update_by found b = cond b (set_operations committer 1 (opened_version found.version)) []
 
@@ -21,7 +21,7 @@ module _ (found layout today : Layout) (x y : ℕ) (laid_out : found ≡ layout)
   today-version : today.version ≡ opened_version found.version
   today-version = ap (λ (l : Layout). l.version) (is ∙ ap opened_layout (sym laid_out))
 
-  -- nothing, where it has that version
+  -- nothing is done if the image has that version
   none-done : x ≡ y → update_by found (updates_from found) ≡ []
   none-done same = grind (arith, today-version, eq-eqb)
 

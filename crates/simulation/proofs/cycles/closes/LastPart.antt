@@ -165,7 +165,7 @@ module _ (o : Origin) (q : State) (device : Device) (c : IsClosing o q device) w
     pub safe-last : IsSafe last_state (value_of device)
     safe-last = record { reserved = omega arith; covered = safe-now.covered; drawn = safe-now.drawn; once = safe-now.once; rows = safe-now.rows; written = safe-now.written }
 
-    -- where that record rules
+    -- if that record rules
     pub last-stands : (late : Device) (image : Image) → IsSafe last_state (value_of late) → SlotsHold last_state late → SlotsSurvive q.layout late image → IsRuledBy q.layout (closing_record q) image → StandsClosed q image
     last-stands late image is_safe held words ruled =
         subst (λ (cover : Cover). StandsUnder q cover image) cover-is

@@ -67,7 +67,7 @@ closed-covered q hand k = λ i. record {
     listed : (q.history ++ hand.commits) ++ uncovered (state_covered q hand) ≡ q.history ++ (hand.commits ++ filter (λ (c : Commit). not (has_timestamp hand.commits c.timestamp)) (drawn_of q))
     listed = ap (λ (cs : List Commit). (q.history ++ hand.commits) ++ cs) rest ∙ append_assoc q.history hand.commits (filter (λ (c : Commit). not (has_timestamp hand.commits c.timestamp)) (drawn_of q))
 
--- where the batch's commits are covered, the state before may say so too
+-- if the batch's commits are covered, the state before may say so too
 under-covered : (q : State) (hand : Hand) (more : List Commit) (cover : Cover) (image : Image) → cover.commits ≡ (q.history ++ hand.commits) ++ more → StandsUnder (state_covered q hand) cover image → StandsUnder q cover image
 under-covered q hand more cover image is s = record {
   stands = record {

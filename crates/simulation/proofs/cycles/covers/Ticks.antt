@@ -43,7 +43,7 @@ operates-in_hand q hand in_hand = ap (λ (h : Option Hand). is_some h) in_hand
 one_at_most : (q : State) (hand : Hand) → q.hand ≡ Some hand → most_operations q CommitTick ≡ 1
 one_at_most q hand in_hand = ap (λ (h : Option Hand). cond (is_some h) 1 0) in_hand
 
--- where the tick chooses and isn't refused, a record is left
+-- if the tick chooses and isn't refused, a record is left
 numbered : (q : State) → refusal q CommitTick ≡ None → q.hand ≡ None → is_idle q ≡ false → q.ruling.gate + 1 < 2 ^ 62
 numbered q none rests busy = grind (arith, leb-false, true≢false)
 

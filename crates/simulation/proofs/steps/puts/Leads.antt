@@ -96,7 +96,7 @@ module _ (o : Origin) (q : State) (n actor slot : ℕ) (v : Content) (old : Devi
   low0 : 0 < slot_words q.layout.version
   low0 = within-slot q.layout.version 0 (omega arith)
 
-  -- where the put stops, the failed state is upheld
+  -- if the put stops, the failed state is upheld
   stopped : (device : Device) → HoldsState q device → StopsPut q.layout (value_of old) (value_of device) slot → Upholds o down device
   stopped device holds stops = record {
     keeps = keeps-failed o q u.keeps;
