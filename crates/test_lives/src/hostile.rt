@@ -1,5 +1,5 @@
-//! Runs of the room on devices and images that are hostile to it. Of each kind it prints how many runs there were, and that
-//! nothing was lost and nothing wrong. Then it prints what lives and a board answer.
+//! Runs of the room on devices and images that are hostile to it. It prints how many runs of each kind there were, and that
+//! nothing was lost and nothing wrong. Then it prints what lives and a board return.
 
 mod images;
 mod judge;
@@ -52,7 +52,7 @@ fn print_filled<H: Print>(rt: &H, filled: (Counts, u64)) -> Result<(), Error> {
     Ok(())
 }
 
-/// Lives the run of this name alone.
+/// Runs only the run of this name.
 pub fn live_named<H: Print + Threads + Sync>(
     rt: &H,
     alloc: Global,

@@ -1,7 +1,7 @@
-//! Lives of a room that are hostile to it, and lives at random beside a model. Without words it runs all of the first kind, and
-//! the second for 30 seeds. `SEED COUNT` lives those of so many seeds from that one on, and prints how much that was. `refused
-//! NAME` lives the hostile run of that name alone, and `refused NAME reserved` on a device that has memory for its stores: for
-//! who refuses allocations.
+//! Lives of a room that are hostile to it, and random lives next to a model. Without words it runs all of the first kind, and
+//! the second for 30 seeds. `SEED COUNT` runs those of COUNT seeds from SEED on, and prints how much that was. `refused NAME`
+//! runs only the hostile run of that name, and `refused NAME reserved` on a device that has memory for its stores: for a caller
+//! that refuses allocations.
 #![tactic(auto)]
 
 mod hostile;

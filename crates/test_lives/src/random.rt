@@ -1,5 +1,5 @@
-//! Lives of a room at random, in which sessions, the committer and the collector take turns, beside a model of plain tables and
-//! slots, over images of all three versions of the format. Openings stop too, one after the other.
+//! Random lives of a room, in which sessions, the committer and the collector take turns, next to a model of plain tables and
+//! slots, over images of all three versions of the format. Opening stops too, several times in a row.
 
 mod chance;
 mod counts;
@@ -14,7 +14,7 @@ use anyhow::Error;
 use std::alloc::Global;
 use std::thread::Threads;
 
-/// Of how many seeds the lives are that no words ask for.
+/// How many seeds are run if no words say otherwise.
 pub const SEEDS: u64 = 30;
 
 /// Prints how many lives, steps and stops there were.
@@ -24,7 +24,7 @@ pub fn print_counts<H: Print>(rt: &H, counts: &Counts) -> Result<(), Error> {
     Ok(())
 }
 
-/// The lives of so many seeds from this one on, of the versions in turn. It fails at the first that differ from the model's.
+/// The lives of this many seeds from this one on, of the versions in turn. It fails at the first that differ from the model's.
 pub fn live_seeds<H: Eprint + Threads + Sync>(
     rt: &H,
     alloc: Global,

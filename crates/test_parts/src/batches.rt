@@ -1,4 +1,4 @@
-//! Which drawn commits a batch takes, what its record says, and what a close takes.
+//! Which drawn commits a batch takes, what its record says, and what closing takes.
 ghost use Rattle.std.specs.Prelude.{◌≡◌, ◌<◌, ◌≤◌, ◌^◌, All, IfOk};
 ghost use Rattle.txn.specs.DrawnCommits.{are_below};
 
@@ -73,7 +73,7 @@ fn drawn_by(alloc: Global, commits: &[(u8, Ts, usize)]) -> Result<DrawnCommits, 
     Ok(drawn)
 }
 
-// Begins a cycle over what is drawn, where that is no more than a record may pass over.
+// Begins a cycle over what is drawn, if that is no more than a record may pass over.
 fn begin(alloc: Global, numbers: &Numbers, drawn: &DrawnCommits) -> Result<Cycle, Fault>
     requires numbered { numbers.now.record.gate < 2 ^ 62 }
     requires countable { numbers.now.next ≤ 2 ^ 62 }
@@ -170,7 +170,7 @@ fn a_commit_above_thirteen_unstamped_ones_waits(rt: HostRuntime) -> Result<(), F
     Ok(())
 }
 
-// While commit 1 isn't stamped there is nothing to do, and a cycle that is begun all the same names it again.
+// While commit 1 isn't stamped there is nothing to do, and a cycle that is begun anyway names it again.
 fn assert_named_again(
     rt: &impl Abort,
     alloc: Global,

@@ -1,4 +1,4 @@
-//! What readers of a board answer, to whoever learns a token, also beside a running writer.
+//! What readers of a board return once they learn a token, also while a writer runs.
 ghost use Rattle.std.specs.Prelude.{◌≡◌};
 
 use base::Ts;
@@ -51,7 +51,7 @@ fn add<J: Naming, R: Wait + Drop>(
     publish(board, batch)
 }
 
-// Publishes the batch, which goes on from what is published.
+// Publishes the batch, which follows what is published.
 fn publish<J: Naming, R: Wait + Drop>(board: &mut Board<J, R>, batch: Batch) -> Result<(), Fault> {
     if !board.fits(&batch) {
         return Err(Fault::WrongState);
@@ -104,7 +104,7 @@ struct OneCommit {
     after: [Answer; 4],
 }
 
-// Publishes a commit. What a reader that learns a token answers before and after a prune.
+// Publishes a commit. What a reader that learns a token returns before and after a prune.
 fn commit_and_prune<J: Naming, R: Wait + Drop>(
     alloc: Global,
     board: &mut Board<J, R>,
@@ -124,7 +124,7 @@ fn commit_and_prune<J: Naming, R: Wait + Drop>(
     })
 }
 
-// The same of a board that is opened for it.
+// The same for a board that is opened for it.
 fn one_commit<J: Naming, R: Wait>(
     rt: &R,
     alloc: Global,
@@ -195,10 +195,11 @@ fn add_to_seven<J: Naming, R: Wait + Drop>(
     )
 }
 
-// What is covered while commit 5 is long, what a batch without it comes to, and what is covered once it is covered too.
+// What is covered while commit 5 is long, the result of a batch without it, and what is covered once commit 5 is covered
+// too.
 type LongCommit = (Covered, Result<(), Fault>, Covered);
 
-// The same of a board on which 5 is long.
+// The same for a board on which 5 is long.
 fn cover_five<J: Naming, R: Wait + Drop>(
     alloc: Global,
     board: &mut Board<J, R>,
@@ -209,7 +210,7 @@ fn cover_five<J: Naming, R: Wait + Drop>(
     Ok((before, nothing, covered(board)))
 }
 
-// The same of a board that publishes 5 as long, or begins with it.
+// The same for a board that publishes 5 as long, or begins with it.
 fn long_commit<J: Naming, R: Wait>(
     rt: &R,
     alloc: Global,
@@ -258,7 +259,7 @@ fn row_of(stamp: u64) -> Result<Row, Fault> {
     Row::new(&stamp.to_be_bytes())
 }
 
-// Publishes so many commits, and keeps sixteen stamps readable.
+// Publishes this many commits, and keeps sixteen stamps readable.
 fn add_many<J: Naming, R: Wait + Drop>(
     alloc: Global,
     board: &mut Board<J, R>,
@@ -275,7 +276,7 @@ fn add_many<J: Naming, R: Wait + Drop>(
 
 type Bounds = Result<(u64, u64), Fault>;
 
-// What a reader that learns the last of twenty commits answers.
+// What a reader that learns the last of twenty commits returns.
 fn twenty_commits<J: Naming, R: Wait>(
     rt: &R,
     alloc: Global,
@@ -332,7 +333,7 @@ fn read_across<J: Naming + Send + Sync, R: Threads + Wait + Sync>(
     Ok((answer, reader.read(3, KEY)))
 }
 
-// What one thread lays there for another.
+// What one thread leaves there for another.
 type Desk<J> = Mutex<Option<Result<Token<J>, Fault>>>;
 
 // Publishes a commit, and returns its token.
@@ -344,7 +345,7 @@ fn published<J: Naming, R: Wait + Drop>(
     Ok(board.token())
 }
 
-// Publishes a commit, and lays a token on the desk.
+// Publishes a commit, and leaves a token on the desk.
 fn post<J: Naming, R: Wait + Drop>(
     rt: &impl Wait,
     alloc: Global,
@@ -386,10 +387,10 @@ fn another_thread_reads_a_told_commit(rt: HostRuntime) -> Result<(), Fail> {
 
 const STAMPS: u64 = 400;
 
-// What a reader beside a running writer saw.
+// What a reader saw while a writer ran.
 #[derive(Clone, Copy)]
 struct Watched {
-    // Answers that were Shut, a row of another stamp, or of an earlier time.
+    // Reads that returned Shut, a row of another stamp, or an earlier row.
     wrong: u64,
     last: u64,
 }
@@ -425,7 +426,7 @@ fn write<J: Naming, R: Wait + Drop>(
     (board, added)
 }
 
-// Reads the last row again and again until the writer is done.
+// Reads the last row over and over until the writer is done.
 fn watch<J: Naming>(reader: Reader<J>, over: &AtomicBool) -> Watched {
     let mut reader = reader;
     let mut seen = Watched { wrong: 0, last: 0 };

@@ -1,4 +1,4 @@
-//! Slots that are free, and one that is given.
+//! Free slots, and one that is returned.
 use slot_alloc::SlotAlloc;
 use std::test::Fail;
 

@@ -1,4 +1,4 @@
-//! A list of gaps that is full, and one that is made and dropped.
+//! A list of gaps that is full, and one that is created and dropped.
 use base::fault::Fault;
 use base::gap::{Gap, Gaps};
 use gap_list::GapList;

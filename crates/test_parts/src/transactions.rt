@@ -47,7 +47,7 @@ fn a_session_takes_the_lowest_number_that_is_free(rt: HostRuntime) -> Result<(),
     Ok(())
 }
 
-// What a record that reaches up to there passes over, where few commits are drawn.
+// What a record that reaches up to this timestamp passes over, if few commits are drawn.
 fn passed_over(drawn: &DrawnCommits, reach: Ts) -> Longs {
     if drawn.as_slice().len() <= Longs::LIMIT {
         drawn.passed_over(reach)

@@ -1,4 +1,4 @@
-//! What the index says of a key.
+//! What the index returns for a key.
 use base::SlotNo;
 use base::key::Key;
 use index::Index;

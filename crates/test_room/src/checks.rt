@@ -1,4 +1,4 @@
-//! Images that are checked, and opened too: both agree.
+//! Images that are both checked and opened: the results agree.
 use crate::fixture::{changed_words, fresh_words, opened};
 use crate::numbers::next;
 use base::fault::Fault;
@@ -45,7 +45,7 @@ fn checked<H: Threads + Sync>(rt: &H, alloc: Global, words: &[u64]) -> Option<Fa
     check(rt, alloc, words).err()
 }
 
-// The fault that an opening finds.
+// The fault that opening finds.
 fn refused<H: Threads + Sync + Abort>(
     rt: &H,
     alloc: Global,
@@ -55,7 +55,8 @@ fn refused<H: Threads + Sync + Abort>(
     Ok(opened(rt, alloc, device).err())
 }
 
-// What is sound opens, limits of numbers aside, and nothing else does, for the same reason.
+// A sound image opens, limits of numbers aside. No other does, for the fault that the check
+// finds.
 fn assert_agree<H: Threads + Sync + Abort>(
     rt: &H,
     alloc: Global,

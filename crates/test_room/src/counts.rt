@@ -15,7 +15,7 @@ pub fn operations(device: &SimPmem) -> u128 {
     made.stores as u128 + made.flushes as u128 + made.fences as u128
 }
 
-/// The device made so many stores, flushes and fences.
+/// Asserts that the device made this many stores, flushes and fences.
 pub fn assert_made(rt: &impl Abort, device: &SimPmem, counts: (u64, u64, u64)) {
     let (stores, flushes, fences) = counts;
     let made = Operations {
@@ -37,15 +37,15 @@ fn format_is_counted(rt: HostRuntime) -> Result<(), Fault> {
 
 const STAMPED: &[Ask] = &[Begin, Put(2, 7, 1), Draw(2), Stamp(2)];
 
-// The update of a key was stamped and lost, so that the begin in its slot lies in the gap of the next opening.
+// The update of a key was stamped and lost, so that the begin in its slot is in the gap of the next opening.
 const LOST: &[Past] = &[(&[STAMPED], true)];
 
 /// How many slots, the lives before, the life, and its stores, flushes and fences.
 type Counted = (u64, &'static [Past], Life, (u64, u64, u64));
 
-// An opening makes 32 stores, 5 flushes and 2 fences. A sweep of four slots, of which one begins in the gap, makes 1
-// store, 4 flushes and 1 fence. Where that slot was taken before, by a put of 8 stores, 1 flush and 1 fence and a stamp
-// of 1 store, the sweep has nothing to store. With a ninth gap an opening sweeps by 2 stores, 2 flushes and 1 fence.
+// Opening makes 32 stores, 5 flushes and 2 fences. A sweep of four slots, of which one begins in the gap, makes 1
+// store, 4 flushes and 1 fence. If that slot was taken before, by a put of 8 stores, 1 flush and 1 fence and a stamp of
+// 1 store, the sweep has nothing to store. With a ninth gap, opening sweeps by 2 stores, 2 flushes and 1 fence.
 const COUNTED: &[Counted] = &[
     (4, &[], &[], (32, 5, 2)),
     (4, LOST, &[], (32, 5, 2)),

@@ -27,7 +27,7 @@ pub fn assert_each_stop<R: Threads + Sync + Abort>(
     Ok(())
 }
 
-// Lets the life stop after so many operations, and opens what a crash may leave.
+// Lets the life stop after this many operations, and opens what a crash may leave.
 fn assert_stop<R: Threads + Sync + Abort>(
     rt: &R,
     alloc: Global,
@@ -91,7 +91,7 @@ fn assert_each_choice<R: Threads + Sync + Abort>(
     Ok(())
 }
 
-// Opens what is left where this word alone has the oldest value, and where it alone has the newest.
+// Opens what is left if this word alone has the oldest value, and if it alone has the newest.
 fn assert_apart<R: Threads + Sync + Abort>(
     rt: &R,
     alloc: Global,
@@ -107,7 +107,7 @@ fn assert_apart<R: Threads + Sync + Abort>(
     Ok(())
 }
 
-// Of one word the newest value and of all others the oldest, or the other way round.
+// The newest value of one word and the oldest of all others, or the other way around.
 fn apart(alloc: Global, device: &SimPmem, word: usize, newest: bool) -> Result<Choice, Fault> {
     let mut numbers = Vec::new(alloc);
     for other in 0..device.words() {
@@ -120,8 +120,8 @@ fn apart(alloc: Global, device: &SimPmem, word: usize, newest: bool) -> Result<C
     Ok(Choice::Each(numbers))
 }
 
-/// Opens a device of which only so many operations succeed, makes the steps up to the one that is refused, and closes the
-/// room where that is asked. What is left, and the stamp of the last commit that was acknowledged.
+/// Opens a device on which only this many operations succeed, makes the steps up to the one that is refused, and closes
+/// the room if that is asked. Returns what is left, and the stamp of the last commit that was acknowledged.
 pub fn stopped<R: Threads + Sync + Abort>(
     rt: &R,
     alloc: Global,
@@ -161,8 +161,8 @@ fn closed(rt: &impl Abort, room: Room<SimPmem>) -> SimPmem {
     }
 }
 
-// Makes the steps up to the one in which the device fails, after which each is refused. The stamp of the last commit that
-// was acknowledged.
+// Makes the steps up to the one in which the device fails, after which each is refused. Returns the stamp of the last
+// commit that was acknowledged.
 fn run(rt: &impl Abort, room: &mut Room<SimPmem>, steps: &[Step]) -> u64 {
     let mut covered = 0;
     for made in steps {
@@ -192,7 +192,7 @@ fn gates_after(rt: &impl Abort, shown: &Shown, fuse: u64) -> (u64, u64) {
     )
 }
 
-/// Opens what a crash of this choice leaves. It has one of two gates, and shows what belongs to that.
+/// Opens what a crash of this choice leaves. It has one of two gates, and shows what belongs to that gate.
 pub fn assert_left<R: Threads + Sync + Abort>(
     rt: &R,
     alloc: Global,

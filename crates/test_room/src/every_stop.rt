@@ -75,7 +75,8 @@ const STOPPED_OPENINGS: &[Stops] = &[
     (&[(37, true), (38, true), (37, true)], 7),
 ];
 
-// The first sweeps, and so does each further one while no gate has survived: it stores what no longer lies there anew.
+// The first opening sweeps, and so does each later one while no gate has survived: it stores again what is no longer
+// there.
 const STOPPED_SWEEPS: &[Stops] = &[
     (&[(1, true), (3, true), (41, true)], 20),
     (&[(1, false), (2, false), (39, false)], 20),
@@ -84,7 +85,7 @@ const STOPPED_SWEEPS: &[Stops] = &[
     (&[(42, true), (38, true), (37, true)], 23),
 ];
 
-// Of the first words of both places this survivor, and of all others the other one.
+// This survivor of the first words of both places, and the other one of all other words.
 fn gates_apart(alloc: Global, words: usize, newest: bool) -> Result<Choice, Fault> {
     let mut numbers = Vec::new(alloc);
     for word in 0..words {
@@ -96,7 +97,7 @@ fn gates_apart(alloc: Global, words: usize, newest: bool) -> Result<Choice, Faul
     Ok(Choice::Each(numbers))
 }
 
-// What three openings of an image leave, each of which stops.
+// What is left after an image is opened three times, each time with a stop.
 fn stopped_thrice<R: Threads + Sync + Abort>(
     rt: &R,
     alloc: Global,
@@ -110,7 +111,7 @@ fn stopped_thrice<R: Threads + Sync + Abort>(
     Ok(device)
 }
 
-// What an opening leaves that stops after so many operations.
+// What is left when opening stops after this many operations.
 fn stopped_once<R: Threads + Sync + Abort>(
     rt: &R,
     alloc: Global,
@@ -123,7 +124,7 @@ fn stopped_once<R: Threads + Sync + Abort>(
     left.crash(&choice)
 }
 
-// Whichever of three stopped openings survive, the fourth shows what the story says of its gate.
+// Whichever of three stopped openings survive, the fourth shows what the story says for its gate.
 fn assert_stops<R: Threads + Sync + Abort>(
     rt: &R,
     alloc: Global,

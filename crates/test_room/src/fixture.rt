@@ -45,7 +45,7 @@ pub fn formatted(alloc: Global, geometry: Geometry) -> Result<SimPmem, Fault> {
     Ok(device)
 }
 
-/// A device with so many slots, 2 places and this window that was formatted and restarted: no operation is counted.
+/// A device with this many slots, 2 places and this window, formatted and restarted: no operation is counted.
 pub fn fresh(alloc: Global, slots: u64, window: u64) -> Result<SimPmem, Fault> {
     restarted(formatted(alloc, Geometry::new(slots, 2, window)?)?)
 }
@@ -77,10 +77,11 @@ pub fn opened<R: Threads + Sync + Abort>(
     }
 }
 
-/// Lets a room go: in one place, since each function that drops a room itself is long to prove.
+/// Drops a room: in one place, since each function that drops a room itself is long to prove.
 pub fn leave(_room: Room<SimPmem>) {}
 
-/// Makes a step, and notes its reply. Want of memory for the note looks like that of a scan, which changes nothing.
+/// Makes a step, and notes its reply. A lack of memory for the note looks like that of a scan, which changes
+/// nothing.
 pub fn step(room: &mut Room<SimPmem>, step: Step) -> Note {
     match Note::of(&room.step(step)) {
         Ok(note) => note,
@@ -88,7 +89,7 @@ pub fn step(room: &mut Room<SimPmem>, step: Step) -> Note {
     }
 }
 
-/// Makes a step, which is answered with this.
+/// Makes a step, which has this reply.
 pub fn assert_note(rt: &impl Abort, room: &mut Room<SimPmem>, made: Step, want: Note) {
     assert!(rt; step(room, made) == want);
 }
@@ -113,7 +114,7 @@ fn make_each(rt: &impl Abort, room: &mut Room<SimPmem>, steps: &[Step]) {
     }
 }
 
-/// A fresh device with so many slots and a window of 8, after these lives.
+/// A fresh device with this many slots and a window of 8, after these lives.
 pub fn device_after<R: Threads + Sync + Abort>(
     rt: &R,
     alloc: Global,

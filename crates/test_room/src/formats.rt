@@ -1,4 +1,4 @@
-//! A format of a device that has rows, which stops after each number of its operations.
+//! Formats a device that has rows, and stops after each number of operations.
 use crate::fixture::device_after;
 use asks::ONE_ROW;
 use base::fault::Fault;
@@ -29,7 +29,7 @@ const STOPS: &[Stops] = &[
     (163, 163, NEW, NEW),
 ];
 
-// The device after a format of which only so many operations succeed.
+// The device after a format of which only this many operations succeed.
 fn formatted_again(alloc: Global, words: &[u64], fuse: u64) -> Result<SimPmem, Fault> {
     let mut device = SimPmem::from_words(alloc, words)?;
     device.set_fuse(Some(fuse));
@@ -66,7 +66,7 @@ fn assert_left<R: Threads + Sync + Abort>(
     Ok(())
 }
 
-// A format that stops after so many operations.
+// A format that stops after this many operations.
 fn assert_stop<R: Threads + Sync + Abort>(
     rt: &R,
     alloc: Global,

@@ -1,4 +1,4 @@
-//! Lives in which an allocation may be refused: each in turn, where the tests are run so.
+//! Lives in which an allocation may be refused: each in turn, if the tests are run that way.
 use crate::counts::operations;
 use crate::fixture::{fresh, leave, open, opened, step};
 use asks::Ask::{Begin, Commit, Draw, Put, Scan, Stamp};
@@ -19,7 +19,7 @@ const TWO_COMMITS: Life = &[
     &[Draw(2), Draw(3), Stamp(2), Stamp(3), Commit(43)],
 ];
 
-// Makes a step. Where it is refused for want of memory it is made again.
+// Makes a step. If it is refused for lack of memory, it is made again.
 fn insist(room: &mut Room<SimPmem>, made: Step) -> Note {
     let again = made;
     match step(room, made) {
@@ -28,7 +28,8 @@ fn insist(room: &mut Room<SimPmem>, made: Step) -> Note {
     }
 }
 
-// Makes the steps, up to the first that finds the device failing: then each further one says so. Are all made?
+// Makes the steps, up to the first that finds the device failing: then each further one reports the same. Are all
+// made?
 fn is_covered(rt: &impl Abort, room: &mut Room<SimPmem>, steps: &[Step]) -> bool {
     let mut last = None;
     for made in steps {
@@ -52,7 +53,7 @@ fn first_life<R: Threads + Sync + Abort>(rt: &R, alloc: Global) -> Result<(SimPm
     Ok((room.into_device(), covered))
 }
 
-// The next opening has both commits where they were covered, and else none.
+// The next opening has both commits if they were covered, and otherwise none.
 fn two_lives<R: Threads + Sync + Abort>(rt: &R, alloc: Global) -> Result<(), Fault> {
     let (device, covered) = first_life(rt, alloc)?;
     let mut room = opened(rt, alloc, device.crash(&Choice::Newest)?)?;
@@ -92,23 +93,23 @@ fn assert_two_rows(rt: &impl Abort, room: &mut Room<SimPmem>, covered: bool) -> 
     Ok(())
 }
 
-// Whatever it was, an allocation that was refused is reported as such, or the device failed.
+// An allocation that was refused is reported as a lack of memory, or the device failed.
 fn assert_refusal(rt: &impl Abort, ended: Result<(), Fault>) {
     if let Err(fault) = ended {
         assert!(rt; matches!(fault, Fault::OutOfMemory | Fault::Device));
     }
 }
 
-// Whichever allocation is refused: a store that finds no memory fails the device, its commit is lost, and
-// nothing else is.
+// Whichever allocation is refused: a store that finds no memory fails the device, its commit is lost, and nothing
+// else is.
 #[test]
 fn refused_memory_loses_no_covered_row(rt: HostRuntime) -> Result<(), Fault> {
     assert_refusal(&rt, two_lives(&rt, rt.alloc()));
     Ok(())
 }
 
-// The room of a device that holds memory for all that is stored. An opening that is refused memory makes no
-// operation, and can be asked again.
+// The room of a device that holds memory for all that is stored. If opening is refused memory, it makes no
+// operation, and can be repeated.
 fn opened_with_reserve<R: Threads + Sync + Abort>(
     rt: &R,
     alloc: Global,
@@ -134,7 +135,7 @@ fn assert_makes(rt: &impl Abort, room: Room<SimPmem>, steps: &[Step]) {
 }
 
 // The same commits on a device that holds memory for them: a step that is refused memory changes nothing, and can be
-// made again.
+// repeated.
 #[test]
 fn refused_memory_changes_nothing(rt: HostRuntime) -> Result<(), Fault> {
     let Ok(steps) = steps(rt.alloc(), TWO_COMMITS) else {

@@ -4,12 +4,12 @@ use asks::{
     UPDATE_LOST_AGAIN,
 };
 
-/// What an opening shows: the gate, the persisted, the dirty and the next timestamp, the gaps, and the keys of table 1 that
+/// What opening shows: the gate, the persisted, the dirty and the next timestamp, the gaps, and the keys of table 1 that
 /// have a row, with the one byte of each row.
 pub type Opening = ((u64, u64, u64, u64), &'static [(u64, u64)], Table);
 
-/// A story, and what the next opening shows where none of its records rules, where the first does, and so on. Each has
-/// another gate.
+/// A story, and what the next opening shows if none of its records rules, if the first does, and so on. Each has another
+/// gate.
 pub struct Shown {
     pub story: Story,
     pub openings: &'static [Opening],

@@ -95,12 +95,13 @@ fn put_of_two_lines_makes_18_operations(rt: HostRuntime) -> Result<(), Fault> {
     let device = formatted(rt.alloc(), Geometry::wide(4, 2, 8)?)?;
     let mut room = begun(&rt, rt.alloc(), device)?;
     assert_note(&rt, &mut room, put(7, row), Note::Done);
-    // An opening makes 39.
+    // Opening makes 39.
     assert_eq!(rt; operations(&room.into_device()), 57);
     Ok(())
 }
 
-// A room of the device, in which key 7 gets a row by a cycle of so many ticks. What is left.
+// A room of the device, in which key 7 gets a row by a cycle of this many ticks. Returns what
+// is left.
 fn after_cycle<R: Threads + Sync + Abort>(
     rt: &R,
     alloc: Global,

@@ -16,7 +16,7 @@ impl Read for Torn<'_> {
     }
 }
 
-/// An output that takes so many bytes, and then fails.
+/// An output that takes this many bytes, and then fails.
 #[derive(Drop)]
 pub struct Short {
     pub left: usize,

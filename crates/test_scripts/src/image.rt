@@ -2,7 +2,7 @@ use anyhow::Error;
 use command_line::image_file::{file_of_words, words_of_file};
 use std::alloc::Global;
 
-/// Prints so many words of the image, from this one on, in one line.
+/// Prints this many words of the image, from this one on, in one line.
 pub fn print_words<H: Print>(
     rt: &H,
     alloc: Global,

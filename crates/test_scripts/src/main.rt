@@ -1,9 +1,10 @@
-//! A program that obeys scripts, and prints what comes of each.
+//! A program that runs scripts, and prints the result of each.
 //!
 //! A file `.lives` is a script of whole lives, each on a device of its own, which the subcommand `lives` plays. A file
-//! `.script` says what `wbl` is asked to do with one file. A command of it begins with `$`, and the lines after it are its
-//! input. `beside FILE program` has FILE locked by another meanwhile. Of `torn wbl` the input fails after these lines, and of `short N wbl` the output after so many bytes. The file of
-//! `wbl` is kept in memory, and those of `program` lie where this program runs.
+//! `.script` says what `wbl` has to do with one file. A command of it begins with `$`, and the lines after it are its input.
+//! `beside FILE program` runs while another process has FILE locked. With `torn wbl` the input fails after these lines, and
+//! with `short N wbl` the output fails after N bytes. The file of `wbl` is kept in memory, and those of `program` are in the
+//! folder where this program runs.
 #![tactic(auto)]
 
 mod failing;
@@ -59,7 +60,7 @@ fn play_lives<H: Print + Threads + Wait + Copy + Drop + Send + Sync + 'static>(
     execute(rt, alloc, &order, text, &mut input, &mut io::writer(rt));
 }
 
-// Obeys a command with its input.
+// Runs a command with its input.
 fn obey<H: Files<File = File> + Print + Threads + Wait + Copy + Drop + Send + Sync + 'static>(
     rt: &H,
     alloc: Global,
@@ -99,7 +100,7 @@ fn obey<H: Files<File = File> + Print + Threads + Wait + Copy + Drop + Send + Sy
     }
 }
 
-// Adds the input to the file, so many times over.
+// Adds the input to the file, this many times.
 fn add_text(file: &mut Vec<u8>, input: &str, times: &str) -> Result<(), Error> {
     for _ in 0..times.parse::<usize>()? {
         file.extend_from_slice(input.as_bytes())?;
@@ -126,7 +127,7 @@ fn execute_words<
     }
 }
 
-// Does the work of a subcommand, and prints how it ended where it didn't end well.
+// Does the work of a subcommand, and prints how it ended if it failed.
 fn execute_order<
     H: Print + Threads + Wait + Copy + Drop + Send + Sync + 'static,
     R: Read,

@@ -32,7 +32,7 @@ struct Reading {
     above: Answer,
 }
 
-// What one thread lays there for another.
+// What one thread leaves there for another.
 type Desk<J> = Mutex<Option<Result<Token<J>, Fault>>>;
 
 // Commits one number after the other. The timestamp of the last.
@@ -63,7 +63,7 @@ fn commit<D: Pmem + Drop, J: Origin, R: Wait + Drop>(
     unreachable!()
 }
 
-// Commits, and lays a token that covers the last commit on the desk.
+// Commits, and leaves a token that covers the last commit on the desk.
 fn hand_over<D: Pmem + Drop, J: Origin, R: Wait + Drop>(
     rt: &impl Wait,
     session: Session<D, J, Board<J, R>>,
@@ -75,7 +75,7 @@ fn hand_over<D: Pmem + Drop, J: Origin, R: Wait + Drop>(
     session
 }
 
-// Waits for what is laid on the desk.
+// Waits for what is left on the desk.
 fn taken<J: Origin>(rt: &impl Wait, desk: &Desk<J>) -> Result<Token<J>, Fault> {
     for _ in rt.forever() {
         match desk.lock(rt).take() {
@@ -86,7 +86,7 @@ fn taken<J: Origin>(rt: &impl Wait, desk: &Desk<J>) -> Result<Token<J>, Fault> {
     unreachable!()
 }
 
-// Learns the token that is laid on the desk, and reads.
+// Learns the token that is left on the desk, and reads.
 fn learn<J: Origin>(rt: &impl Wait, reader: Reader<J>, desk: &Desk<J>) -> Result<Reading, Fault> {
     let mut reader = reader;
     match taken(rt, desk) {
@@ -98,7 +98,7 @@ fn learn<J: Origin>(rt: &impl Wait, reader: Reader<J>, desk: &Desk<J>) -> Result
     }
 }
 
-// Reads at the lowest and the last stamp, and beside them.
+// Reads at the lowest and the last stamp, and just outside them.
 fn read_around<J: Origin>(reader: &mut Reader<J>) -> Reading {
     Reading {
         bounds: reader.at(),

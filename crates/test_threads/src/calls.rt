@@ -1,5 +1,6 @@
 //! Each call of a session and of an engine once: transactions of two keys, by `commit` alone, with `prepare` first, with a
-//! refusal between, and one that conflicts; a close that is refused since a session is missing, a commit after it, and a close.
+//! refusal in between, and one that conflicts; closing, which is refused while a session is missing, a commit after it, and
+//! closing again.
 ghost use Rattle.std.specs.Prelude.{◌≡◌};
 ghost use Rattle.pmem.specs.Words.{IsAtRest, image_of};
 
@@ -55,7 +56,7 @@ struct Polled {
     committed: Option<u64>,
 }
 
-/// What an engine says of the room that it was lent, and of its readers.
+/// What an engine returns about the room that it was lent, and about its readers.
 #[derive(Clone, Copy, Debug, PartialEq, Eq)]
 struct Lent {
     first: u64,
@@ -75,7 +76,7 @@ struct Answers {
     polled: Polled,
 }
 
-/// What all calls of a life return: those of the engine, of its sessions, and a commit between its two closes.
+/// What all calls of a life return: those of the engine, of its sessions, and a commit between the two attempts to close it.
 #[derive(Clone, Copy)]
 struct Called {
     lent: Lent,
@@ -111,7 +112,7 @@ fn prepare_two<D: Pmem + Drop, J: Origin, B: Drop>(
     session.prepare(rt)
 }
 
-// Prepares so, is refused a step, and commits.
+// Prepares in the same way, is refused a step, and commits.
 fn prepare_first<D: Pmem + Drop, J: Origin, B: Drop>(
     rt: &impl Wait,
     session: &mut Session<D, J, B>,
@@ -207,7 +208,7 @@ fn call_sessions<D: Pmem + Drop, J: Origin, B: Drop>(
     })
 }
 
-// The same of two sessions that it owns.
+// The same for two sessions that it owns.
 fn called_sessions<D: Pmem + Drop, J: Origin, B: Drop>(
     rt: &impl Wait,
     sessions: (Session<D, J, B>, Session<D, J, B>),
@@ -279,7 +280,7 @@ fn close_with<D: Pmem + Drop, J: Origin, B: Drop, R: Threads + Wait>(
     Ok(())
 }
 
-// After a close that is refused the second session commits, and the engine is closed with both.
+// After closing is refused, the second session commits, and the engine is closed with both.
 fn close_twice<D: Pmem + Drop, J: Origin, B: Drop, R: Threads + Wait>(
     rt: &R,
     engine: Engine<D, J, B>,
@@ -297,7 +298,7 @@ fn close_twice<D: Pmem + Drop, J: Origin, B: Drop, R: Threads + Wait>(
     }
 }
 
-// The sessions of this engine after all calls, the first one as a close takes it, and what the calls returned.
+// The sessions of this engine after all calls, the first one as closing takes it, and what the calls returned.
 fn work<D: Pmem + Drop, J: Origin, B: Drop>(
     rt: &impl Wait,
     alloc: Global,
@@ -349,7 +350,7 @@ fn call_all<
     }
 }
 
-// The same of a fresh device.
+// The same for a fresh device.
 fn call_fresh<R: Threads + Wait + Copy + Drop + Send + Sync + 'static>(
     rt: &R,
     alloc: Global,

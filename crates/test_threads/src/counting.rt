@@ -12,11 +12,12 @@ use std::sync::atomic::{AtomicBool, AtomicU64, Ordering};
 pub struct Signals {
     /// How many operations the device made.
     made: AtomicU64,
-    /// The next operation is to be held.
+    /// The next operation has to be held.
     armed: AtomicBool,
-    /// Where the device is held within an operation, and so the thread that has the room's lock.
+    /// The place at which the device is held within an operation, and with it the thread that has the room's
+    /// lock.
     pub operation: Hold,
-    /// Where the committer is held within a cycle.
+    /// The place at which the committer is held within a cycle.
     pub cycle: Hold,
 }
 
@@ -54,7 +55,7 @@ impl Signals {
     }
 }
 
-/// A device that counts its operations where every thread can read how many they are, and can be held within one.
+/// A device that counts its operations in a place that every thread can read, and can be held within one.
 #[derive(Drop)]
 pub struct Counting<D: Pmem> {
     device: D,

@@ -1,4 +1,4 @@
-//! Threads over a device that fails after each of many numbers of operations: each session reports it, the close returns the
+//! Threads over a device that fails after each of many numbers of operations: each session reports it, closing returns the
 //! device, and what was acknowledged is there at the next opening.
 ghost use Rattle.std.specs.Prelude.{◌≡◌, IfOk};
 ghost use Rattle.pmem.specs.Words.{IsAtRest, image_of};
@@ -21,7 +21,7 @@ use std::sync::Wait;
 use std::test::*;
 use std::thread::{Threads, join};
 
-/// How many operations succeed at least, which an opening needs, and at most: fewer than all commits make.
+/// The least number of operations that succeed, which opening needs, and the greatest: fewer than all commits make.
 const LEAST: u64 = 39;
 
 const MOST: u64 = 160;
@@ -117,7 +117,7 @@ fn live<
     })
 }
 
-// A fresh device of which so many operations succeed.
+// A fresh device on which this many operations succeed.
 fn failing(alloc: Global, fuse: u64) -> Result<SimPmem, Fault>
     ensures { IfOk result (λ device. IsAtRest (device_of device)) }
 {
@@ -126,7 +126,7 @@ fn failing(alloc: Global, fuse: u64) -> Result<SimPmem, Fault>
     at_rest(device)
 }
 
-// What is left of a life in which so many operations succeed.
+// What is left of a life in which this many operations succeed.
 fn left_after<R: Threads + Wait + Copy + Drop + Send + Sync + 'static>(
     rt: &R,
     alloc: Global,
@@ -135,7 +135,7 @@ fn left_after<R: Threads + Wait + Copy + Drop + Send + Sync + 'static>(
     live::<_, Brand, R>(rt, alloc, History::new(), failing(alloc, fuse)?)
 }
 
-// The rows that an opening of the device finds.
+// The rows that opening the device finds.
 fn rows_in<D: Pmem + Drop + Send + Sync, R: Threads + Sync>(
     rt: &R,
     alloc: Global,
@@ -192,7 +192,7 @@ fn outcome_of<R: Threads + Sync>(
     })
 }
 
-// What comes of a life in which so many operations succeed.
+// The outcome of a life in which this many operations succeed.
 fn outcome_after<R: Threads + Wait + Copy + Drop + Send + Sync + 'static>(
     rt: &R,
     alloc: Global,

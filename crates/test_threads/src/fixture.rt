@@ -36,7 +36,7 @@ impl Gate for Never {
     }
 }
 
-/// Never stops its worker, which gives up its turn where it found nothing to do.
+/// Never stops its worker, which yields when it found nothing to do.
 #[derive(Drop)]
 pub struct Always;
 
@@ -62,7 +62,7 @@ pub fn row(number: u64) -> Result<Row, Fault> {
     Row::new(&number.to_be_bytes())
 }
 
-/// The number that the row holds: 0 where there is none.
+/// The number that the row holds: 0 if there is no row.
 pub fn number_in(row: Option<Row>) -> Result<u64, Fault> {
     let Some(row) = row else {
         return Ok(0);
@@ -73,7 +73,7 @@ pub fn number_in(row: Option<Row>) -> Result<u64, Fault> {
     }
 }
 
-/// The device, where it is at rest.
+/// The device, if it is at rest.
 pub fn at_rest(device: SimPmem) -> Result<SimPmem, Fault>
     ensures { IfOk result (λ device. IsAtRest (device_of device)) }
 {
@@ -84,7 +84,7 @@ pub fn at_rest(device: SimPmem) -> Result<SimPmem, Fault>
     }
 }
 
-/// A device with so many slots, 2 places and this window that was formatted and restarted.
+/// A device with this many slots, 2 places and this window, formatted and restarted.
 pub fn fresh(alloc: Global, slots: u64, window: u64) -> Result<SimPmem, Fault>
     ensures { IfOk result (λ device. IsAtRest (device_of device)) }
 {
@@ -183,10 +183,10 @@ pub fn closed<D: Pmem + Drop, J: Origin, B: Drop, R: Threads + Wait>(
     }
 }
 
-/// The sessions that worked over an engine, and what came of that.
+/// The sessions that worked over an engine, and the outcome.
 pub type Worked<D, J, B, T> = Result<(Vec<Session<D, J, B>>, T), Fault>;
 
-/// The room, once the engine is closed with the sessions that worked, and what came of that.
+/// The room, once the engine is closed with the sessions that worked, and the outcome.
 pub fn ended<D: Pmem + Drop, J: Origin, B: Drop, T: Drop, R: Threads + Wait>(
     rt: &R,
     engine: Engine<D, J, B>,
@@ -204,10 +204,10 @@ pub fn ended<D: Pmem + Drop, J: Origin, B: Drop, T: Drop, R: Threads + Wait>(
     }
 }
 
-/// Lets an engine go that isn't closed: in one place, since each function that drops one itself is long to prove.
+/// Drops an engine that isn't closed: in one place, since each function that drops one itself is long to prove.
 pub fn abandon<D: Pmem + Drop, J: Origin, B: Drop>(_engine: Engine<D, J, B>) {}
 
-/// Lets a room go.
+/// Drops a room.
 pub fn leave<D: Pmem + Drop>(_audited: Audited<D>) {}
 
 /// The device of the room, which is closed.
@@ -228,7 +228,7 @@ pub fn two_sessions<D: Pmem + Drop, J: Origin, B: Drop>(
     Ok((first, second))
 }
 
-/// These sessions as a close takes them.
+/// These sessions as closing takes them.
 pub fn gathered<D: Pmem + Drop, J: Origin, B: Drop, const N: usize>(
     alloc: Global,
     sessions: [Session<D, J, B>; N],

@@ -1,6 +1,6 @@
-//! While the committer is held within a cycle, after each of its ticks, another session works; and while that one is held within
-//! an operation of the device, and so has the room's lock, a reader reads. An engine that makes whole cycles under one lock, one
-//! that has its readers wait for a lock, or one that answers from another device than it was lent, fails this.
+//! While the committer is held within a cycle, after each of its ticks, another session works. While that session is held within
+//! an operation of the device, and so has the room's lock, a reader reads. This fails for an engine that makes whole cycles
+//! under one lock, has its readers wait for a lock, or reads from another device than it was lent.
 ghost use Rattle.std.specs.Prelude.{◌≡◌, IfOk};
 ghost use Rattle.pmem.specs.Words.{IsAtRest, image_of};
 ghost use Rattle.pmem_model.specs.Sim.{device_of};
@@ -24,7 +24,7 @@ use std::sync::{Arc, Wait};
 use std::test::*;
 use std::thread::{Threads, join};
 
-/// A cycle of one line has so many ticks, and the last covers.
+/// A cycle of one line has this many ticks, and the last covers.
 const TICKS: u64 = 42;
 
 /// What the reader's calls return while the room's lock is held.
@@ -88,7 +88,7 @@ fn put_held<D: Pmem + Drop, J: Origin, B: Drop>(
     (session, own)
 }
 
-// Reads while the device is held within an operation. Lets it go on then.
+// Reads while the device is held within an operation, and then lets it go on.
 fn read_beside<J: Origin>(rt: &impl Wait, reader: Reader<J>, signals: &Signals) -> Reading {
     let mut reader = reader;
     signals.operation.wait(rt);
@@ -98,7 +98,7 @@ fn read_beside<J: Origin>(rt: &impl Wait, reader: Reader<J>, signals: &Signals) 
     Reading { row, bounds }
 }
 
-// Works in a second transaction and reads, once the committer is held. Lets it go on then.
+// Works in a second transaction and reads, once the committer is held, and then lets it go on.
 fn work_meanwhile<
     D: Pmem + Drop + Send + Sync,
     J: Origin + Send + Sync,
@@ -122,7 +122,7 @@ fn work_meanwhile<
     (session, Meanwhile { own, read, made })
 }
 
-// A fresh device that counts its operations there.
+// A fresh device that counts its operations in this place.
 fn counted(alloc: Global, signals: &SharedSignals) -> Result<Counting<SimPmem>, Fault>
     ensures { IfOk result (λ counting. IsAtRest (device_of counting.device)) }
 {
@@ -130,7 +130,7 @@ fn counted(alloc: Global, signals: &SharedSignals) -> Result<Counting<SimPmem>, 
     Ok(Counting::new(fresh(alloc, 4, 8)?, signals))
 }
 
-// Commits a row, and calls a second session and a reader within the cycle of that.
+// Commits a row, and calls a second session and a reader within that commit's cycle.
 fn work<
     D: Pmem + Drop + Send + Sync + 'static,
     J: Origin + Send + Sync + 'static,
@@ -183,7 +183,7 @@ fn hold<
     })
 }
 
-// What is seen while the committer of a fresh device is held after so many ticks.
+// What is seen while the committer of a fresh device is held after this many ticks.
 fn seen_by<R: Threads + Wait + Copy + Drop + Send + Sync + 'static>(
     rt: &R,
     alloc: Global,
@@ -204,7 +204,7 @@ fn seen_after<R: Threads + Wait + Copy + Drop + Send + Sync + 'static>(
     seen_by(rt, alloc, ticks, &signals)
 }
 
-// An opening makes 39 operations, a put 10, the stamp one, and each tick but the first one.
+// Opening makes 39 operations, a put 10, the stamp one, and each tick but the first makes one.
 fn expected(ticks: u64) -> Result<Seen, Fault> {
     Ok(Seen {
         opened: 39,

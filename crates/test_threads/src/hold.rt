@@ -13,7 +13,7 @@ const TURNS: u64 = 1_000_000;
 pub struct Hold {
     reached: AtomicBool,
     free: AtomicBool,
-    /// None let it go on in time.
+    /// No other thread let it go on in time.
     late: AtomicBool,
 }
 
@@ -38,7 +38,7 @@ impl Hold {
         self.late.store(true, Ordering::SeqCst);
     }
 
-    /// Says that the place is reached, or won't be.
+    /// Reports that the place is reached, or won't be.
     pub fn reach(&self) {
         self.reached.store(true, Ordering::SeqCst);
     }
@@ -53,7 +53,7 @@ impl Hold {
         }
     }
 
-    /// Lets the thread go on that is held there.
+    /// Lets the thread that is held there go on.
     pub fn free(&self) {
         self.free.store(true, Ordering::SeqCst);
     }
@@ -64,7 +64,7 @@ impl Hold {
     }
 }
 
-/// Holds a worker where it has made so many ticks, or visits.
+/// Holds a worker when it has made this many ticks, or visits.
 #[derive(Drop)]
 pub struct Holding {
     signals: SharedSignals,

@@ -18,7 +18,7 @@ use std::thread::{Threads, yield_now};
 /// How many slots there are: a fourth of them is less than one commit. A round visits each, and ends with one visit more.
 const SLOTS: usize = 3;
 
-/// How often the session reads, which is long enough for a worker that never sleeps.
+/// How often the session reads, which takes long enough to notice a worker that never sleeps.
 const READS: u64 = 2_000;
 
 /// How many steps the workers made.
@@ -93,7 +93,7 @@ fn read_alone<
     Ok((committed, made))
 }
 
-// The same of a fresh device.
+// The same for a fresh device.
 fn made_alone<R: Threads + Wait + Copy + Drop + Send + Sync + 'static>(
     rt: &R,
     alloc: Global,

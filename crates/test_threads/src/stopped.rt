@@ -1,4 +1,4 @@
-//! A committer that stops at once: sessions draw until the window is full, and a close covers what is drawn. And a collector
+//! A committer that stops at once: sessions draw until the window is full, and closing covers what is drawn. And a collector
 //! that is held in the middle of a sweep while a session commits.
 ghost use Rattle.std.specs.Prelude.{◌≡◌, IfOk};
 ghost use Rattle.pmem.specs.Words.{IsAtRest, image_of};
@@ -27,7 +27,7 @@ use std::thread::Threads;
 /// How many sessions there are, of which the last finds the window full.
 const SESSIONS: u64 = 5;
 
-/// What an opening finds: the numbers of the ruling record, how many rows there are, and the first one.
+/// What opening finds: the numbers of the ruling record, how many rows there are, and the first one.
 #[derive(Clone, Copy, Debug, PartialEq, Eq)]
 struct Found {
     gate: u64,
@@ -38,7 +38,7 @@ struct Found {
     first: Option<Row>,
 }
 
-// Has a session put a row and prepare. Does it draw this timestamp, or find the window full where that is 5?
+// Has a session put a row and prepare. Does it draw this timestamp, or find the window full if that is 5?
 fn draws<D: Pmem + Drop, J: Origin, B: Drop>(
     rt: &impl Wait,
     session: &mut Session<D, J, B>,
@@ -51,7 +51,7 @@ fn draws<D: Pmem + Drop, J: Origin, B: Drop>(
     })
 }
 
-// A session that draws so.
+// A session that draws in this way.
 fn drawn<D: Pmem + Drop, J: Origin, B: Drop>(
     rt: &impl Wait,
     engine: &Engine<D, J, B>,
@@ -114,7 +114,7 @@ fn first_of(rows: &[(Key, Row)]) -> Option<Row> {
     }
 }
 
-// What an opening of the device finds.
+// What opening the device finds.
 fn found_in<D: Pmem + Drop + Send + Sync, R: Threads + Sync>(
     rt: &R,
     alloc: Global,
@@ -128,12 +128,12 @@ fn found_in<D: Pmem + Drop + Send + Sync, R: Threads + Sync>(
     found
 }
 
-// What an opening finds of what is left of the device.
+// What opening finds in what is left of the device.
 fn open_again<R: Threads + Sync>(rt: &R, alloc: Global, device: &SimPmem) -> Result<Found, Fault> {
     found_in(rt, alloc, restarted(alloc, device)?)
 }
 
-// What an opening finds after a life in which sessions of a fresh device drew and a close covered that.
+// What opening finds after a life in which sessions of a fresh device drew and closing covered that.
 fn found_drawn<R: Threads + Wait + Copy + Drop + Send + Sync + 'static>(
     rt: &R,
     alloc: Global,
@@ -145,7 +145,7 @@ fn found_drawn<R: Threads + Wait + Copy + Drop + Send + Sync + 'static>(
 #[test]
 fn a_close_covers_what_no_committer_does(rt: HostRuntime) -> Result<(), Fail> {
     let found = found_drawn(&rt, rt.alloc())?;
-    // The close wrote record 3, with 4 and 5, and the opening adds the window.
+    // Closing wrote record 3, with 4 and 5, and opening adds the window.
     let covered = Found {
         gate: 4,
         persisted: 4,
@@ -158,7 +158,7 @@ fn a_close_covers_what_no_committer_does(rt: HostRuntime) -> Result<(), Fail> {
     Ok(())
 }
 
-// The device after a life that is only an opening, and ends without a close.
+// The device after a life that only opens it, and ends without closing.
 fn left_open<D: Pmem + Drop + Send + Sync, R: Threads + Sync>(
     rt: &R,
     alloc: Global,
@@ -170,7 +170,7 @@ fn left_open<D: Pmem + Drop + Send + Sync, R: Threads + Sync>(
     Ok(audited.into_room().into_device())
 }
 
-// A fresh device whose first life ended without a close, so that its next one has a gap.
+// A fresh device whose first life ended without closing, so that its next one has a gap.
 fn with_gap<R: Threads + Sync>(rt: &R, alloc: Global) -> Result<SimPmem, Fault>
     ensures { IfOk result (λ device. IsAtRest (device_of device)) }
 {
@@ -186,7 +186,7 @@ struct Meanwhile {
     committed: Option<u64>,
 }
 
-/// The same, whether the collector was held until its turns were over, and the rows that an opening finds then.
+/// The same, whether the collector was held until its turns were over, and the rows that opening then finds.
 #[derive(Clone, Copy, Debug, PartialEq, Eq)]
 struct Held {
     meanwhile: Meanwhile,
@@ -211,7 +211,7 @@ fn read_and_commit<D: Pmem + Drop, J: Origin, B: Drop>(
     })
 }
 
-// Does so while the collector is held, and lets it go on then.
+// Does that while the collector is held, and then lets it go on.
 fn work_meanwhile<D: Pmem + Drop, J: Origin, B: Drop>(
     rt: &impl Wait,
     session: &mut Session<D, J, B>,
@@ -225,7 +225,7 @@ fn work_meanwhile<D: Pmem + Drop, J: Origin, B: Drop>(
     meanwhile
 }
 
-// The same with a session and a reader of this engine.
+// The same for a session and a reader of this engine.
 fn work<D: Pmem + Drop, J: Origin, B: Drop>(
     rt: &impl Wait,
     alloc: Global,
@@ -261,7 +261,7 @@ fn hold_collector<
     Ok((shut(audited)?, meanwhile))
 }
 
-// The same of a device with a gap, and after so many visits.
+// The same for a device with a gap, and after this many visits.
 fn hold_after<R: Threads + Wait + Copy + Drop + Send + Sync + 'static>(
     rt: &R,
     alloc: Global,
@@ -287,7 +287,7 @@ fn held_of(
     })
 }
 
-// What is seen of such a life, and of the opening after it.
+// What is seen of such a life, and when the device is opened after it.
 fn held_by<R: Threads + Wait + Copy + Drop + Send + Sync + 'static>(
     rt: &R,
     alloc: Global,

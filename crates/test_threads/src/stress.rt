@@ -1,5 +1,5 @@
-//! Sessions on as many threads as there are cores add to three numbers, so that they conflict, and a second life goes on with
-//! that. The rows hold just what was acknowledged.
+//! Sessions on as many threads as there are cores add to three numbers, so that they conflict, and a second life goes on from
+//! there. The rows hold exactly what was acknowledged.
 ghost use Rattle.std.specs.Prelude.{◌≡◌};
 ghost use Rattle.pmem.specs.Words.{IsAtRest, image_of};
 ghost use Rattle.pmem_model.specs.Sim.{device_of};
@@ -30,7 +30,7 @@ const TRIES: u64 = 100_000;
 /// How often each transaction reads its number again.
 const READS: u64 = 16;
 
-/// Of three numbers, which stand at the keys 0 to 2.
+/// Counts of three numbers, which are at the keys 0 to 2.
 type Counts = [u64; 3];
 
 /// What a thread knows of a number.
@@ -49,7 +49,7 @@ struct Adder<D: Pmem, J: Origin, B: Drop> {
     counts: Result<Counts, Fault>,
 }
 
-/// What a life came to: how many commits were acknowledged, and what the rows hold at its end.
+/// The outcome of a life: how many commits were acknowledged, and what the rows hold at its end.
 #[derive(Clone, Copy)]
 struct Life {
     acknowledged: Counts,
@@ -71,7 +71,7 @@ fn read_number<D: Pmem + Drop, J: Origin, B: Drop>(
     Ok(number)
 }
 
-// Begins a transaction that adds one to the number at the key. The sum.
+// Begins a transaction that adds one to the number at the key, and returns the sum.
 fn put_one_more<D: Pmem + Drop, J: Origin, B: Drop>(
     rt: &impl Wait,
     session: &mut Session<D, J, B>,
@@ -105,7 +105,7 @@ fn add_one<D: Pmem + Drop, J: Origin, B: Drop>(
     Ok(())
 }
 
-// Gives up what is open, if this fault may be over at the next try.
+// Rolls back what is open, if this fault may be over at the next try.
 fn give_up<D: Pmem + Drop, J: Origin, B: Drop>(
     rt: &impl Wait,
     session: &mut Session<D, J, B>,
@@ -156,7 +156,7 @@ fn add_all<D: Pmem + Drop, J: Origin, B: Drop>(
     Ok([first.acknowledged, second.acknowledged, third.acknowledged])
 }
 
-// What both count.
+// The sums of both counts.
 fn sums(one: Counts, other: Counts) -> Counts {
     [
         one[0].saturating_add(other[0]),
@@ -195,7 +195,7 @@ fn sessions<D: Pmem + Drop, J: Origin, B: Drop, R: Threads + Wait>(
     Ok(sessions)
 }
 
-// What they count together.
+// The sums of all their counts.
 fn sum_of<D: Pmem + Drop, J: Origin, B: Drop>(adders: &[Adder<D, J, B>]) -> Result<Counts, Fault> {
     let mut all = [0; 3];
     for adder in adders {
@@ -230,7 +230,7 @@ fn numbers_in(rows: &[(Key, Row)]) -> Result<Counts, Fault> {
     Ok(held)
 }
 
-// Adds in all threads. The sessions, and how many of their commits were acknowledged.
+// Adds in all threads. Returns the sessions, and how many of their commits were acknowledged.
 fn work_all<
     D: Pmem + Drop + Send + Sync + 'static,
     J: Origin + Send + Sync + 'static,
@@ -277,7 +277,7 @@ fn live<
     Ok((shut(audited)?, life_of(acknowledged, held)))
 }
 
-// The same, of a history of its own.
+// The same, with a history of its own.
 fn lived<R: Threads + Wait + Copy + Drop + Send + Sync + 'static>(
     rt: &R,
     alloc: Global,

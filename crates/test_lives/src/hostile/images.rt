@@ -18,20 +18,20 @@ use std::thread::Threads;
 /// Words and their values.
 type Changes = &'static [(usize, u64)];
 
-/// What a check and an opening say of an image.
+/// What checking and opening report of an image.
 #[derive(Clone, Copy)]
 enum Answer {
-    /// Both find this damaged.
+    /// Both find it damaged in this way.
     Damaged(u64),
-    /// It is sound, has so many rows, and opens.
+    /// It is sound, has this many rows, and opens.
     Rows(usize),
-    /// It is sound, and an opening finds no timestamps left.
+    /// It is sound, and opening finds no timestamps left.
     NoTimestamps,
 }
 
 use Answer::{Damaged, NoTimestamps, Rows};
 
-/// The fault that a check finds, the one that an opening finds, and how many rows both find.
+/// The fault that checking finds, the one that opening finds, and how many rows both find.
 type Found = (Option<Fault>, Option<Fault>, usize);
 
 fn found_as(answer: Answer) -> Found {
@@ -85,7 +85,7 @@ const OF_FIRST_COMMIT: &[(Changes, Answer)] = &[
     (&[(80, 1), (82, 7), (83, 131_073), (84, 25_185)], Damaged(3)),
 ];
 
-// That image under a record with twelve long commits, 2 to 13, of which each leaves its number in the word that it has.
+// That image under a record with twelve long commits, 2 to 13, each of which leaves its number in its word.
 const LONG_COMMITS: Changes = &[
     (41, 14),
     (42, 15),
@@ -181,7 +181,7 @@ fn change(words: &mut [u64], changes: Changes) {
     }
 }
 
-/// Each change of the tables, by a check and by an opening.
+/// Each change of the tables, checked and opened.
 pub fn change_each<R: Threads + Sync>(rt: &R, alloc: Global) -> Result<Counts, Fault> {
     let mut counts = Counts::none();
     for (version, first, table) in TABLES {
@@ -210,7 +210,7 @@ fn change_table<R: Threads + Sync>(
     Ok(())
 }
 
-// Checks the words, and opens them. Other rows are a fault of the opening.
+// Checks the words, and opens them. If the rows differ, opening is reported as faulty.
 fn found_in<R: Threads + Sync>(rt: &R, alloc: Global, words: &[u64]) -> Found {
     let opened = opened_rows(rt, alloc, words);
     match check(rt, alloc, words) {
@@ -219,7 +219,7 @@ fn found_in<R: Threads + Sync>(rt: &R, alloc: Global, words: &[u64]) -> Found {
     }
 }
 
-// What an opening found, beside the rows of a check.
+// What opening found, next to the rows of a check.
 fn found_beside(checked: &[(Key, Row)], opened: Result<(u64, Vec<(Key, Row)>), Fault>) -> Found {
     match opened {
         Ok((_, rows)) => {
@@ -263,7 +263,7 @@ fn value(chance: &mut Pcg32) -> u64 {
     }
 }
 
-/// Changes at random of this image, of so many words at most, by so many numbers that begin with the seed.
+/// Random changes of this image: this many times, of this many words at most, with random numbers from this seed.
 pub fn change_at_random<R: Threads + Sync>(
     rt: &R,
     alloc: Global,
@@ -283,7 +283,7 @@ pub fn change_at_random<R: Threads + Sync>(
     Ok(())
 }
 
-/// Judges words: a check and an opening say the same of them, and what opens is used. Are they sound?
+/// Judges words: checking and opening report the same of them, and what opens is used. Are they sound?
 pub fn judge_words<R: Threads + Sync>(
     rt: &R,
     alloc: Global,
@@ -297,7 +297,7 @@ pub fn judge_words<R: Threads + Sync>(
     found.0.is_none()
 }
 
-// Changes one word, or up to so many.
+// Changes one word, or up to this many.
 fn change_some(words: &mut [u64], chance: &mut Pcg32, most: u32) {
     for _ in 0..1 + chance.next_word() % most.max(1) {
         let at = chance.next_word() as usize % words.len().max(1);
@@ -307,7 +307,7 @@ fn change_some(words: &mut [u64], chance: &mut Pcg32, most: u32) {
     }
 }
 
-// What is sound opens, limits of numbers aside, and nothing else does, for the same reason.
+// A sound image opens, limits of numbers aside. No other does, for the fault that the check finds.
 fn are_alike(found: Found) -> bool {
     match found {
         (None, opened, _) => matches!(opened, None | Some(Fault::TimestampsOut)),
@@ -315,7 +315,7 @@ fn are_alike(found: Found) -> bool {
     }
 }
 
-// What opens takes a commit and a close, limits of slots and numbers aside, and is opened once more.
+// An image that opens takes a commit and is closed, limits of slots and numbers aside, and is opened once more.
 fn is_usable<R: Threads + Sync>(rt: &R, alloc: Global, words: &[u64]) -> bool {
     match used(rt, alloc, words) {
         Ok(kept) => kept,
@@ -347,7 +347,7 @@ fn committed(room: Room<SimPmem>, steps: &[Step]) -> Result<Room<SimPmem>, Fault
     }
 }
 
-// Makes the steps up to the one that is refused. Why it is, if one is.
+// Makes the steps up to the one that is refused, and returns the reason, if one is.
 fn refusal_of(room: &mut Room<SimPmem>, steps: &[Step]) -> Option<Fault> {
     for step in steps {
         if let Reply::Refused(fault) = room.step(*step) {
@@ -367,7 +367,7 @@ fn closed_and_opened<R: Threads + Sync>(
     are_kept(rt, alloc, &rows?, &words?)
 }
 
-// Does an opening of the words find these rows, and that of the commit among them?
+// Does opening the words find these rows, and that of the commit among them?
 fn are_kept<R: Threads + Sync>(
     rt: &R,
     alloc: Global,
@@ -378,7 +378,7 @@ fn are_kept<R: Threads + Sync>(
     Ok(has_commit(rows) && rows == again.as_slice())
 }
 
-// The words that a close leaves.
+// The words that closing leaves.
 fn closed_words(room: Room<SimPmem>) -> Result<Vec<u64>, Fault> {
     match room.close() {
         Ok(device) => device.image(),
@@ -396,7 +396,7 @@ fn has_commit(rows: &[(Key, Row)]) -> bool {
     false
 }
 
-/// The words of the fresh image, with the first commit where that is asked.
+/// The words of the fresh image, with the first commit if that is asked.
 pub fn sound_words(alloc: Global, commits: bool) -> Result<Vec<u64>, Fault> {
     let mut words = formatted(alloc, 2, 4)?;
     if commits {

@@ -9,7 +9,7 @@ use room::Room;
 use std::alloc::Global;
 use std::thread::Threads;
 
-/// What was looked at, and what was found amiss.
+/// What was looked at, and what was found to be wrong.
 #[derive(Clone, Copy)]
 pub struct Counts {
     pub stops: u64,
@@ -17,7 +17,8 @@ pub struct Counts {
     pub openings: u64,
     /// Images that lack what was acknowledged.
     pub lost: u64,
-    /// Images that hold what they mustn't, or don't open, or of which a check reports another thing; and stops with other numbers.
+    /// Images that hold what they mustn't, or don't open, or of which a check reports something else; and stops with other
+    /// numbers.
     pub wrong: u64,
 }
 
@@ -41,7 +42,7 @@ impl Counts {
         }
     }
 
-    /// One more is wrong, unless this holds.
+    /// Counts one more as wrong, unless this holds.
     pub fn expect(&mut self, holds: bool) {
         if !holds {
             self.wrong = self.wrong.saturating_add(1);
@@ -49,7 +50,7 @@ impl Counts {
     }
 }
 
-/// Judges an image that a crash may leave: a check and an opening find the same rows, which are one of the tables.
+/// Judges an image that a crash may leave: checking and opening find the same rows, which are one of the tables.
 pub fn judge<R: Threads + Sync>(
     rt: &R,
     alloc: Global,
@@ -69,7 +70,7 @@ pub fn judge<R: Threads + Sync>(
     }
 }
 
-// The rows that an opening of the words finds, and a check too.
+// The rows that opening the words finds, and a check too.
 fn rows_of<R: Threads + Sync>(
     rt: &R,
     alloc: Global,

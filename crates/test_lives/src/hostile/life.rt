@@ -12,9 +12,9 @@ use std::thread::Threads;
 /// Which operations of a life fail.
 #[derive(Clone, Copy)]
 pub enum Failing {
-    /// All after so many.
+    /// All after this many.
     After(u64),
-    /// The one after so many.
+    /// The one after this many.
     Once(u64),
 }
 
@@ -24,7 +24,7 @@ pub struct Left {
     pub device: SimPmem,
     /// How many records were acknowledged as covering.
     pub acknowledged: usize,
-    /// Did a step that was refused find the next one refused too?
+    /// Was a step refused, and the next one too?
     pub failed: bool,
 }
 
@@ -36,7 +36,7 @@ pub fn operations(device: &SimPmem) -> u64 {
         .saturating_add(made.fences)
 }
 
-/// The room of the device, which is to be at rest, or the fault with the device.
+/// The room of the device, which has to be at rest, or the fault with the device.
 pub fn opened<R: Threads + Sync>(
     rt: &R,
     alloc: Global,
@@ -49,11 +49,11 @@ pub fn opened<R: Threads + Sync>(
     }
 }
 
-/// Lets a room go: in one place, since each function that drops a room itself is long to prove.
+/// Drops a room: in one place, since each function that drops a room itself is long to prove.
 pub fn leave(_room: Room<SimPmem>) {}
 
-/// Opens a device with these words of which so many operations succeed, makes the steps up to the one that is refused, and
-/// closes the room where that is asked.
+/// Opens a device with these words on which only this many operations succeed, makes the steps up to the one that is refused,
+/// and closes the room if that is asked.
 pub fn live<R: Threads + Sync>(
     rt: &R,
     alloc: Global,
@@ -87,7 +87,7 @@ fn failing_device(
     Ok(device)
 }
 
-// Makes the steps up to the one that is refused. Without one the room is closed where that is asked.
+// Makes the steps up to the one that is refused. If none is, the room is closed if that is asked.
 fn run(room: Room<SimPmem>, steps: &[Step], closes: bool) -> Left {
     let mut room = room;
     match make_each(&mut room, steps) {
@@ -100,7 +100,7 @@ fn run(room: Room<SimPmem>, steps: &[Step], closes: bool) -> Left {
     }
 }
 
-// How many records were acknowledged, and the fault of the step that was refused, if one was. That one is made again: where it
+// How many records were acknowledged, and the fault of the step that was refused, if one was. That step is made again: if it
 // doesn't find that the device failed, the fault is another one.
 fn make_each(room: &mut Room<SimPmem>, steps: &[Step]) -> (usize, Option<Fault>) {
     let mut acknowledged: usize = 0;
@@ -121,7 +121,7 @@ fn fault_again(room: &mut Room<SimPmem>, step: Step, fault: Fault) -> Fault {
     }
 }
 
-// A close is acknowledged as a record more.
+// Closing is acknowledged as one more record.
 fn closed(room: Room<SimPmem>, acknowledged: usize) -> Left {
     match room.close() {
         Ok(device) => Left {
@@ -137,7 +137,7 @@ fn closed(room: Room<SimPmem>, acknowledged: usize) -> Left {
     }
 }
 
-/// The words of a fresh device of this version with so many slots, 2 places and a window of 8.
+/// The words of a fresh device of this version with this many slots, 2 places and a window of 8.
 pub fn formatted(alloc: Global, version: u64, slots: u64) -> Result<Vec<u64>, Fault> {
     fresh_words(alloc, Geometry::of_version(version, slots, 2, 8)?)
 }

@@ -1,4 +1,4 @@
-//! A board that says what its writer and a reader are answered. Where an allocation is refused, by who runs the program, the
+//! A board that prints what its writer's and a reader's calls return. If the caller of the program refuses an allocation, the
 //! call is made once more.
 ghost use Rattle.std.specs.Prelude.{◌≡◌};
 
@@ -16,7 +16,7 @@ use std::sync::Wait;
 
 const KEY: Key = Key { table: 1, key: 7 };
 
-/// Opens a board, where memory is wanting once more, and publishes two commits on it.
+/// Opens a board, once more if memory is missing, and publishes two commits on it.
 pub fn publish<H: Print + Wait>(rt: &H, alloc: Global) -> Result<(), Error> {
     println!(rt; "run board")?;
     if publish_on::<Brand, H>(rt, alloc, History::new())? {
@@ -145,7 +145,7 @@ fn commits(alloc: Global, timestamp: u64, row: Row) -> Result<Vec<Commit>, Alloc
     Ok(Vec::from_array(alloc, [Commit::new(timestamp, writes)])?)
 }
 
-// Publishes one more commit. Where memory is wanting it is published again, or flushed where it waits.
+// Publishes one more commit. If memory is missing it is published again, or flushed if it waits.
 fn publish_next<J: Naming, H: Print + Wait>(
     rt: &H,
     alloc: Global,
@@ -160,7 +160,7 @@ fn publish_next<J: Naming, H: Print + Wait>(
     say_published(rt, board)
 }
 
-// Offers the batch, and where memory is wanting once more. Is it published? Else it waits.
+// Offers the batch, and once more if memory is missing. Is it published? If not, it waits.
 fn is_published<J: Naming, H: Print + Wait>(
     rt: &H,
     board: &mut Board<J, &H>,
@@ -187,7 +187,7 @@ fn say_published<J: Naming, H: Print + Wait>(rt: &H, board: &Board<J, &H>) -> Re
     Ok(())
 }
 
-// Publishes the batch. Where memory is wanting it comes back, unless it waits.
+// Publishes the batch. If memory is missing it comes back, unless it waits.
 fn offer<J: Naming, H: Wait>(
     board: &mut Board<J, &H>,
     batch: Batch,
@@ -201,7 +201,7 @@ fn offer<J: Naming, H: Wait>(
     }
 }
 
-// Prunes to what is published last. Where memory is wanting it does so once more.
+// Prunes to what is published last, and once more if memory is missing.
 fn prune<J: Naming, H: Print + Wait>(rt: &H, board: &mut Board<J, &H>) -> Result<(), Error> {
     let stamp = board.token().stamp();
     if board.prune(stamp).is_err() {

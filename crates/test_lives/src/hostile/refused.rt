@@ -1,4 +1,4 @@
-//! Runs of lives that say each reply. Where an allocation is refused, by who runs the program, the call is made once more.
+//! Runs of lives that print each reply. If the caller of the program refuses an allocation, the call is made once more.
 use crate::hostile::life::{crashed_words, fresh_words, leave, opened};
 use crate::hostile::runs::Run;
 use anyhow::Error;
@@ -18,8 +18,8 @@ const STORES: u64 = 1_000;
 
 type Opened = Result<Room<SimPmem>, (Fault, SimPmem)>;
 
-/// Lives the lives of the run, and says what each opening shows and each step is answered. The device has the memory for its
-/// stores where that is asked; else one that finds none fails, and the run ends with what an opening finds then.
+/// Runs the lives, and prints what each opening shows and each step's reply. The device has the memory for its stores if
+/// that is asked. Otherwise one that finds none fails, and the run ends with what the next opening finds.
 pub fn live_run<H: Print + Threads + Sync>(
     rt: &H,
     alloc: Global,
@@ -83,7 +83,7 @@ fn device_of(alloc: Global, words: &[u64], reserved: bool) -> Result<SimPmem, Fa
     Ok(device)
 }
 
-// A life of the device, up to a step in which it fails. What is left of it, and whether it failed.
+// A life of the device, up to a step in which it fails. Returns what is left of it, and whether it failed.
 fn live_once<H: Print + Threads + Sync>(
     rt: &H,
     alloc: Global,
@@ -99,7 +99,7 @@ fn live_once<H: Print + Threads + Sync>(
     }
 }
 
-// A life in this room. What is left of its device, and whether that failed.
+// A life in this room. Returns what is left of its device, and whether that failed.
 fn live_in<H: Print>(rt: &H, room: Room<SimPmem>, life: Life) -> Result<(SimPmem, bool), Error> {
     let mut room = room;
     match say_and_make(rt, &mut room, life) {
@@ -111,14 +111,14 @@ fn live_in<H: Print>(rt: &H, room: Room<SimPmem>, life: Life) -> Result<(SimPmem
     }
 }
 
-// Says what is there, and makes what is asked for: did the device fail?
+// Prints what is there, and makes what is asked for: did the device fail?
 fn say_and_make<H: Print>(rt: &H, room: &mut Room<SimPmem>, life: Life) -> Result<bool, Error> {
     say_status(rt, &room.status())?;
     say_tables(rt, room)?;
     make_each(rt, room, life)
 }
 
-// Opens the device, and where memory is wanting once more.
+// Opens the device, and once more if memory is missing.
 fn open_twice<H: Print + Threads + Sync>(
     rt: &H,
     alloc: Global,
@@ -145,7 +145,7 @@ fn say_status<H: Print>(rt: &H, status: &Status) -> Result<(), Error> {
     Ok(())
 }
 
-// Says the rows of all tables. Where memory is wanting they are asked for once more.
+// Prints the rows of all tables. If memory is missing they are read once more.
 fn say_tables<H: Print>(rt: &H, room: &Room<SimPmem>) -> Result<(), Error> {
     match room.tables() {
         Ok(rows) => say_rows(rt, &rows),
@@ -163,7 +163,7 @@ fn say_rows<H: Print>(rt: &H, rows: &[(Key, Row)]) -> Result<(), Error> {
     Ok(())
 }
 
-// Makes what is asked for, up to what finds the device failing: did it fail?
+// Makes what is asked for, up to the step that finds the device failing: did it fail?
 fn make_each<H: Print>(rt: &H, room: &mut Room<SimPmem>, life: Life) -> Result<bool, Error> {
     for ask in life.iter().copied().flatten() {
         let step = step_of(*ask)?;
@@ -175,7 +175,7 @@ fn make_each<H: Print>(rt: &H, room: &mut Room<SimPmem>, life: Life) -> Result<b
     Ok(false)
 }
 
-// Makes the step as often as is asked for, up to where the device fails: did it fail?
+// Makes the step as often as is asked for, up to a failure of the device: did it fail?
 fn make_often<H: Print>(
     rt: &H,
     room: &mut Room<SimPmem>,
@@ -192,7 +192,7 @@ fn make_often<H: Print>(
     Ok(false)
 }
 
-// Makes the step, and where memory is wanting once more.
+// Makes the step, and once more if memory is missing.
 fn make_twice<H: Print>(
     rt: &H,
     room: &mut Room<SimPmem>,
@@ -207,7 +207,7 @@ fn make_twice<H: Print>(
     Ok(reply)
 }
 
-// Says what is answered. Of the ticks of a cycle the first and the last alone are printed.
+// Prints the reply. Of the ticks of a cycle only the first and the last are printed.
 fn say<H: Print>(rt: &H, ask: Ask, reply: &Reply) -> Result<(), Error> {
     match reply {
         Reply::Row(Some(row)) => println!(rt; "{ask:?}: row {:?}", row.as_bytes())?,

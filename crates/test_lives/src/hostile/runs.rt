@@ -2,7 +2,7 @@ use asks::Ask::{Abort, Begin, Collect, Commit, Delete, Draw, End, Get, Poll, Put
 use asks::{LOST_UPDATE, ONE_LINE_COVERED, Past};
 
 /// Lives of one device of 2 places, in any of which an allocation may be refused. Each ends in a crash that leaves the newest
-/// values, or the oldest where that is said.
+/// values, or the oldest if that is named.
 pub struct Run {
     pub name: &'static str,
     pub slots: u64,

@@ -1,4 +1,4 @@
-//! Images whose slots hold words at random, under a record that persists timestamps up to 2^60 and reserves them up to 2^61.
+//! Images whose slots hold random words, under a record that persists timestamps up to 2^60 and reserves them up to 2^61.
 use crate::hostile::images::judge_words;
 use crate::hostile::judge::Counts;
 use crate::hostile::life::formatted;
@@ -17,7 +17,7 @@ const PERSISTED: usize = 41;
 
 const DIRTY: usize = 42;
 
-/// Judges so many images. How many of them are sound?
+/// Judges this many images. How many of them are sound?
 pub fn fill_at_random<R: Threads + Sync>(
     rt: &R,
     alloc: Global,
@@ -72,7 +72,7 @@ fn fill(words: &mut [u64], at: usize, chance: &mut Pcg32) {
     }
 }
 
-// 0, one that is persisted, one that is reserved, or seldom one that is neither.
+// 0, one that is persisted, one that is reserved, or rarely one that is neither.
 fn timestamp(chance: &mut Pcg32) -> u64 {
     let any = any(chance);
     match any % 16 {
@@ -84,7 +84,7 @@ fn timestamp(chance: &mut Pcg32) -> u64 {
     }
 }
 
-// A table, this length and the slot of the version before it. Seldom any word.
+// A table, this length and the slot of the version before it. Rarely any word.
 fn meta(chance: &mut Pcg32, length: u64) -> u64 {
     let any = any(chance);
     match any % 64 {

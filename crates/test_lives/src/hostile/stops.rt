@@ -9,11 +9,11 @@ use pmem_model::{Choice, SimPmem};
 use std::alloc::Global;
 use std::thread::Threads;
 
-// Where more words than this have several survivors, each of them alone is the oldest or the newest.
+// If more words than this have several survivors, each of them alone is the oldest or the newest.
 const MOST_WORDS: usize = 10;
 
-// After each number of operations that this divides, the openings of the oldest and the newest image are stopped too, where
-// a story doesn't ask for those of all.
+// After each number of operations that this divides, opening the oldest and the newest image is stopped too, unless a story
+// asks for that with all images.
 const REOPENED: u64 = 10;
 
 /// Lets the story's life stop after each number of operations, and each one operation fail.
@@ -32,7 +32,7 @@ pub fn stop_each<R: Threads + Sync>(
     Ok(())
 }
 
-// Lets the life stop after so many operations, and the one after them fail.
+// Lets the life stop after this many operations, and the one after them fail.
 fn stop_at<R: Threads + Sync>(
     rt: &R,
     alloc: Global,
@@ -45,7 +45,7 @@ fn stop_at<R: Threads + Sync>(
     stop_once(rt, alloc, entry, life, (Failing::Once(made), made), counts)
 }
 
-// Lets the life stop, which makes so many operations, and judges what it may leave.
+// Lets the life, which makes this many operations, stop, and judges what it may leave.
 fn stop_once<R: Threads + Sync>(
     rt: &R,
     alloc: Global,
@@ -65,7 +65,7 @@ fn stop_once<R: Threads + Sync>(
     judge_stop(rt, alloc, (entry, made), &left.device, &allowed, counts)
 }
 
-// Judges what a stop after so many operations may leave, and the openings of it that are stopped too.
+// Judges what a stop after this many operations may leave, and what stops during the next opening may.
 fn judge_stop<R: Threads + Sync>(
     rt: &R,
     alloc: Global,
@@ -93,7 +93,7 @@ fn judge_each<R: Threads + Sync>(
     }
 }
 
-// The images of which the opening is stopped too: each one of these where the story asks for that, or two, or none.
+// The images during whose opening there are stops too: each of these if the story asks for that, or two, or none.
 fn opened_again(
     alloc: Global,
     reopens: bool,
@@ -140,7 +140,7 @@ fn push<T: Drop>(items: &mut Vec<T>, item: T) -> Result<(), Fault> {
     }
 }
 
-// Those of the tables that a life may leave of whose records so many rule, at least and at most. That of the opening has
+// The tables that a life may leave when this many of its records rule, at least and at most. The record of the opening has
 // none of its own.
 fn allowed_after(tables: &[Table], ruling: (usize, usize), acknowledged: usize) -> Allowed<'_> {
     let (least, most) = ruling;
@@ -166,7 +166,7 @@ fn open_all<R: Threads + Sync>(
     Ok(())
 }
 
-// Stops an opening of the image after each number of operations, and judges what is left.
+// Opens the image with a stop after each number of operations, and judges what is left.
 fn open_each<R: Threads + Sync>(
     rt: &R,
     alloc: Global,
@@ -181,7 +181,7 @@ fn open_each<R: Threads + Sync>(
     Ok(())
 }
 
-// How many operations an opening of the image makes. Without a sweep it makes 39.
+// How many operations opening the image makes. Without a sweep it makes 39.
 fn opening_of<R: Threads + Sync>(
     rt: &R,
     alloc: Global,
@@ -195,7 +195,7 @@ fn opening_of<R: Threads + Sync>(
     Ok(made)
 }
 
-// Stops an opening of the image after so many operations, and judges what is left.
+// Opens the image with a stop after this many operations, and judges what is left.
 fn open_once<R: Threads + Sync>(
     rt: &R,
     alloc: Global,
@@ -217,7 +217,7 @@ fn open_once<R: Threads + Sync>(
     Ok(())
 }
 
-// Each image that a crash may leave where few words have several survivors, and else some.
+// Each image that a crash may leave if few words have several survivors, and otherwise some.
 fn images_of(alloc: Global, device: &SimPmem) -> Result<Vec<Vec<u64>>, Fault> {
     let several = with_several(alloc, device)?;
     if several.len() > MOST_WORDS {
@@ -236,7 +236,7 @@ fn all_images(alloc: Global, device: &SimPmem, several: &[usize]) -> Result<Vec<
     Ok(images)
 }
 
-// What is left of all words the oldest or the newest value, and of each alone the other one.
+// What is left with the oldest or the newest value of all words, and the other one of each word alone.
 fn images_apart(
     alloc: Global,
     device: &SimPmem,
@@ -249,7 +249,7 @@ fn images_apart(
     Ok(images)
 }
 
-// The images of which this word alone is the newest, and the oldest.
+// The images in which this word alone is the newest, and the oldest.
 fn push_apart(
     alloc: Global,
     images: &mut Vec<Vec<u64>>,
@@ -304,7 +304,7 @@ fn numbered(
     Ok(Choice::Each(numbers))
 }
 
-// Of one word the newest value and of all others the oldest, or the other way round.
+// The newest value of one word and the oldest of all others, or the other way around.
 fn apart(alloc: Global, device: &SimPmem, word: usize, newest: bool) -> Result<Choice, Fault> {
     let mut numbers = Vec::new(alloc);
     for other in 0..device.words() {

@@ -3,7 +3,7 @@ ghost use Rattle.std.specs.Prelude.{◌≤◌, ◌<◌};
 use rand_core::utils::NextWord;
 use rand_pcg::Pcg32;
 
-/// Numbers at random, the same again from the same seed.
+/// Random numbers, the same from the same seed.
 #[derive(Drop)]
 pub struct Chance {
     generator: Pcg32,

@@ -10,7 +10,7 @@ use room::Room;
 use std::alloc::Global;
 use std::thread::Threads;
 
-/// The room of a device, which is to be at rest, or the fault with the device.
+/// The room of a device, which has to be at rest, or the fault with the device.
 pub fn opened<R: Threads + Sync>(
     rt: &R,
     alloc: Global,
@@ -44,7 +44,7 @@ pub fn reopened<R: Threads + Sync>(
     room_of(rt, alloc, device.crash(&Choice::Oldest)?)
 }
 
-/// The gate that an opening of the device leaves.
+/// The gate that opening the device leaves.
 pub fn gate_of<R: Threads + Sync>(rt: &R, alloc: Global, device: &SimPmem) -> Result<u64, Fault> {
     let room = reopened(rt, alloc, device)?;
     Ok(last_gate(room))
@@ -54,10 +54,10 @@ fn last_gate(room: Room<SimPmem>) -> u64 {
     room.status().gate
 }
 
-/// Lets a room go: in one place, since each function that drops a room itself is long to prove.
+/// Drops a room: in one place, since each function that drops a room itself is long to prove.
 pub fn leave(_room: Room<SimPmem>) {}
 
-/// What an opening leaves that is stopped after so many operations, if it makes as many.
+/// What is left if opening is stopped after this many operations, if it makes as many.
 pub fn left_by_opening<R: Threads + Sync>(
     rt: &R,
     alloc: Global,
@@ -73,7 +73,7 @@ pub fn left_by_opening<R: Threads + Sync>(
     }
 }
 
-/// The device that a close leaves.
+/// The device that closing leaves.
 pub fn closed(room: Room<SimPmem>) -> Result<SimPmem, Fault> {
     match room.close() {
         Ok(device) => device.crash(&Choice::Oldest),
@@ -81,7 +81,7 @@ pub fn closed(room: Room<SimPmem>) -> Result<SimPmem, Fault> {
     }
 }
 
-/// The device after a crash that leaves of each word any value that may have survived.
+/// The device after a crash that leaves any value of each word that may have survived.
 pub fn crashed(alloc: Global, device: SimPmem, chance: &mut Chance) -> Result<SimPmem, Fault> {
     let choice = any_choice(alloc, chance, device.words())?;
     device.crash(&choice)
@@ -116,7 +116,7 @@ fn formatted_words(alloc: Global, geometry: Geometry) -> Result<Vec<u64>, Fault>
 // The word of the version in the superblock.
 const VERSION: usize = 1;
 
-// Of each word any value that may have survived.
+// Any value of each word that may have survived.
 fn any_choice(alloc: Global, chance: &mut Chance, words: usize) -> Result<Choice, Fault> {
     let mut numbers = Vec::new(alloc);
     for _ in 0..words {

@@ -18,7 +18,7 @@ const LIVES: u64 = 12;
 
 const STEPS: u64 = 120;
 
-// No opening makes more operations, not even one that sweeps.
+// Opening never makes more operations, even if it sweeps.
 const MOST_IN_AN_OPENING: u64 = 64;
 
 fn key_of(chance: &mut Chance) -> Key {
@@ -68,7 +68,7 @@ fn are_alike(found: &Note, want: &Note) -> bool {
     found == want || matches!((found, want), (Note::Ticked(_), Note::Ticked(_)))
 }
 
-// Makes a step, and notes its reply. Want of memory for the note looks like that of a scan, which changes nothing.
+// Makes a step, and notes its reply. A lack of memory for the note looks like that of a scan, which changes nothing.
 fn noted(room: &mut Room<SimPmem>, step: Step) -> Note {
     match Note::of(&room.step(step)) {
         Ok(note) => note,
@@ -76,7 +76,7 @@ fn noted(room: &mut Room<SimPmem>, step: Step) -> Note {
     }
 }
 
-/// Lives of one device, whose numbers at random begin with the seed, and whose format has this version.
+/// Lives of one device, whose random numbers begin with the seed, and whose format has this version.
 pub fn live_all<R: Threads + Sync>(
     rt: &R,
     alloc: Global,
@@ -93,7 +93,7 @@ pub fn live_all<R: Threads + Sync>(
     Ok(())
 }
 
-// Openings that stop, and a life, after which an opening agrees with the model.
+// The device is opened with stops, lives once, and then opens in agreement with the model.
 fn live_once<R: Threads + Sync>(
     rt: &R,
     alloc: Global,
@@ -109,7 +109,7 @@ fn live_once<R: Threads + Sync>(
     Ok(device)
 }
 
-// Openings that stop, and a crash after each: at most three, one after the other.
+// Opens the device at most three times, each time with a stop and a crash.
 fn stopped_openings<R: Threads + Sync>(
     rt: &R,
     alloc: Global,
@@ -127,7 +127,7 @@ fn stopped_openings<R: Threads + Sync>(
     Ok(device)
 }
 
-// The device after an opening that was stopped after so many operations, if it made as many, and a crash.
+// The device after opening was stopped after this many operations, if it made as many, and a crash.
 fn stopped_opening<R: Threads + Sync>(
     rt: &R,
     alloc: Global,
@@ -139,7 +139,7 @@ fn stopped_opening<R: Threads + Sync>(
     crashed(alloc, left, chance)
 }
 
-// The model is stopped too where the gate of the stopped opening survived.
+// The model is stopped too if the gate of the stopped opening survived.
 fn follow_opening<R: Threads + Sync>(
     rt: &R,
     alloc: Global,
@@ -153,7 +153,7 @@ fn follow_opening<R: Threads + Sync>(
     Ok(())
 }
 
-// A life that ends in a close, or in a failure at some operation and a crash. What it leaves is at rest.
+// A life that ends by closing, or in a failure at some operation and a crash. What it leaves is at rest.
 fn next_life<R: Threads + Sync>(
     rt: &R,
     alloc: Global,
@@ -218,7 +218,7 @@ fn lived<R: Threads + Sync>(
     }
 }
 
-// Makes steps at random, after which the record of the room names the model's long commits.
+// Makes random steps, after which the record of the room names the model's long commits.
 fn live(
     room: &mut Room<SimPmem>,
     model: &mut Model,
@@ -229,7 +229,7 @@ fn live(
     assert_same_longs(room, model)
 }
 
-// Makes steps at random up to the first that finds the device failing. One session stamps seldom, if it is there, so that its
+// Makes random steps up to the first that finds the device failing. One session, if it is there, rarely stamps, so that its
 // commits stay long.
 fn make_steps(
     room: &mut Room<SimPmem>,
@@ -250,7 +250,7 @@ fn make_steps(
     Ok(())
 }
 
-// A fifth session isn't begun, and the slow one seldom stamps.
+// A fifth session isn't begun, and the slow one rarely stamps.
 fn is_left_out(step: &Step, slow: u8, model: &Model, chance: &mut Chance) -> bool {
     match *step {
         Step::Begin => model.is_full(),
@@ -259,7 +259,7 @@ fn is_left_out(step: &Step, slow: u8, model: &Model, chance: &mut Chance) -> boo
     }
 }
 
-// Makes the step so often. Did the device work each time?
+// Makes the step this often. Did the device work each time?
 fn makes(
     room: &mut Room<SimPmem>,
     model: &mut Model,
@@ -286,7 +286,7 @@ fn assert_alike(step: &Step, found: &Note, want: &Note) -> Result<(), Error> {
     bail!("{step:?} is answered {found:?}, and {want:?} by the model")
 }
 
-// An opening of the device has the model's numbers, its gaps and its rows.
+// Opening the device finds the model's numbers, its gaps and its rows.
 fn assert_opening_agrees<R: Threads + Sync>(
     rt: &R,
     alloc: Global,

@@ -30,7 +30,7 @@ struct Commit {
 #[derive(Clone, Copy)]
 enum State {
     Active,
-    /// With the timestamp of its commit.
+    /// It has the timestamp of its commit.
     Drawn(u64),
     ReadOnly,
 }
@@ -52,8 +52,8 @@ struct Cycle {
     drops_gaps: bool,
 }
 
-/// The engine as the commits that are covered, in the order in which that happened, those that are drawn, by rising timestamp,
-/// four sessions, and what takes each slot. A drawn commit at or below the persisted timestamp is long.
+/// The engine as plain tables: the commits that are covered, in the order in which that happened; those that are drawn, by rising
+/// timestamp; four sessions; and what takes each slot. A drawn commit at or below the persisted timestamp is long.
 #[derive(Drop)]
 pub struct Model {
     alloc: Global,
@@ -372,7 +372,8 @@ impl Model {
         }
     }
 
-    // Takes the stamped commits up to the reach, unless there is none, half of the window is left, and no swept gap stands.
+    // Takes the stamped commits up to the reach, unless there are none, half of the window is left, and no swept gap has to be
+    // dropped.
     fn choose(&mut self) -> Note {
         let persisted = self.reach();
         let mut ticks: u64 = 40;
@@ -438,7 +439,7 @@ impl Model {
         Ok(())
     }
 
-    // The collector frees the slot of its place where no one reads its version any more, or ends a sweep.
+    // The collector frees the slot of its place if no session reads its version any more, or ends a sweep.
     fn visit(&mut self) -> Note {
         let slot = self.place;
         if slot >= SLOTS {
@@ -468,7 +469,7 @@ impl Model {
         self.is_replaced(version, self.covered.len())
     }
 
-    // Is the version of one of so many commits, and is a later one of them on its key?
+    // Is the version of one of this many commits, and is a later one of them on its key?
     fn is_replaced(&self, version: Version, commits: usize) -> bool {
         for commit in self.covered.iter().take(commits) {
             if version.writer == Writer::Commit(commit.timestamp) {
@@ -478,7 +479,7 @@ impl Model {
         false
     }
 
-    // The last of so many commits that writes the key.
+    // The last of this many commits that writes the key.
     fn last_writer(&self, key: usize, commits: usize) -> u64 {
         let mut last = 0;
         for commit in self.covered.iter().take(commits) {
@@ -489,7 +490,7 @@ impl Model {
         last
     }
 
-    /// The power fails, and the device is opened with this gate. Of a cycle only the whole may survive.
+    /// The power fails, and the device is opened with this gate. Of a cycle either all survives or nothing.
     pub fn stop(&mut self, gate: u64) -> Result<(), Fault> {
         if gate > self.gate.saturating_add(1) {
             self.cover()?;
@@ -525,7 +526,7 @@ impl Model {
         Ok(())
     }
 
-    // A gap more, after the others, which is joined to the last where that is adjacent.
+    // One more gap, after the others. It is joined to the last if the two are adjacent.
     fn add_gap(&mut self, first: u64, last: u64) -> Result<(), Fault> {
         let mut gap = Gap { first, last };
         if let Some(before) = self.gaps.last().copied() {

@@ -85,7 +85,8 @@ impl Slots {
         }
     }
 
-    /// Frees the slots of all versions but of these commits, one for each key.
+    /// Frees the slots of all versions except those of these commits, one for
+    /// each key.
     pub fn free_others(&mut self, kept: [u64; KEYS]) {
         for place in self.held.iter_mut() {
             if let Some(version) = *place {
