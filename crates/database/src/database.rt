@@ -27,7 +27,7 @@ pub struct Refused<D> {
 }
 
 /// A store of rows over a device, with a committer and a collector in threads of their own. Threads may share it. A drop ends both
-/// workers, and leaves the device as a crash would.
+/// workers, and leaves the device as a crash would: once it returns, the device is dropped too.
 pub struct Database<D: Pmem + Drop, R: Wait + Drop> {
     pub(crate) rt: R,
     pub(crate) shared: Arc<Shared<D>, Global>,
@@ -80,6 +80,7 @@ impl<D: Pmem + Drop, R: Wait + Drop> Drop for Database<D, R> {
     fn drop(self) {
         let Database { rt, shared } = self;
         shared.end_work(&rt);
+        shared.drop_room(&rt);
     }
 }
 

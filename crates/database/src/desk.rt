@@ -453,6 +453,14 @@ impl<D: Pmem + Drop> Shared<D> {
         self.moved.notify_all();
     }
 
+    /// Drops the room, if it is in. A worker that has ended may keep what is shared a moment longer, and with it the device.
+    pub fn drop_room<R: Wait>(&self, rt: &R) {
+        let mut desk = self.desk.lock(rt);
+        let room = desk.room.take();
+        drop(desk);
+        drop(room);
+    }
+
     /// Takes the room out.
     pub fn take_out<R: Wait>(&self, rt: &R) -> OpenedRoom<D> {
         let mut desk = self.desk.lock(rt);

@@ -1,7 +1,6 @@
 use crate::help::{Word, find_word};
 use crate::input::{Line, Lines, text_of};
 use crate::numbers::parse_number;
-use crate::opening::Device;
 use crate::progress::Progress;
 use crate::refusal::{Refusal, Stop};
 use crate::session::{Failed, commit};
@@ -15,6 +14,7 @@ use std::alloc::Global;
 use std::io::BufRead;
 use std::rt::Clock;
 use std::sync::Wait;
+use store::Device;
 
 /// How many puts a transaction takes.
 pub const MOST_PUTS: u64 = 32;

@@ -7,6 +7,7 @@ use base::fault::Fault;
 use base::geometry::Geometry;
 use clap::{Arg, ArgAction, ArgMatches, value_parser};
 use std::alloc::{AllocError, Global};
+use store::standard_layout;
 
 /// What the words of the command line ask for.
 #[derive(Clone, Copy)]
@@ -58,13 +59,6 @@ pub struct Given {
     /// Its last word is a row of hexadecimal digits that may have been meant as text.
     pub is_doubtful: bool,
 }
-
-// The layout of a new store, unless options say otherwise.
-const DEFAULT_SLOTS: u64 = 65_536;
-
-const DEFAULT_PLACES: u64 = 2;
-
-const DEFAULT_WINDOW: u64 = 1_024;
 
 const ABOUT: &str =
     "Key-value store in FILE. Runs COMMAND, or else the lines of standard input, and prints an answer to each; kv FILE help lists the \
@@ -169,15 +163,17 @@ fn read_layout(matches: &ArgMatches<'_>) -> Result<Layout, Fault> {
     })
 }
 
+// The layout that is asked for: what no option says is that of the standard layout.
 fn geometry_of(
     slots: Option<u64>,
     places: Option<u64>,
     window: Option<u64>,
     is_wide: bool,
 ) -> Result<Geometry, Fault> {
-    let slots = slots.unwrap_or(DEFAULT_SLOTS);
-    let places = places.unwrap_or(DEFAULT_PLACES);
-    let window = window.unwrap_or(DEFAULT_WINDOW);
+    let standard = standard_layout();
+    let slots = slots.unwrap_or(standard.slots());
+    let places = places.unwrap_or(standard.places());
+    let window = window.unwrap_or(standard.window());
     if is_wide {
         Geometry::wide(slots, places, window)
     } else {

@@ -175,3 +175,15 @@ pub enum Failure {
     #[error("{0}")]
     Stopped(#[from] Stop),
 }
+
+impl Failure {
+    /// The file holds a store of this layout, and another one is asked for.
+    pub fn other_layout(found: &Geometry) -> Failure {
+        Failure::HasLayout {
+            slots: found.slots(),
+            width: found.row_limit(),
+            places: found.places(),
+            window: found.window(),
+        }
+    }
+}

@@ -1,5 +1,4 @@
 use crate::command::{Range, Request};
-use crate::opening::Device;
 use crate::refusal::{Refusal, Stop};
 use crate::statistics::Statistics;
 use base::Ts;
@@ -9,6 +8,7 @@ use base::row::Row;
 use database::{CommitError, Database, Transaction};
 use std::alloc::Global;
 use std::sync::Wait;
+use store::Device;
 
 /// What the store answers.
 #[derive(Drop)]

@@ -2,7 +2,6 @@ use crate::answers::{Manner, Printer};
 use crate::command::{Command, Request};
 use crate::input::Lines;
 use crate::load::Loader;
-use crate::opening::Device;
 use crate::progress::Progress;
 use crate::refusal::{Refusal, Sentence, Stop};
 use crate::session::{Failed, Session};
@@ -15,6 +14,7 @@ use std::io::BufRead;
 use std::rt::Clock;
 use std::sync::Wait;
 use std::time::Instant;
+use store::Device;
 
 /// What came of the lines.
 #[derive(Clone, Copy)]

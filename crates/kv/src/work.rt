@@ -1,12 +1,11 @@
 use crate::answers::{Manner, Printer, Terminals};
 use crate::command::Command;
 use crate::help::Word;
-use crate::opening::{Device, open, reason_of, test_exists};
+use crate::opening::{open, reason_of};
 use crate::options::{Options, command_line, read_options};
 use crate::refusal::{Failure, Reason, Refusal, Stop};
 use crate::shell::{Outcome, answer_command, answer_lines};
 use base::fault::Fault;
-use base::geometry::Geometry;
 use clap::error::ErrorKind;
 use database::{Database, Refused};
 use pmem_file::OpenError;
@@ -16,6 +15,7 @@ use std::io;
 use std::rt::{Clock, Files};
 use std::sync::Wait;
 use std::thread::Threads;
+use store::Device;
 
 const DONE: u8 = 0;
 
@@ -148,10 +148,6 @@ fn serve<
         + 'static,
 >(rt: &R, alloc: Global, options: &Options<'_>, manner: Manner) -> Result<bool, Failure> {
     let database = open_database(rt, alloc, options)?;
-    let geometry = database.geometry();
-    if !options.layout.allows(&geometry) {
-        return refuse_layout(database, &geometry);
-    }
     let answered = match &options.command {
         Some(given) => answer_command(rt, alloc, &database, manner, &given.command),
         None => answer_lines(rt, alloc, &database, manner, options.bails),
@@ -167,28 +163,11 @@ fn serve<
 fn open_database<
     R: Eprint + Clock + Files<File = File> + Threads + Wait + Copy + Drop + Send + Sync + 'static,
 >(rt: &R, alloc: Global, options: &Options<'_>) -> Result<Database<Device, R>, Failure> {
-    if options.needs_store() {
-        test_exists(rt, options.file)?;
-    }
-    let device = open(rt, alloc, options.file, options.layout.geometry)?;
+    let (device, _) = open(rt, alloc, options)?;
     match Database::open(*rt, alloc, device) {
         Ok(database) => Ok(database),
         Err(Refused { fault, device }) => Err(Failure::NotOpened(reason_of(device, fault))),
     }
-}
-
-// Closes a store of another layout than is asked for.
-fn refuse_layout<R: Wait + Drop>(
-    database: Database<Device, R>,
-    found: &Geometry,
-) -> Result<bool, Failure> {
-    close(database, Ok(Outcome::new()))?;
-    Err(Failure::HasLayout {
-        slots: found.slots(),
-        width: found.row_limit(),
-        places: found.places(),
-        window: found.window(),
-    })
 }
 
 // Closes the store, and says what its use came to.

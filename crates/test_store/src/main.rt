@@ -27,5 +27,6 @@ fn main(rt: HostRuntime) -> Result<(), Error> {
     calls::find_all(&rt, &store)?;
     store.close()?;
     openings::refuse_each(&rt)?;
+    openings::find_each(&rt)?;
     openings::end_numbers(&rt)
 }

@@ -102,6 +102,51 @@ fn keep_old<R: Print + Wait + Drop>(rt: &R, store: &Store<R>) -> Result<(), Erro
     Ok(())
 }
 
+/// What `open_existing` finds: no store, which it doesn't create, and one of whatever layout, which was dropped without a close.
+pub fn find_each<
+    R: Print
+        + AllocGlobal
+        + Files<File = File>
+        + Threads
+        + Wait
+        + Copy
+        + Drop
+        + Send
+        + Sync
+        + 'static,
+>(rt: &R) -> Result<(), Error> {
+    let alloc = rt.alloc();
+    print_opened(rt, Store::open_existing(*rt, alloc, "nowhere.img"))?;
+    let is_there = fs::metadata(rt, "nowhere.img").is_ok();
+    println!(rt; "nowhere.img is there: {is_there}")?;
+    fs::write(rt, "empty.img", b"")?;
+    print_opened(rt, Store::open_existing(*rt, alloc, "empty.img"))?;
+    let bytes = fs::metadata(rt, "empty.img")?.len();
+    println!(rt; "empty.img has {bytes} bytes")?;
+
+    let store = Store::open(*rt, alloc, "wide.img", Geometry::wide(8, 3, 128)?)?;
+    store.transact(|t| t.put(key(7, 1), Row::of_u64(1)))?;
+    store.transact(|t| t.put(key(7, 2), Row::of_text("kept")?))?;
+    drop(store);
+    // 8 slots of two lines and three places take 8 * (1 + 4 * 3 + 2 * 8) words, and the journal is behind them.
+    let image = 8 * 8 * (1 + 4 * 3 + 2 * 8);
+    let is_longer = image < fs::metadata(rt, "wide.img")?.len();
+    println!(rt; "dropped, with a journal behind the image: {is_longer}")?;
+    let store = Store::open_existing(*rt, alloc, "wide.img")?;
+    let status = store.status();
+    println!(rt;
+        "slots {} places {} window {} row_limit {}",
+        status.slots, status.places, status.window, status.row_limit
+    )?;
+    for (key, row) in store.read()?.scan(7, ..)? {
+        println!(rt; "found {key}: {row}")?;
+    }
+    store.close()?;
+    let is_alone = image == fs::metadata(rt, "wide.img")?.len();
+    println!(rt; "closed, without a journal: {is_alone}")?;
+    Ok(())
+}
+
 /// The opening and one commit write the last two records that have numbers. A further commit is refused, and the close.
 pub fn end_numbers<
     R: Print

@@ -1,0 +1,123 @@
+use crate::key_of;
+use anyhow::{Error, bail};
+use base::geometry::Geometry;
+use std::alloc::Global;
+use std::fs::File;
+use std::ops::Range;
+use std::rt::{Clock, Files};
+use std::sync::Wait;
+use std::sync::atomic::{AtomicU64, Ordering};
+use std::thread::{Threads, join, map_indices};
+use std::time::{Duration, Instant};
+use store::{RowExt, Store, StoreError};
+
+// So many keys have rows, and are read.
+const KEYS: u64 = 1_024;
+
+// From one key to the next that a thread reads, so that each comes in turn.
+const STRIDE: u64 = 367;
+
+/// So many threads read while one more commits: each reads so many rows of a store of so many slots, each row in a snapshot of its own.
+#[derive(Clone, Copy)]
+pub struct Readers {
+    pub slots: u64,
+    pub threads: usize,
+    pub reads: u64,
+}
+
+/// How long all reads took, and how many commits were made beside them.
+#[derive(Clone, Copy)]
+pub struct Beside {
+    pub reads: Duration,
+    pub commits: u64,
+}
+
+/// Opens the store in the file of this name, puts a row under each key, and times the reads beside a thread that commits until the last of
+/// them is done.
+pub fn time_readers<
+    H: Files<File = File> + Clock + Threads + Wait + Copy + Drop + Send + Sync + 'static,
+>(rt: &H, alloc: Global, name: &str, readers: &Readers) -> Result<Beside, Error> {
+    let layout = Geometry::new(readers.slots, Geometry::LEAST_PLACES, Geometry::MOST_WINDOW)?;
+    let store = Store::open(*rt, alloc, name, layout)?;
+    for key in 0..KEYS {
+        put(&store, key, key)?;
+    }
+    let beside = time_beside(rt, alloc, &store, readers)?;
+    store.close()?;
+    Ok(beside)
+}
+
+fn put<R: Wait + Drop>(store: &Store<R>, key: u64, number: u64) -> Result<(), StoreError> {
+    store.transact(|t| t.put_number(key_of(key), number))?;
+    Ok(())
+}
+
+fn time_beside<H: Clock + Threads + Wait + Drop + Send + Sync>(
+    rt: &H,
+    alloc: Global,
+    store: &Store<H>,
+    readers: &Readers,
+) -> Result<Beside, Error> {
+    let reading = AtomicU64::new(1);
+    let (reads, commits) = join(
+        rt,
+        || {
+            let took = time_reads(rt, alloc, store, readers);
+            reading.store(0, Ordering::SeqCst);
+            took
+        },
+        || commit_while(store, &reading),
+    );
+    Ok(Beside {
+        reads: reads?,
+        commits: commits?,
+    })
+}
+
+fn time_reads<H: Clock + Threads + Wait + Drop + Send + Sync>(
+    rt: &H,
+    alloc: Global,
+    store: &Store<H>,
+    readers: &Readers,
+) -> Result<Duration, Error> {
+    let start = Instant::now(rt)?;
+    let found = map_indices(
+        rt,
+        alloc,
+        readers.threads,
+        &|_| read_each(store, 0..readers.reads),
+    )?;
+    for one in &found {
+        match one {
+            Ok(rows) if *rows == readers.reads => {}
+            Ok(rows) => bail!("{rows} rows of {} are there", readers.reads),
+            Err(error) => bail!("{error}"),
+        }
+    }
+    Ok(start.elapsed(rt)?)
+}
+
+// Reads so many rows, each in a snapshot of its own. How many were there.
+fn read_each<R: Wait + Drop>(store: &Store<R>, reads: Range<u64>) -> Result<u64, StoreError> {
+    let mut found = 0;
+    for number in reads {
+        let key = number.wrapping_mul(STRIDE) % KEYS;
+        if store.read()?.number(key_of(key))?.is_some() {
+            found += 1;
+        }
+    }
+    Ok(found)
+}
+
+// Commits a row, again and again while this is not 0. How many commits there were.
+fn commit_while<R: Wait + Drop>(store: &Store<R>, reading: &AtomicU64) -> Result<u64, StoreError> {
+    let mut commits: u64 = 0;
+    for number in 0..u64::MAX {
+        if reading.load(Ordering::SeqCst) == 0 {
+            break;
+        }
+        put(store, number % KEYS, number)?;
+        commits = commits.saturating_add(1);
+    }
+    Ok(commits)
+}
