@@ -11,7 +11,7 @@ use std::thread::{Threads, join, map_indices};
 use std::time::{Duration, Instant};
 use store::{RowExt, Store, StoreError};
 
-// So many keys have rows, and are read.
+// How many keys have rows, and are read.
 const KEYS: u64 = 1_024;
 
 // From one key to the next that a thread reads, so that each comes in turn.
