@@ -19,7 +19,7 @@ use Rattle.command_line.specs.declared.script_line.ScriptLine.TheVariants as lin
 
 -- ---- one line
 
--- a command is a line of a script, but for `cycle` and `crash`
+-- a command is a line of a script, except `cycle` and `crash`
 abbrev pub line_of_command : Command → Option ScriptLine
 line_of_command command.Cycle = None
 line_of_command (command.Crash keeps) = None

@@ -240,8 +240,7 @@ fn add_command(
     Ok(lives)
 }
 
-// Adds a command to others. It names the step within: a push is proved only where the function names the types that the value
-// holds.
+// Adds a command to others. It names the step within: a push is proved only if the function names the types that the value holds.
 fn push_command(commands: &mut Vec<Command>, command: Command) -> Result<(), AllocError>
     ensures { OnOk result (commands.new.items ≡ commands.old.items ++ command ∷ []) }
 {

@@ -141,7 +141,7 @@ nothing-refused state old new n fault obeys q shows =
     let a = obeys.1 q shows in
     (a.0, a.1.shows, drawn_by_draw q a.0 n obeys.0 a.1.stepped (ap has_drawn (sym obeys.2)), history_by_draw q a.0 n obeys.0 a.1.stepped)
 
--- a draw of one who had written nothing, and an end
+-- a draw by a session that had written nothing, and an end
 pub nothing-ended : {D A : Type 0} → {G : Ghosts D} → (state : D → Device) (old mid new : Room D G) (n : ℕ) (read : Reply → Result A Fault) (result : Result A Fault)
     → Obeys state old mid (Draw n) drawn_of (Ok None) → Obeys state mid new (End n) read result → DrawsNothing state old new
 nothing-ended state old mid new n read result draws ends q shows =

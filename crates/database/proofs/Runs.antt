@@ -49,7 +49,7 @@ pub answers-step : {D A : Type 0} {G : Ghosts D} {ended : Option Fault} (state :
 answers-step state old new step read result run obeys =
     ends-run state old new ((step, obeys.0) ∷ []) (IsStep step read result) run (leads-one state old new step obeys.0 obeys.1) (obeys.0, refl, obeys.2)
 
--- the room was closed, or that was refused, and so it ends in whatever state it showed
+-- the room was closed, or closing was refused: the run ends in whatever state the room showed
 pub closes-run : {D : Type 0} {G : Ghosts D} {ended : Option Fault} (state : D → Device) (room : Room D G) (now : Device) (Is : State → Type 0) → ∥ HasTaken state room (EndedAlong ended) ∥₁
     → ((q : State) → Shows state room q → LeavesOnly (device_of state room) now (StandsClosing q)) → ((q : State) → Shows state room q → Is q) → ∥ ClosesRun now Is ∥₁
 closes-run state room now Is run images is = ∥∥₁_map run (λ r. record {

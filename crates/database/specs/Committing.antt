@@ -112,7 +112,7 @@ ReportsCommit session (Some t) = IsPrepared session (Ok (Some t)) × IsAcknowled
 abbrev pub HasLackedMemory : Type 0
 HasLackedMemory = EndsRun (λ taken. taken ≡ (CommitTick, RefusedWith OutOfMemory) ∷ [])
 
--- Why a commit isn't drawn, for a reason other than its steps: no record number was left before its draw; or its draw found the window full, and the
+-- Why a commit isn't drawn, for a reason other than its steps: no record number was left before its draw. Or its draw found the window full, and the
 -- committer was refused memory for the record that makes room in it
 abbrev pub StopsBefore : ℕ → CommitError → Type 0
 StopsBefore session (Refused fault) =
@@ -234,7 +234,7 @@ ReportsRefusal session error = (key : Key) → error ≡ Refused (Conflict key) 
 
 -- ---- writes in a transaction of their own
 
--- The session was begun, and these are its writes, all of which were made; or the begin was refused with this fault, or one of the writes was, and
+-- The session was begun, and these are its writes, all of which were made. Or the begin was refused with this fault, or one of the writes was, and
 -- then the session's abort was asked for
 abbrev pub IsBegunWith : List (Key × Option (List ℕ)) → Result ℕ Fault → List (Step × Reply) → Type 0
 IsBegunWith writes (Ok session) taken =

@@ -103,8 +103,8 @@ abbrev pub IsRefusedWhole : {D : Type 0} → {G : Ghosts D} → (D → Device) �
 IsRefusedWhole state old new (Refused fault) = DrawsNothing state old new
 IsRefusedWhole state old new (Open fault) = Unit {0}
 
--- The session's own poll reported the timestamp, and the transaction is ended; or it reported that the commit isn't covered, and the room still shows
--- what it showed; or one of the two steps was refused
+-- The session's own poll reported the timestamp, and the transaction is ended. Or it reported that the commit isn't covered, and the room still shows
+-- what it showed. Or one of the two steps was refused
 abbrev pub Finishes : {D : Type 0} → {G : Ghosts D} → (D → Device) → Room D G → Room D G → ℕ → Result (Option ℕ) Fault → Type 0
 Finishes {D} {G} state old new session (Ok (Some t)) =
     (mid : Room D G) × Obeys state old mid (Poll session) committed_of (Ok (Some t)) × Obeys state mid new (End session) done_of (Ok tt)

@@ -1,6 +1,6 @@
-//! Replies to waiting commits, under a lock of their own. The thread that covers a group leaves each reply in a place here and
-//! ends the session, so a thread that is woken needs no turn of the desk's lock: one call wakes all of them, and they don't
-//! queue up for the desk.
+//! Replies to waiting commits, under a lock of their own. The thread that covers a group leaves each reply in a place here and ends
+//! the session. A thread that is woken then needs no turn of the desk's lock: one call wakes all of them, and they don't queue up
+//! for the desk.
 
 ghost use Rattle.std.specs.Prelude.{◌<◌, IfSome, IfNone};
 ghost use Rattle.std.specs.Result.{ForOk, ForErr};

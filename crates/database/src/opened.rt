@@ -1,5 +1,5 @@
-//! No clause can name what a lock holds, so the type of what the desk's lock holds carries its run: the steps since the device
-//! was opened, and among them the tick that ended the committer, if one has. Only steps change what the room shows.
+//! No clause can name what a lock holds, so the type of what the desk's lock holds carries its run. The run has all steps since the
+//! device was opened, and among them the tick that ended the committer, if one has. Only steps change what the room shows.
 
 ghost use Rattle.room.specs.Runs.{HasTaken};
 ghost use Rattle.database.specs.Ended.{EndedAlong};

@@ -1,6 +1,6 @@
-//! A commit from its first step to its reply. Nobody sleeps here unless another thread is sure to wake it: a thread that waits
-//! for its own commit is led or leads, and one that waits for another's is woken at each cover, each refused tick and each
-//! worker's end, and notifies the committer if nobody leads.
+//! A commit from its first step to its reply. Nobody sleeps here unless another thread is sure to wake it. A thread that waits for its
+//! own commit leads, or another does. A thread that waits for another's commit is woken at each cover, each refused tick and each
+//! worker's end. It notifies the committer if nobody leads.
 
 ghost use Rattle.std.specs.Prelude.{◌≡◌, ◌↔◌, IsTrue, Err};
 ghost use Rattle.base.specs.declared.fault.Fault.TheVariants.{WindowFull};

@@ -17,8 +17,8 @@ const MOST_BESIDE: u32 = 100;
 /// The permissions of a file: who may read, write and run it. The bits that run it as its owner or group aren't among them.
 const PERMISSIONS: u32 = 0o777;
 
-/// A name at which a file is to be put, and the file that has it now: locked until this is dropped, so that no other
-/// process which locks it writes what is then lost.
+/// A name under which a file will be put, and the file that has it now. That file is locked until this is dropped, so that
+/// no other process which locks it writes what is then lost.
 #[derive(Drop)]
 pub struct Target {
     name: String,

@@ -11,8 +11,8 @@ pub const MOST_BYTES: usize = 17_860_992;
 
 const WORD_BYTES: usize = 8;
 
-/// The bytes of the image that a file stands for. They are all of the file's bytes, unless a journal follows the image, as in a
-/// store that wasn't closed, or was being created there: then they are the first bytes, with the journal's entries applied.
+/// The bytes of the image that a file stands for: all of the file's bytes, unless a journal follows the image, or was being
+/// created there. A store that wasn't closed has one. Then they are the first bytes, with the journal's entries applied.
 pub fn image_bytes(alloc: Global, file: Vec<u8>) -> io::Result<Vec<u8>> {
     if file.len() > MOST_BYTES || file.len() % WORD_BYTES != 0 || is_image(file.as_slice()) {
         return Ok(file);

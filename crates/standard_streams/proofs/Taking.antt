@@ -9,7 +9,7 @@ drop-all : (xs : List ℕ) → drop (length xs) xs ≡ []
 drop-all [] = refl
 drop-all (x ∷ xs) = drop-all xs
 
--- the front of some bytes is their first line, where it has a line feed at its end, or is all of them
+-- the front of some bytes is their first line, if it has a line feed at its end, or is all of them
 pub first-of : (bytes line : List ℕ) → line ≡ take (length line) bytes → IsOneLine line → (is_ended line ≡ false → line ≡ bytes) → IsFirstLine bytes line
 first-of bytes line front one ended = grind (arith, take-append-drop (length line) bytes, drop-all bytes)
 

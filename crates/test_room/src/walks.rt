@@ -12,7 +12,7 @@ use std::alloc::Global;
 
 const KEY: Key = Key { table: 1, key: 7 };
 
-// What a walk finds of the key on a device with these words, where its newest version is in the slot: the row's first byte.
+// What a walk finds of the key on a device with these words, if its newest version is in the slot: the row's first byte.
 fn walked(
     alloc: Global,
     words: &[u64; 104],

@@ -1,6 +1,6 @@
 //! Each call of a session and of an engine once: transactions of two keys, by `commit` alone, with `prepare` first, with a
-//! refusal in between, and one that conflicts; closing, which is refused while a session is missing, a commit after it, and
-//! closing again.
+//! refusal in between, and one that conflicts. Then the engine is closed, which is refused while a session is missing, a
+//! commit follows, and it is closed again.
 ghost use Rattle.std.specs.Prelude.{◌≡◌};
 ghost use Rattle.pmem.specs.Words.{IsAtRest, image_of};
 

@@ -98,7 +98,7 @@ fn work_both<
     Ok((gathered(alloc, [first, second])?, [one, other]))
 }
 
-// A life of the device, up to where it fails.
+// A life of the device, up to its failure.
 fn live<
     D: Pmem + Drop + Send + Sync + 'static,
     J: Origin + Send + Sync + 'static,

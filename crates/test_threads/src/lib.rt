@@ -1,6 +1,6 @@
-//! The engine's threads at work: a cycle that is held within while another session works and a reader reads, a committer that
-//! stops, a collector that is held, a device that fails, many sessions that conflict, a token of acknowledged commits that
-//! another thread learns, and workers that sleep.
+//! The engine's threads at work. A cycle is held within while another session works and a reader reads; a committer stops; a
+//! collector is held; a device fails. Many sessions conflict, another thread learns a token of acknowledged commits, and
+//! workers sleep.
 #![tactic(auto)]
 
 #[cfg(test)]

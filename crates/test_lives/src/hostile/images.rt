@@ -109,7 +109,7 @@ const LONG_COMMITS: Changes = &[
 ];
 
 // Changes of the image with long commits: one of 0, one above the persisted timestamp, two that don't rise, a thirteenth,
-// one of fewer that is still named, one in a gap, and the first version, which has none.
+// and one that is still named though there are fewer. Also one in a gap, and the first version, which has none.
 const OF_LONG_COMMITS: &[(Changes, Answer)] = &[
     (&[], Rows(1)),
     (&[(71, 14)], Rows(1)),
@@ -144,8 +144,8 @@ const WIDE_COMMIT: Changes = &[
     (87, 25_185),
 ];
 
-// Changes of that image: rows of 97, 90 and 40 bytes with and without bytes after them, unused bits, links to the fifth
-// slot and the fourth, a begin of a slot at the dirty timestamp, an end, and a second version of the key.
+// Changes of that image: rows of 97, 90 and 40 bytes with and without bytes after them, unused bits, and links to the
+// fifth slot and the fourth. Also a begin of a slot at the dirty timestamp, an end, and a second version of the key.
 const OF_WIDE_COMMIT: &[(Changes, Answer)] = &[
     (&[], Rows(1)),
     (&[(87, 0)], Rows(1)),

@@ -4,8 +4,8 @@ use asks::{
     WIDE_ROW_INSERTED, WIDE_ROW_UPDATED,
 };
 
-/// A story; whether opening an image that is judged after a stop is stopped everywhere, or only for some images; and the
-/// table before its first record, and after each that it writes once it is open.
+/// A story, and whether opening an image that is judged after a stop is stopped for each image, or for some. The tables
+/// are those before its first record, and after each record that it writes once it is open.
 pub type StoryTables = (Story, bool, &'static [Table]);
 
 const NINE_ROWS_UPDATED: Table = &[
