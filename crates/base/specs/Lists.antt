@@ -1,4 +1,4 @@
--- Words on lists, and on functions of numbers.
+-- Functions on lists, and on functions of numbers.
 use Rattle.std.specs.Prelude.{ℕ, Bool, true, false, nat_eq, if◌then◌else◌, List, [], ◌∷◌}
 
 -- the list is empty

@@ -1,5 +1,5 @@
 //! A change is added to the history before the shelf has it: readers go by the history, which never goes back. If there is
-//! no memory to hand it on, it waits here, and nothing comes before it.
+//! no memory to pass it on, it waits here, and nothing comes before it.
 
 use crate::change::{Change, Start};
 use crate::coverage::Coverage;
@@ -33,7 +33,7 @@ impl<J: Naming> Kept<Step<J>> for Shelf<J> {
     ghost change = { λ step. step.change };
 }
 
-/// What the one writer holds. Its drop waits for those that are reading, and readers see nothing from then on.
+/// What the one writer holds. Dropping it waits for those that are reading, and readers see nothing from then on.
 #[derive(Drop)]
 pub struct BoardWriter<J: Naming, T: Absorb<O> + Kept<O> + Drop, O: Drop, R: Wait + Drop> {
     handle: WriteHandle<T, O, R>,

@@ -1,4 +1,4 @@
-//! What a record covers: each commit up to its timestamp but the long ones, which a later record covers.
+//! What a record covers: each commit up to its timestamp except the long ones, which a later record covers.
 
 use base::Ts;
 use base::batch::Batch;

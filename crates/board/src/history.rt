@@ -1,4 +1,4 @@
-//! The one history of what a board's changes were. It exists in proofs alone; what is kept is its length.
+//! The one history of a board's changes. It exists only in proofs; what is kept is its length.
 ghost use Rattle.std.specs.Prelude.{◌≡◌, ◌+◌, ◌<◌, ◌^◌, ◌++◌, ◌∷◌, [], length, IfSome, IsFalse, IsTrue, MatchBool};
 ghost use Rattle.std.specs.Bool.{OnTrue};
 ghost use mathlib.Core.List.{IsPrefix};
@@ -87,7 +87,7 @@ impl Model for History {
 }
 
 impl History {
-    /// A new one, with no change.
+    /// A new history, with no change.
     pub fn new() -> History {
         let (seen, mut first, _second) = Seen::open(Start::alone(), 0, 0);
         History {
@@ -171,7 +171,7 @@ impl<J: Naming> Front<J> {
         self.count <= other.count
     }
 
-    /// Whether the other one is it and one change more.
+    /// Whether the other one is this one and one change more.
     pub(crate) fn is_next(&self, other: &Front<J>) -> bool
         ensures { OnTrue result (IsPrefix self.now other.now × (length other.now ≡ length self.now + 1)) }
     {
@@ -185,7 +185,7 @@ impl<J: Naming> Front<J> {
         let _count = self.count;
     }
 
-    /// It with one change more, or none if the history is longer already.
+    /// This one with one change more, or none if the history is longer already.
     pub(crate) fn then(&self, book: &Book<J>, change: &Change) -> Option<Front<J>>
         requires legal { IsPublished (list_of (self.now ++ change.now ∷ [])) }
         ensures { IfSome result (λ front. front ≡ self.now ++ change.now ∷ []) }

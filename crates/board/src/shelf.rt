@@ -23,7 +23,7 @@ pub struct Step<J: Naming> {
     pub ghost ends: { Ends front change },
 }
 
-/// What is published. Contracts see it as the history that it was made by, which is the book's.
+/// What is published. Contracts see it as the history that made it, which is the book's.
 #[derive(Drop)]
 pub struct Shelf<J: Naming> {
     // By the last batch that was laid into the rows, or by the rows alone.
@@ -142,7 +142,7 @@ impl<J: Naming> Shelf<J> {
         );
     }
 
-    /// The history that it was made by.
+    /// The history that made it.
     pub(crate) fn front(&self) -> &Front<J>
         ensures front { result.now ≡ self.now }
     {

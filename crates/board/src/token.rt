@@ -48,7 +48,7 @@ impl<J: Naming> Token<J> {
         timestamp <= self.coverage.persisted && !self.coverage.longs.contains(timestamp)
     }
 
-    /// Another one of the same list.
+    /// Another token of the same list.
     pub fn again(&self) -> Token<J>
         ensures { result ≡ self.now }
     {

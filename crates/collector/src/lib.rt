@@ -1,4 +1,4 @@
-//! The collector: round and round it visits the slots, frees those whose versions nobody reads any more, and sweeps the
+//! The collector visits the slots round after round, frees those whose versions nobody reads any more, and sweeps the
 //! gaps once in a life.
 #![tactic(auto)]
 

@@ -2,7 +2,7 @@ ghost use Rattle.std.specs.Prelude.{◌≡◌, ℕ, Bool};
 
 use base::Ts;
 
-/// All who may still read a version.
+/// All readers that may still read a version.
 pub trait Readers {
     /// Which commits each of them covers.
     ghost covered: { Self → ℕ → Bool };

@@ -12,7 +12,7 @@ use base::geometry::Geometry;
 use gap_list::GapList;
 use pmem::Pmem;
 
-// Stores 0 in the begin and in the end of a slot if they are in a gap, and flushes its first line, which has both,
+// Stores 0 in the begin and in the end of a slot if they are in a gap. Then flushes its first line, which has both,
 // since an older value of theirs that is in a gap may survive.
 #[inline(never)]
 pub(crate) fn sweep_slot<D: Pmem>(

@@ -46,7 +46,7 @@ pub record Forgets (sessions : SessionSet) (old new : List SessionSet) : Type 0 
 abbrev pub IsUntouchedFrom : List SessionSet → ℕ → Type 0
 IsUntouchedFrom table from = (line : ℕ) → from ≤ line → (n : ℕ) → is_touched table n line ≡ false
 
--- the lowest line, from one on, that may be touched
+-- the lowest line, from `from` on, that may be touched
 pub record IsNextTouched (table : List SessionSet) (from line : ℕ) : Type 0 where
   pub low : from ≤ line
   pub within : line < length table

@@ -4,7 +4,7 @@ use number_set::NumberSet;
 use std::alloc::Global;
 use std::marker::Model;
 
-/// By line the sessions whose transactions touch it: what their writes fill and end, and so what has to be flushed and fenced
+/// For each line the sessions whose transactions touch it: what their writes fill and end, and so what has to be flushed and fenced
 /// before a record may cover them.
 #[derive(Drop)]
 pub struct DirtyTable {

@@ -37,7 +37,7 @@ impl GapList {
         GapList { gaps: Gaps::none() }
     }
 
-    /// The set that these gaps are.
+    /// The set of these gaps.
     pub fn of(gaps: Gaps) -> GapList
         requires { IsTrue (is_gap_list gaps) }
         ensures { result ≡ gaps }

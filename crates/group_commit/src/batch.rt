@@ -33,14 +33,14 @@ pub fn is_idle(numbers: &Numbers, swept: bool, drawn: &DrawnCommits) -> bool
     !has_chosen(reach, drawn.as_slice()) && !(window_is_short || has_swept_gaps)
 }
 
-// Up to which timestamp the next record reaches.
+// The timestamp up to which the next record reaches.
 fn reach_of(geometry: Geometry, ruling: &Record, drawn: &DrawnCommits) -> Ts
     ensures { result ≡ reach (most_longs geometry.version) ruling.now.persisted (map plain_drawn drawn.now.commits) }
 {
     drawn.reach(ruling.persisted(), geometry.most_longs())
 }
 
-// Whether a record that reaches up to there covers the commit.
+// Whether a record that reaches up to this timestamp covers the commit.
 fn is_chosen(reach: Ts, commit: &DrawnCommit) -> bool
     ensures { result ≡ is_chosen reach (plain_drawn commit.now) }
 {
@@ -97,7 +97,7 @@ fn standing_gaps(ruling: &Record, swept: bool) -> Gaps
     if swept { Gaps::none() } else { ruling.gaps() }
 }
 
-/// The batch of those of the drawn commits that the record covers, under the one after which it comes. Its memory is taken
+/// The batch of those drawn commits that `target` covers, which follows the record `ruling`. Its memory is taken
 /// here.
 #[inline(always)]
 pub(crate) fn batch_of(

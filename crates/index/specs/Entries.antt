@@ -11,7 +11,7 @@ use Rattle.index.specs.declared.entry.Entry.{Entry}
 abbrev pub key_cmp : Key → Key → Ordering
 key_cmp a b = ordering_then (nat_cmp a.table b.table) (nat_cmp a.key b.key)
 
--- that of a key without versions
+-- the entry of a key without versions
 abbrev pub blank : Entry
 blank = record { newest = None; ended = false; drawn = None; last = None }
 

@@ -5,7 +5,7 @@ impl Index {
     ghost use Rattle.base.specs.declared.key.Key.{Key};
     ghost use Rattle.index.specs.Counting.{AreLive};
 
-    /// How many keys have a covered row: as many as a list that has each of them once. It looks at each entry.
+    /// How many keys have a covered row: the length of a list with each of them once. It looks at each entry.
     pub fn live_count(&self) -> usize
         ensures { (keys : List Key) → AreLive keys self.now → result ≡ length keys }
     {

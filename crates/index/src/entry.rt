@@ -19,7 +19,7 @@ impl Entry {
     ghost use Rattle.std.specs.Prelude.{◌≡◌};
     ghost use Rattle.index.specs.Entries.{blank, live_of, head_of};
 
-    // That of a key without versions.
+    // The entry of a key without versions.
     pub(crate) fn blank() -> Entry
         ensures { result ≡ blank }
     {
@@ -77,7 +77,7 @@ impl KeyedEntry {
     ghost use Rattle.base.specs.Keys.{key_eq};
     ghost use Rattle.index.specs.Entries.{blank};
 
-    /// That of a key whose covered row is in the slot, in a life that has drawn nothing for it.
+    /// The entry of a key whose covered row is in the slot, in a life that has drawn nothing for it.
     pub fn live(key: Key, slot: SlotNo) -> KeyedEntry
         ensures { result ≡ (key, record blank { newest = Some slot }) }
     {

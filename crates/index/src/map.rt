@@ -19,7 +19,7 @@ pub struct Known {
 pub struct Index {
     // Each with its key. An entry stays at its place, except that the last one moves to that of an entry that is taken out.
     pub(crate) entries: Vec<KeyedEntry>,
-    // By key the place of its entry.
+    // The place of each key's entry.
     pub(crate) places: BTreeMap<Key, usize, Global>,
     // Places at which entries may be: tried first, with a search if the entry isn't there.
     hints: Vec<usize>,
@@ -46,7 +46,7 @@ impl Index {
     ghost use Rattle.base.specs.declared.fault.Fault.TheVariants.{OutOfMemory};
     ghost use Rattle.index.specs.Entries.{blank, entry_at, has_room, IsAt, ArePlaced, live_of, head_of, Sets, KeepsRoom, GainsRoom, LosesRoom, covered, forgotten};
 
-    /// Without versions.
+    /// An index without versions.
     pub fn new(alloc: Global) -> Index
         ensures { (key : KeyValue) → entry_at result key ≡ blank }
     {
@@ -57,7 +57,7 @@ impl Index {
         }
     }
 
-    /// With these entries, whose places these are. It takes no memory: the first draws note where entries may be.
+    /// An index with these entries, at these places. It takes no memory: the first draws note where entries may be.
     pub fn of(
         alloc: Global,
         entries: Vec<KeyedEntry>,
@@ -73,7 +73,7 @@ impl Index {
         }
     }
 
-    /// At which place the key's entry is, if it has one. It stays there. The calls that take a place try it first, and search
+    /// The place of the key's entry, if it has one. It stays there. The calls that take a place try it first, and search
     /// if the key's entry isn't there.
     #[inline(always)]
     pub fn place(&self, key: Key) -> Option<usize>
@@ -119,7 +119,7 @@ impl Index {
         self.entries[place].entry()
     }
 
-    /// What is known of the key's versions, if it has an entry.
+    /// What is known about the key's versions, if it has an entry.
     #[inline(always)]
     pub fn find(&self, key: Key, near: Option<usize>) -> Option<Entry>
         ensures some { IfSome result (λ entry. (entry ≡ entry_at self.now key) × (has_room self.now key ≡ true)) }
@@ -131,7 +131,7 @@ impl Index {
         }
     }
 
-    /// What is known of the key's versions.
+    /// What is known about the key's versions.
     #[inline(always)]
     pub fn entry(&self, key: Key, near: Option<usize>) -> Entry
         ensures { result ≡ entry_at self.now key }
@@ -158,7 +158,7 @@ impl Index {
         self.entry(key, near).live()
     }
 
-    /// The slot that a new version of the key links to: the newest that has a row, drawn or covered, also one that a deletion
+    /// The slot that a new version of the key links to: the newest that has a row, drawn or covered, even one that a deletion
     /// ended.
     #[inline(always)]
     pub fn link(&self, key: Key, near: Option<usize>) -> Option<SlotNo>
@@ -204,7 +204,7 @@ impl Index {
         self.entries[place].draw(slot, ts);
     }
 
-    // Gives a key without an entry this one.
+    // Adds this entry for a key that has none.
     fn add(&mut self, key: Key, entry: Entry) -> Result<(), Fault>
         requires { has_room self.old key ≡ false }
         ensures sets { OnOk result (Sets self.old self.new key entry) }
@@ -255,7 +255,7 @@ impl Index {
         }
     }
 
-    /// A commit that writes the key was drawn with this timestamp. Its version is in the slot; a deletion has none. The slot of
+    /// A commit that writes the key was drawn with this timestamp. Its version is in the slot; a deletion has none. Returns the slot of
     /// the key's covered row, which it ends.
     #[inline(always)]
     pub fn draw(
@@ -303,7 +303,7 @@ impl Index {
         self.set_in(place, key, covered);
     }
 
-    /// The key's version in the slot is freed. If it isn't the newest covered one, nothing changes. The place of the key's entry, if
+    /// The key's version in the slot is freed. If it isn't the newest covered one, nothing changes. Returns the place of the entry, if
     /// that changed.
     pub fn forget(&mut self, key: Key, slot: SlotNo) -> Option<usize>
         ensures entries { Sets self.old self.new key (forgotten slot (entry_at self.old key)) }
@@ -370,7 +370,7 @@ impl Index {
     {
         let last = self.entries.len() - 1;
         let moved = self.entries[last].key();
-        // It has a place, so this takes no memory.
+        // The key has a place, so this takes no memory.
         let Ok(_) = self.places.insert(moved, place) else {
             unreachable!()
         };

@@ -31,7 +31,7 @@ pub struct Found {
 impl Index {
     ghost use Rattle.index.specs.Entries.{entry_at};
 
-    /// The version of the key that the snapshot sees. From the newest covered one on links are followed, each to an earlier
+    /// The version of the key that the snapshot sees. Links are followed from the newest covered one on, each to an earlier
     /// version of the key, as long as what the walk is at began after the snapshot.
     #[inline(always)]
     pub fn walk<D: Pmem>(
@@ -51,7 +51,7 @@ impl Index {
         follow(device, geometry, snapshot, self.hinted(key).newest, key)
     }
 
-    /// The slot of the version that `walk` finds. Its row goes into the place for one, since a row is large to hand on.
+    /// The slot of the version that `walk` finds. Its row goes into the place for one, since a row is large to pass on.
     #[inline(always)]
     pub fn walk_into<D: Pmem>(
         &self,
@@ -114,7 +114,7 @@ fn next_at(held: &Slot, snapshot: &Snapshot, key: Key, bound: Ts) -> Next
     }
 }
 
-// The same, of a slot of the device. The row that its words hold goes into the place for one: a row is large to hand on.
+// The same, of a slot of the device. The row that its words hold goes into the place for one: a row is large to pass on.
 #[inline(always)]
 fn look<D: Pmem>(
     device: &D,

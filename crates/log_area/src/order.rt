@@ -1,4 +1,4 @@
-//! Gaps and long commits have one order alone, so what a record says has one spelling, and a place that holds anything else
+//! Gaps and long commits have only one order, so what a record says has one spelling, and a place that holds anything else
 //! holds no record.
 
 ghost use Rattle.std.specs.Prelude.{◌≡◌, ◌+◌, ◌&&◌, not, nat_lt, nat_le};

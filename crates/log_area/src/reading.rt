@@ -1,5 +1,5 @@
-//! The record of the greatest gate rules. A gate is stored once its record's body has persisted, so of all other places nothing
-//! but the gate is looked at: a body that is half written belongs to a gate that isn't there yet.
+//! The record of the greatest gate rules. A gate is stored once its record's body has persisted, so of all other places only
+//! the gate is read: a half-written body belongs to a gate that isn't there yet.
 
 ghost use Rattle.std.specs.Prelude.{◌≡◌, ◌*◌, ◌%◌, ◌^◌, ◌+◌, ◌<◌, ◌≤◌, ◌&&◌, ◌||◌, not, max, nat_eq, nat_le, IfOk, IfErr, IfSome, IfNone, Some};
 ghost use Rattle.base.specs.Records.{IsRecord};
@@ -16,8 +16,8 @@ use base::fault::Fault;
 use base::geometry::Geometry;
 use pmem::Pmem;
 
-/// The record that rules a device's image, or the first fault of the image, its slots aside. Of the records only the
-/// ruling one's body is read.
+/// The record that rules a device's image, or the first fault of the image, apart from its slots. Only the
+/// body of the ruling record is read.
 pub fn latest<D: Pmem>(device: &D) -> Result<Ruling, Fault>
     ensures ok { IfOk result (λ ruling. IsRuledBy ruling.geometry ruling.record (image_of (D.state device.now))) }
     ensures fault { IfErr result (λ fault. log_damage (image_of (D.state device.now)) ≡ Some fault) }

@@ -85,7 +85,7 @@ impl Record {
         self.longs
     }
 
-    /// Does it commit the timestamp: is it persisted, in no gap, and no long commit's?
+    /// Does it commit the timestamp: is it persisted, in no gap, and not of a long commit?
     pub fn commits(&self, timestamp: Ts) -> bool
         ensures { result ≡ is_committed self.now timestamp }
     {
@@ -192,7 +192,7 @@ impl Record {
         self.persisted < self.dirty && self.dirty < NUMBER_LIMIT
     }
 
-    // Has each of the words what a place that holds the record has there?
+    // Is each of the words the one that a place has if it holds the record?
     fn fills(&self, words: &[u64]) -> bool
         requires { length words.now ≡ 32 }
         ensures { IsTrue result ↔ FillsWords words.now self.now }
@@ -213,7 +213,7 @@ fn most_longs(version: u64) -> usize
     if version == 1 { 0 } else { Longs::LIMIT }
 }
 
-// As many gaps as this from a place's words.
+// This many gaps from a place's words.
 fn gaps_in(words: &[u64], count: usize) -> Gaps
     requires size { length words.now ≡ 32 }
     requires few { count ≤ 8 }
@@ -231,7 +231,7 @@ fn gaps_in(words: &[u64], count: usize) -> Gaps
     gaps
 }
 
-// As many long commits as this from a place's words.
+// This many long commits from a place's words.
 fn longs_in(words: &[u64], count: usize) -> Longs
     requires size { length words.now ≡ 32 }
     requires few { count ≤ 12 }

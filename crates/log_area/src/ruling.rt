@@ -1,7 +1,7 @@
 use crate::Record;
 use base::geometry::Geometry;
 
-/// The record that rules an image, and how that is laid out.
+/// The record that rules an image, and the image's layout.
 #[derive(Clone, Copy)]
 pub struct Ruling {
     pub geometry: Geometry,

@@ -10,7 +10,7 @@ use base::step::Stage;
 use pmem::Pmem;
 use std::marker::Model;
 
-/// The writing of a record into its place, by the committer, one device operation a tick: 31 stores of the body,
+/// The writing of a record into its place, by the committer, one device operation per tick: 31 stores of the body,
 /// 4 flushes, a fence, the store of the gate, the flush of its line and a fence.
 #[derive(Clone, Copy)]
 pub struct Writing {

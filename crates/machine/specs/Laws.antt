@@ -62,7 +62,7 @@ UpdatedOpen = (image : Image) → opening_fault image ≡ None → OpensUpdated 
 
 -- Steps
 
--- a step that is refused changes nothing, but that a failing device is remembered
+-- a step that is refused changes nothing, except that a failing device is remembered
 abbrev pub RefusedKeeps : Type 0
 RefusedKeeps = (q : State) (step : Step) (fault : Fault) (q' : State) → Stepped q step (Refused fault) q'
     → (q' ≡ q) ⊎ ((fault ≡ Device) × (q' ≡ record q { failed = true }))
@@ -257,7 +257,7 @@ NeverReturns = (before : World) (asked : List Asked) (reports : List Report) (af
 abbrev pub drawn_over : List Report → List ℕ
 drawn_over reports = flat_map (λ report. drawn_in report.replies) reports
 
--- no timestamp is drawn twice, also over lives
+-- no timestamp is drawn twice, not even across lives
 abbrev pub DrawnOnceOverLives : Type 0
 DrawnOnceOverLives = (before : World) (asked : List Asked) (reports : List Report) (after : World) → IsWorld before → Lives before asked reports after
     → RiseBetween before.next (drawn_over reports) after.next

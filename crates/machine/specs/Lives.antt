@@ -29,7 +29,7 @@ IsWorld w = Stands w.image w.history w.drawn w.next
 abbrev pub left_out : List Commit → List Commit → List ℕ
 left_out history drawn = map (λ c. c.timestamp) (filter (λ c. not (has_timestamp history c.timestamp)) drawn)
 
--- What is reported of a life
+-- What is reported about a life
 
 -- a record's numbers
 pub record Numbers : Type 0 where
@@ -42,7 +42,7 @@ pub data Opening : Type 0 where
   Opens : Numbers → ℕ → List Gap → List (Key × List ℕ) → Opening
   Fails : Fault → Opening
 
--- what is reported of a life: its opening, the replies to its steps, and its close
+-- what is reported about a life: its opening, the replies to its steps, and its close
 pub record Report : Type 0 where
   pub opening : Opening
   pub replies : List Reply

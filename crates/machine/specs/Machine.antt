@@ -1,4 +1,4 @@
--- The plain machine: what each step may answer, and the state after it.
+-- The plain machine: what each step may reply, and the state after it.
 use Rattle.std.specs.Prelude.{ℕ, ◌+◌, ◌*◌, ◌^◌, ◌≡◌, ◌⊎◌, Bool, true, false, ◌&&◌, ◌||◌, not, nat_eq, nat_lt, nat_le, if◌then◌else◌, List, [], ◌∷◌, ◌++◌, length, map, take, drop, filter, find, sum_by, slice_get, IsTrue, Option, Some, None, is_some, is_none, unwrap_or, Contains}
 use Rattle.std.specs.List.{list_any, range_with_len, flat_map}
 use Rattle.std.specs.Option.{option_map, option_map_or, option_and_then}
@@ -115,7 +115,7 @@ abbrev pub is_own_at : ℕ → Key → Option Version → Bool
 is_own_at n key None = false
 is_own_at n key (Some v) = is_by n v.writer && key_eq v.key key
 
--- the slot is taken by the session, for whatever key
+-- the slot is taken by the session, for any key
 abbrev pub is_held_by : ℕ → Option Version → Bool
 is_held_by n None = false
 is_held_by n (Some v) = is_by n v.writer
@@ -293,7 +293,7 @@ abbrev pub is_misplaced_in : State → Step → Option Session → Bool
 is_misplaced_in q step None = false
 is_misplaced_in q step (Some session) = not (allows step (standing_of q session))
 
--- the session that the step names is
+-- the session that the step names is in such a state
 abbrev pub is_misplaced : State → Step → Bool
 is_misplaced q step = option_map_or (λ n. is_misplaced_in q step (q.sessions n)) (session_of step) false
 

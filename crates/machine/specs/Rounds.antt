@@ -1,4 +1,4 @@
--- Visits of the collector that nothing comes between.
+-- Visits of the collector with nothing between them.
 use Rattle.std.specs.Prelude.{ℕ, zero, suc, ◌+◌, ◌*◌, ◌≡◌, false, List, [], ◌∷◌, replicate}
 use Rattle.base.specs.declared.step.Step.TheVariants.{Collect}
 use Rattle.base.specs.declared.step.Reply.{Reply}
@@ -11,7 +11,7 @@ abbrev pub visits : ℕ → State → State
 visits zero q = q
 visits (suc n) q = visits n (visited q)
 
--- what they answer
+-- what they reply
 abbrev pub visits_answer : ℕ → State → List Reply
 visits_answer zero q = []
 visits_answer (suc n) q = collected q ∷ visits_answer n (visited q)

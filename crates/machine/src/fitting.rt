@@ -1,4 +1,4 @@
-//! Of which kind the note of a step is.
+//! Which kind of note a step has.
 
 ghost use Rattle.machine.specs.Notes.{StepsFit, RunsFit};
 

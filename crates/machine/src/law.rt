@@ -11,7 +11,7 @@ pub fn openings_are_decided()
     ensures updated { UpdatedOpen }
 {}
 
-/// A refused step changes nothing, but that a failing device is remembered: then each step is refused.
+/// A refused step changes nothing, except that a failing device is remembered: from then on each step is refused.
 pub fn refused_steps_change_nothing()
     ensures keeps { RefusedKeeps }
     ensures failed { FailedStays }
@@ -42,7 +42,7 @@ pub fn cycles_are_whole()
     ensures others { OthersKeepHand }
 {}
 
-/// No timestamp is drawn twice, in a run or over lives.
+/// No timestamp is drawn twice, in a run or across lives.
 pub fn timestamps_are_drawn_once()
     ensures run { DrawnOnce }
     ensures lives { DrawnOnceOverLives }
@@ -63,7 +63,7 @@ pub fn lost_commits_never_return()
 {}
 
 /// Visits of the collector that follow each other with no step between them settle after a round: a second round changes
-/// nothing, and so no later one does.
+/// nothing, and neither does any later one.
 pub fn rounds_repeat()
     ensures follow { VisitsFollow }
     ensures repeat { RoundsRepeat }

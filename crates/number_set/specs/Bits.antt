@@ -10,21 +10,21 @@ has_bit word n = nat_eq (bit_at word n) 1
 abbrev pub is_in : List ℕ → ℕ → Bool
 is_in words k = has_bit (slice_index_or words (k / 64) 0) (k % 64)
 
--- the lowest bit of the word, from one on
+-- the lowest bit of the word, from bit `low` on
 pub record IsLowestBit (word low k : ℕ) : Type 0 where
   pub above : low ≤ k
   pub within : k < 64
   pub here : has_bit word k ≡ true
   pub before : (i : ℕ) → low ≤ i → i < k → has_bit word i ≡ false
 
--- the lowest number of the set, from one on
+-- the lowest number of the set, from `from` on
 pub record IsLowest (words : List ℕ) (from k : ℕ) : Type 0 where
   pub low : from ≤ k
   pub within : k / 64 < length words
   pub here : is_in words k ≡ true
   pub before : (i : ℕ) → from ≤ i → i < k → is_in words i ≡ false
 
--- none is, from this one on
+-- none is in the set, from this one on
 abbrev pub IsClearFrom : List ℕ → ℕ → Type 0
 IsClearFrom words from = (i : ℕ) → from ≤ i → is_in words i ≡ false
 

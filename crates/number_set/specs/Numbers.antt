@@ -8,17 +8,17 @@ use Rattle.number_set.specs.Bits.{is_in, IsClearFrom}
 abbrev pub has : List Bool → ℕ → Bool
 has set number = slice_index_or set number false
 
--- how many are
+-- how many are in the set
 abbrev pub count_of : List Bool → ℕ
 count_of set = count_below (length set) (has set)
 
--- the lowest number of the set, from one on
+-- the lowest number of the set, from `from` on
 pub record IsFirstFrom (set : List Bool) (from number : ℕ) : Type 0 where
   pub above : from ≤ number
   pub here : has set number ≡ true
   pub before : (k : ℕ) → from ≤ k → k < number → has set k ≡ false
 
--- none is, from this one on
+-- none is in the set, from this one on
 abbrev pub IsNoneFrom : List Bool → ℕ → Type 0
 IsNoneFrom set from = (k : ℕ) → from ≤ k → has set k ≡ false
 

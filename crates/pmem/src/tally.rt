@@ -1,6 +1,6 @@
 use std::snapshot::Snapshot;
 
-/// A number without bound, which clauses alone can read. It takes one byte.
+/// An unbounded number, which only clauses can read. It takes one byte.
 #[derive(Drop)]
 pub enum Tally {
     Zero,

@@ -1,4 +1,4 @@
--- What a log shows is a fact: there is one proof of it at most. (A ghost field may cite lemmas of specs/ alone.)
+-- What a log shows is a fact: it has at most one proof. (A ghost field may cite lemmas of specs/ alone.)
 use Rattle.std.specs.Prelude.{ℕ, zero, suc, Bool, List, [], ◌∷◌}
 use Rattle.std.proofs.Props.{props}
 use Rattle.pmem.specs.Device.{Entry}

@@ -23,7 +23,7 @@ pub enum Change {
     },
 }
 
-/// All that was done to the words. It takes one byte, since clauses alone read the rest.
+/// All that was done to the words. It takes one byte, since only clauses read the rest.
 #[derive(Drop)]
 pub enum Past {
     /// Each word had one value, which was persisted.
@@ -32,7 +32,7 @@ pub enum Past {
 }
 
 impl Past {
-    /// Of words that have one value each, which is persisted.
+    /// The past of words that have one value each, which is persisted.
     pub fn begun(words: &Vec<u64>) -> Past
         ensures { history_of result ≡ (restarted words.now.items).history }
     {

@@ -11,7 +11,7 @@ pub struct Span {
     pub to: usize,
 }
 
-// One for a span of some places, and nothing for one of none.
+// 1 for a span with places, and 0 for an empty one.
 fn weight(span: Span) -> usize
     ensures { result ≡ weight span }
 {
@@ -22,13 +22,13 @@ fn weight(span: Span) -> usize
 #[derive(Drop)]
 pub struct Spans {
     pub items: Vec<Span>,
-    // How many lines have any.
+    // How many lines have such stores.
     unsettled: usize,
     ghost counted: { unsettled ≡ sum_by weight items.items },
 }
 
 impl Spans {
-    /// No line has any.
+    /// No line has such stores.
     pub fn new(alloc: Global, lines: usize) -> Result<Self, AllocError>
         ensures { IfOk result (λ made. made.items.items ≡ replicate lines nowhere) }
     {
@@ -55,7 +55,7 @@ impl Spans {
         self.unsettled = self.unsettled + weight(span) - weight(before);
     }
 
-    /// Has no line any?
+    /// Are the stores of all lines settled?
     pub fn are_settled(&self) -> bool
         ensures { IsTrue result → (line : ℕ) → weight (span_at self.now.items.items line) ≡ 0 }
     {

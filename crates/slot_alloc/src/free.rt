@@ -48,7 +48,7 @@ impl SlotAlloc {
         Ok(SlotAlloc { free: slots })
     }
 
-    /// Whether the slot is free. None past the last is.
+    /// Whether the slot is free. No slot past the last is free.
     pub fn is_free(&self, slot: u64) -> bool
         ensures { result ≡ is_free self.now slot }
     {
@@ -87,7 +87,7 @@ impl SlotAlloc {
         self.free.insert(slot as usize);
     }
 
-    /// Takes the lowest free slot, once 0 in its begin is sure to outlive a crash.
+    /// Takes the lowest free slot, once 0 in its begin is sure to survive a crash.
     pub fn take<D: Pmem>(
         &mut self,
         device: &mut D,
@@ -101,7 +101,7 @@ impl SlotAlloc {
         ensures taken { IfOk result (λ slot. self.new ≡ slice_set self.old slot false) }
         ensures cleared { IfOk result (λ slot. IsSettledAt (D.state device.new) (slot_start geometry slot) 0) }
 
-        // At an error the free slots are as before. With no free slot nothing is done.
+        // After an error the free slots are as before. If no slot is free, nothing is done.
         ensures err { OnErr result (self.new ≡ self.old) }
         ensures out { (result ≡ Err SlotsOut) ↔ (lowest_free self.old ≡ None) }
         ensures unmoved { result ≡ Err SlotsOut → D.state device.new ≡ D.state device.old }

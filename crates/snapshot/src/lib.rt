@@ -1,4 +1,4 @@
-//! Which commits a reader sees, and the numbers of a life that say so.
+//! Which commits a reader sees, and the numbers of a life that determine it.
 #![tactic(auto)]
 
 mod numbers;
@@ -46,7 +46,7 @@ impl Snapshot {
         }
     }
 
-    /// Becomes another one. Mostly neither has a gap or a long commit: then no list is copied.
+    /// From now on covers the same as `covered`. Usually neither has a gap or a long commit, and no list is copied.
     #[inline(always)]
     pub fn set(&mut self, covered: &Covered<'_>)
         ensures { self.new ≡ covered.now }
@@ -63,7 +63,7 @@ impl Snapshot {
         self.persisted
     }
 
-    /// The timestamps up to it that count for nothing.
+    /// The timestamps up to the persisted one that count for nothing.
     pub fn gaps(&self) -> GapList
         ensures { result ≡ self.now.gaps }
     {
@@ -116,7 +116,7 @@ impl<'a> Covered<'a> {
         Covered { record: ruling }
     }
 
-    /// In memory of its own.
+    /// A copy, in memory of its own.
     pub fn to_snapshot(&self) -> Snapshot
         ensures { result ≡ self.now }
     {

@@ -17,9 +17,9 @@ pub record IsFreeToDraw (q : State) (n : ℕ) (key : Key) : Type 0 where
   pub covered : (place : ℕ) (c : Commit) → begun_of (q.sessions n) ≤ place → slice_get q.history place ≡ Some c → writes_key key c ≡ false
   pub drawn : (t : ℕ) (d : Drawn) → drawn_at q t ≡ Some d → writes_key key d.commit ≡ false
 
--- How many commits come before a version: of a drawn one all that are covered, of a covered one those before its commit, of
+-- How many commits come before a version: of a drawn one all that are covered; of a covered one those before its commit; of
 -- a session's all that are covered, as long as no commit on its key bars it from drawing. Of one that the opening found, or
--- that can't become a commit's any more, nothing is said
+-- that can't become a commit's any more, nothing is claimed
 pub data ComesAfter (o : Origin) (q : State) : Version → ℕ → Type 0 where
   by_session : (n : ℕ) (key : Key) → q.failed ≡ false → IsFreeToDraw q n key → ComesAfter o q (version_by key (BySession n)) (length q.history)
   by_draw : (t : ℕ) (key : Key) (d : Drawn) → drawn_at q t ≡ Some d → writes_key key d.commit ≡ true → ComesAfter o q (version_by key (ByCommit t)) (length q.history)
@@ -32,7 +32,7 @@ pub record LinksTo (a : Layout) (value : ℕ → ℕ) (slot link : ℕ) : Type 0
       → ((w : ℕ) → 2 ≤ w → w < slot_words a.version → slice_index image (word_of a slot w) ≡ value (word_of a slot w))
       → link_of image slot ≡ link
 
--- the version's slot names that of the row version before it on its key, while that is held, also if a covered deletion
+-- the version's slot names that of the row version before it on its key, while that is held, even if a covered deletion
 -- ended it
 abbrev pub SlotLinks : Origin → State → (ℕ → ℕ) → ℕ → Version → Type 0
 SlotLinks o q value slot v =

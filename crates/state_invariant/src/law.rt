@@ -15,17 +15,17 @@ pub fn covering_keeps_the_state()
     ensures shows { CoveringShows }
 {}
 
-/// Over each step but a put and a stamp the slots show what the state says, with the values that they had.
+/// Over each step except a put and a stamp the slots show what the state says, with the values that they had.
 pub fn steps_keep_the_slots()
     ensures { StepsShow }
 {}
 
-/// An opened state keeps it, and the words of its slots are those of the image that was opened.
+/// An opened state keeps this, and the words of its slots are those of the image that was opened.
 pub fn openings_keep_the_state()
     ensures { OpenedKeeps }
 {}
 
-/// At each snapshot in use, that of an active session or the one of all that is covered, the slots whose begin counts
+/// In use are the snapshots of active sessions and that of all that is covered. At each, the slots whose begin counts
 /// there and whose end doesn't are the rows of the tables after its commits, each key once; in a failed state too.
 pub fn snapshots_read_their_tables()
     ensures { Reading }
@@ -45,7 +45,7 @@ pub fn stamps_show_their_timestamp()
 
 /// Each version that can still be covered names the row version before it on its key, while that is held. Openings, stores in
 /// begins and ends, all steps, a batch that is covered and a device that fails keep that; a put that names the newest
-/// version that is held, too.
+/// version that is held keeps it too.
 pub fn versions_stay_linked()
     ensures opened { OpenedLinks }
     ensures stores { StoresLink }

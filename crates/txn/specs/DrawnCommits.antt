@@ -7,7 +7,7 @@ use Rattle.snapshot.specs.Snapshots.{Seen, covers}
 use Rattle.txn.specs.declared.drawn.DrawnCommit.{DrawnCommit}
 use Rattle.txn.specs.WriteSets.{plain_writes}
 
--- what the plain machine knows of it
+-- what the plain machine knows about it
 abbrev pub plain_drawn : DrawnCommit → Drawn
 plain_drawn d = record { commit = record { timestamp = d.timestamp; writes = plain_writes d.writes }; stamped = d.stamped }
 

@@ -136,7 +136,7 @@ impl DrawnCommits {
         stamp_in(self.commits.as_mut_slice(), timestamp);
     }
 
-    /// The commits that the snapshot covers are drawn no more, and transactions that begin may have their sets. The others keep
+    /// Commits that the snapshot covers are no longer drawn, and transactions that begin may have their sets. The others keep
     /// their order.
     pub fn cover(&mut self, snapshot: &Snapshot, transactions: &mut Transactions)
         ensures commits { self.new.commits ≡ filter (is_uncovered snapshot.now) self.old.commits }
@@ -178,7 +178,7 @@ impl DrawnCommits {
     }
 }
 
-// Puts those that the snapshot doesn't cover before all others, in their order. How many they are.
+// Puts those that the snapshot doesn't cover before all others, in their order. Returns their number.
 fn gather_uncovered(commits: &mut [DrawnCommit], snapshot: &Snapshot) -> usize
     ensures uncovered { take result commits.new ≡ filter (is_uncovered snapshot.now) commits.old }
     ensures within { result ≤ length commits.new }

@@ -4,7 +4,7 @@ use snapshot::{Covered, Snapshot};
 use std::alloc::Global;
 use std::marker::Model;
 
-/// The snapshot that a transaction reads, in memory of its own, so that to move the transaction moves no snapshot.
+/// The snapshot that a transaction reads, in memory of its own, so that moving the transaction moves no snapshot.
 #[derive(Drop)]
 pub struct HeldSnapshot {
     snapshot: Box<Snapshot>,
@@ -48,7 +48,7 @@ impl HeldSnapshot {
         self.get().covers(ts)
     }
 
-    // Another, in the memory that it has.
+    // Becomes another one, in the same memory.
     #[inline(always)]
     pub(crate) fn set(&mut self, covered: &Covered<'_>)
         ensures { self.new ≡ covered.now }

@@ -258,7 +258,7 @@ impl Transactions {
         }
     }
 
-    /// Keeps the set of a commit that is drawn no more, for a transaction that begins.
+    /// Keeps the set of a commit that is no longer drawn, for a transaction that begins.
     pub fn keep(&mut self, writes: WriteSet)
         ensures { self.new ≡ self.old }
     {

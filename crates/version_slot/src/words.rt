@@ -88,7 +88,7 @@ impl Version {
     ghost use Rattle.std.specs.Prelude.{◌≡◌, ◌≤◌, ◌<◌, ◌^◌, ℕ, [], ◌∷◌, length, slice_index};
     ghost use Rattle.version_slot.specs.Words.{filled_word, link_number};
 
-    // The words of a slot of one line that is filled with it, from the second on.
+    // The words of a slot of one line that is filled with this version, from the second on.
     #[inline(always)]
     pub(crate) fn line_words(&self) -> [u64; 7]
         requires link { link_number self.now.previous < 2 ^ 32 }

@@ -31,7 +31,7 @@ pub fn fill<D: Pmem>(
     ensures stopped { OnErr result (StopsWithin (fill_operations geometry slot version.now) (D.state device.old) (D.state device.new)) }
 {
     if geometry.slot_words() == 8 {
-        // So few words that each store is by itself.
+        // These words are few, so each store is by itself.
         let words = version.line_words();
         store_all(device, geometry.slot_start(slot) + 1, &words)
     } else {
@@ -60,7 +60,7 @@ fn store_lines<D: Pmem>(
     ensures table { version.now.key.table < 2 ^ 16 }
     ensures bytes { (i : ℕ) → slice_index version.now.row i < 2 ^ 8 }
 {
-    // In one place, since an array is large to hand on.
+    // In one place, since an array is large to pass on.
     let mut words = [0; 16];
     version.put_words(count, &mut words);
     store_all(device, first, &words[1..count])

@@ -1,4 +1,4 @@
--- Worked runs of the plain machine, with four slots, two places and a window of eight unless said.
+-- Worked runs of the plain machine, with four slots, two places and a window of eight unless stated otherwise.
 use Rattle.std.specs.Prelude.{ℕ, ◌≡◌, true, false, List, [], ◌∷◌, ◌++◌, map, replicate, Option, Some, None}
 use Rattle.std.specs.List.{range_with_len}
 use Rattle.base.specs.declared.key.Key.{Key}

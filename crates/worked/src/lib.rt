@@ -14,7 +14,7 @@ pub fn damaged_images()
     ensures { DamagedImages }
 {}
 
-/// An image with a ninth gap opens, and is swept before.
+/// An image with a ninth gap opens, and is swept first.
 pub fn ninth_gap()
     ensures { NinthGap }
 {}
@@ -99,7 +99,7 @@ pub fn no_slot_left()
     ensures { NoSlotLeft }
 {}
 
-/// Of two sessions that write a key the first to draw wins.
+/// If two sessions write a key, the first to draw wins.
 pub fn first_committer_wins()
     ensures { FirstCommitterWins }
 {}
