@@ -78,7 +78,7 @@ OperationKeeps =
     (o : Origin) (q : State) (hand : Hand) (stage : WritingStage) (old new : Device) → IsOrderly old → IsOrderly new → q.hand ≡ Some hand → IsStage stage → stage ≢ Done → next_stage stage ≢ Done
     → hand.ticks ≡ 2 + lines_of q hand.commits + operations_before stage → new ≡ applied (operation_of (writing_at q hand stage)) old → Upholds o q old → Upholds o (one_tick_on q hand) new
 
--- the last one covers the batch, of however many commits
+-- the last tick covers the batch, of however many commits
 abbrev pub CoveringKeeps : Type 0
 CoveringKeeps =
     (o : Origin) (q : State) (hand : Hand) (old new : Device) → IsOrderly old → IsOrderly new → q.failed ≡ false → q.hand ≡ Some hand → hand.ticks ≡ 2 + lines_of q hand.commits + operations_before FenceGate
@@ -105,20 +105,20 @@ FillingKeeps =
     (o : Origin) (q : State) (slot w value : ℕ) (old new : Device) → slot < q.layout.slots → q.held slot ≡ None → IsSettledAt old (word_of q.layout slot 0) 0 → 1 ≤ w → w < slot_words q.layout.version → (w ≡ 1 → value ≡ 0)
     → new ≡ stored (word_of q.layout slot w) value old → Upholds o q old → Upholds o q new × IsSettledAt new (word_of q.layout slot 0) 0
 
--- a further word of a slot that a session holds: until all are stored it is the failed state that is upheld
+-- a further word of a slot that a session holds: until all words are stored, the failed state is upheld
 abbrev pub RefillingKeeps : Type 0
 RefillingKeeps =
     (o : Origin) (q : State) (slot n w value : ℕ) (key : Key) (old new : Device) → slot < q.layout.slots → q.held slot ≡ Some (version_by key (BySession n)) → 1 ≤ w → w < slot_words q.layout.version → (w ≡ 1 → value ≡ 0)
     → new ≡ stored (word_of q.layout slot w) value old → Upholds o (record q { failed = true }) old → Upholds o (record q { failed = true }) new
 
--- A drawn commit's timestamp is stored in the begin of a version of its that isn't stamped: until its write is counted as
--- stamped it is the failed state that is upheld
+-- A drawn commit's timestamp is stored in the begin of one of its versions that isn't stamped: until this write is counted as
+-- stamped, the failed state is upheld
 abbrev pub StampsBegin : Type 0
 StampsBegin =
     (o : Origin) (q : State) (slot t : ℕ) (key : Key) (d : Drawn) (old new : Device) → q.failed ≡ true → slot < q.layout.slots → q.held slot ≡ Some (version_by key (ByCommit t)) → drawn_at q t ≡ Some d → is_key_stamped d key ≡ false
     → new ≡ stored (word_of q.layout slot 0) t old → Upholds o q old → Upholds o q new
 
--- and in the end of the newest version on the key of a write of its that isn't stamped
+-- and in the end of the newest version on the key of one of its writes that isn't stamped
 abbrev pub StampsEnd : Type 0
 StampsEnd =
     (o : Origin) (q : State) (slot t : ℕ) (key : Key) (d : Drawn) (old new : Device) → slot < q.layout.slots → q.held slot ≡ Some (newest_of q key) → drawn_at q t ≡ Some d → writes_key key d.commit ≡ true → is_key_stamped d key ≡ false
@@ -133,7 +133,7 @@ ZeroingKeeps =
 
 -- ---- holders
 
--- A slot's holder stays; or a session releases the slot; or one takes it, whose begin is 0; or the slot of a version that
+-- A slot's holder stays; or a session releases the slot; or a session takes it, and its begin is 0; or the slot of a version that
 -- a covered commit replaced is freed
 pub data ChangesHolder (q : State) (held : ℕ → Option Version) (device : Device) (slot : ℕ) : Type 0 where
   stays : held slot ≡ q.held slot → ChangesHolder q held device slot
@@ -141,7 +141,7 @@ pub data ChangesHolder (q : State) (held : ℕ → Option Version) (device : Dev
   taken : (n : ℕ) (key : Key) → q.held slot ≡ None → held slot ≡ Some (version_by key (BySession n)) → IsSettledAt device (word_of q.layout slot 0) 0 → ChangesHolder q held device slot
   freed : (t : ℕ) (key : Key) → q.held slot ≡ Some (version_by key (ByCommit t)) → drawn_at q t ≡ None → t ≢ last_writer q.history key → held slot ≡ None → ChangesHolder q held device slot
 
--- sessions come and go, slots are released, taken and freed: what may survive is then as the state says that they lead to
+-- sessions come and go, slots are released, taken and freed: what may survive is as the state to which this leads says
 abbrev pub HoldersKeep : Type 0
 HoldersKeep =
     (o : Origin) (q : State) (sessions : ℕ → Option Session) (held : ℕ → Option Version) (device : Device) → ((slot : ℕ) → slot < q.layout.slots → ChangesHolder q held device slot)
@@ -151,7 +151,7 @@ HoldersKeep =
 
 -- ---- reading
 
--- in each state, a failed one too, each snapshot in use reads the rows of its tables in the words that the device has
+-- in each state, also a failed one, each snapshot in use reads the rows of its tables in the words that the device has
 abbrev pub DevicesRead : Type 0
 DevicesRead = (o : Origin) (q : State) (device : Device) (n : ℕ) → IsOrderly device → Upholds o q device → IsInUse q n → ReadsAs o q (image_of device) n
 

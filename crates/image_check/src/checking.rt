@@ -27,7 +27,7 @@ pub struct Report {
     pub rows: Vec<(Key, Row)>,
 }
 
-/// Tests all words of an image that count, and reports what it holds. It opens nothing, so it also checks an image whose
+/// Tests all words of an image that count, and reports what it holds. It doesn't open the image, so it also checks one whose
 /// opening would find no timestamps left. An image that isn't sound is refused for the first thing that is wrong with it.
 pub fn check<R: Threads + Sync>(rt: &R, alloc: Global, words: &[u64]) -> Result<Report, Fault>
     ensures ok { IfOk result (λ report. Reports words.now report.gate report.persisted report.dirty report.gaps report.longs report.rows.items) }

@@ -10,7 +10,7 @@ use base::row::Row;
 use std::alloc::{AllocError, Global};
 use std::collections::BTreeMap;
 
-// The rows by rising key, of each key the last.
+// The rows by rising key. For each key only the last one stays.
 pub fn by_rising_key(alloc: Global, rows: Vec<(Key, Row)>) -> Result<Vec<(Key, Row)>, AllocError>
     ensures rising { IfOk result (λ sorted. IsTrue (is_rising (map (λ row. row.0) sorted.items))) }
     ensures same { IfOk result (λ sorted. (key : KeyValue) → lookup_key sorted.items key ≡ last_at rows.items key) }

@@ -62,7 +62,7 @@ ends-refused q image old new fault works (inr (none, is, failed)) at within = λ
 pub may-ask : (q : State) (close failed : Bool) → q.failed ≡ failed → MayAsk (close && not failed) q
 may-ask q close a is asked = grind (arith)
 
--- after a failing device no close is asked
+-- after the device failed, closing isn't asked for
 pub ends-as_asked : (q : State) (close failed : Bool) (told : Option (Result Numbers Fault)) (image : Image) → q.failed ≡ failed
     → HasEnded q (close && not failed) told image → HasEnded q close told image
 ends-as_asked q false failed told image because ended = ended

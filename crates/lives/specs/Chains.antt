@@ -14,8 +14,8 @@ use Rattle.lives.specs.Stops.{AreStopped}
 abbrev pub fresh_world : Layout → World
 fresh_world layout = record { image = fresh_image layout; history = []; drawn = []; next = 1; lost = [] }
 
--- What holds of such lives from a fresh image on, wherever each was stopped: the image that the last one left stands for a
--- history, to which each life added a beginning of what it drew, in log order and as it was written; it has every commit that
+-- What holds of such lives from a fresh image on, wherever each was stopped. The image that the last one left stands for a
+-- history, to which each life added a beginning of what it drew, in log order and as it was written. It has every commit that
 -- was acknowledged, none that a stop has left out, and no timestamp was drawn twice
 pub record Keeps (layout : Layout) (asked : List Asked) (reports : List Report) (last : World) : Type 0 where
   pub stands : IsWorld last

@@ -1,4 +1,4 @@
--- What the parts of a life come to.
+-- The results of the parts of a life.
 use Rattle.std.specs.Prelude.{◌≡◌, ℕ, Bool, true, false, List, ◌++◌, length, replicate, Option, Result}
 use Rattle.base.specs.declared.fault.Fault.{Fault}
 use Rattle.base.specs.declared.key.Key.{Key}
@@ -20,7 +20,7 @@ abbrev pub ruling_numbers : Image → Numbers
 ruling_numbers image = record { gate = (ruling image).gate; persisted = (ruling image).persisted; dirty = (ruling image).dirty }
 
 -- The step, as often as it is asked for, leads from the state on the one device to a state on the other, of which this holds,
--- whatever steps come after it; if the device fails in it, none of them is taken. This is reported of its replies
+-- whatever steps come after it. If the device fails in the step, no later step is taken. This is reported of its replies
 pub record HasRepeated (q : State) (device : Device) (asked : Repeated) (answer : Option Reply) (left : Device) (P : State → Type 0) : Type 0 where
   pub own : List Reply
   pub reported : IsReported own answer
@@ -32,8 +32,8 @@ pub record HasRepeated (q : State) (device : Device) (asked : Repeated) (answer 
       → StepsOn q device (replicate asked.times asked.step ++ more) (own ++ later) end ended
   pub stops : has_failed answer ≡ true → (more : List Step) → StepsOn q device (replicate asked.times asked.step ++ more) own last left
 
--- the steps lead from the state on the one device to a state on the other, and this is reported of their replies, and this holds of
--- that state; the device has failed in it exactly if it failed in one of the steps
+-- the steps lead from the state on the one device to a state on the other. This is reported of their replies, and this holds of
+-- that state; the device has failed exactly if it failed in one of the steps
 pub record HasObeyed (q : State) (device : Device) (steps : List Repeated) (kept : List (Option Reply)) (failed : Bool) (left : Device) (P : State → Type 0) : Type 0 where
   pub last : State
   pub replies : List Reply
@@ -57,7 +57,7 @@ pub record HasPlayed (q : State) (rows : List (Key × List ℕ)) (life : Life) (
   pub runs : RunsUp q (steps_of life.steps.items) replies states
   pub ends : HasEnded (final q states) life.close (closed_of report.closed) image
 
--- so it does, and its device went on so
+-- the life goes on like that, and so did its device
 pub record Plays (q : State) (device : Device) (rows : List (Key × List ℕ)) (life : Life) (report : LifeReport) (image : Image) : Type 0 where
   pub replies : List Reply
   pub reported : ReportsLife life report replies

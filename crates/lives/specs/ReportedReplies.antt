@@ -31,7 +31,7 @@ IsReported replies (Some answer) =
     (before : List Reply) × (more : ℕ) × All (λ reply. is_final reply ≡ false) before × (replies ≡ before ++ replicate (suc more) answer)
 
 -- the same of steps that follow each other, up to the one in which the device failed: each has as many replies as it is asked for,
--- but for that one
+-- except for that one
 abbrev pub AreReported : List Repeated → List Reply → List (Option Reply) → Type 0
 AreReported [] replies kept = (replies ≡ []) × (kept ≡ [])
 AreReported (asked ∷ more) replies [] = ⊥

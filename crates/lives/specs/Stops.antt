@@ -81,7 +81,7 @@ LivesOn begun before life report replies last =
 abbrev pub ClosesWithDevice : Option (Result Numbers Fault) → Type 0
 ClosesWithDevice closed = closed ≡ Some (Err DeviceFault)
 
--- the opening, a reply or the close does
+-- opening, a reply or closing reports that the device failed
 abbrev pub ReportsDevice : LifeReport → Type 0
 ReportsDevice report = (report.opening ≡ Err DeviceFault) ⊎ Contains report.replies.items (Some (Refused DeviceFault)) ⊎ ClosesWithDevice report.closed
 

@@ -1,4 +1,4 @@
-//! A life may end at any point, within its opening too, and its device is handed on each time: the next one has to open what is
+//! A life may end at any point, even while opening, and its device is handed on each time: the next life has to open what is
 //! left.
 
 ghost use Rattle.std.specs.Prelude.{◌≡◌, IfOk, IfErr};
@@ -39,7 +39,7 @@ pub fn live<R: Threads + Sync>(
     live_under_fuse(rt, alloc, device, life)
 }
 
-// The same of a device that has the life's fuse.
+// The same, for a device that has the life's fuse.
 fn live_under_fuse<R: Threads + Sync>(
     rt: &R,
     alloc: Global,

@@ -1,4 +1,4 @@
-//! The device is at rest after a crash, and without a fuse: that was this life's alone.
+//! After a crash the device is at rest, and without a fuse: the fuse was only for this life.
 
 ghost use Rattle.std.specs.Prelude.{◌≡◌, Some, IfOk, IfErr};
 ghost use Rattle.base.specs.declared.fault.Fault.TheVariants.{OutOfMemory};

@@ -51,8 +51,8 @@ pub struct Opened {
 #[derive(Debug, Drop)]
 pub struct LifeReport {
     pub opening: Result<Opened, Fault>,
-    /// Of each of the steps, up to the one in which the device failed: the reply to the last time that it was taken, which
-    /// is that of the first time that it was refused or found nothing to do. `None`: it was to be taken no times.
+    /// For each of the steps, up to the one in which the device failed: the reply to the last time it was taken, which
+    /// is that of the first time that it was refused or found nothing to do. `None`: it was to be taken zero times.
     pub replies: Vec<Option<Reply>>,
     /// The numbers after closing, or its fault. `None`: closing wasn't asked for, or the device failed before.
     pub closed: Option<Result<Numbers, Fault>>,

@@ -1,4 +1,4 @@
-//! Once the device has failed further steps say nothing. A step that was refused or found nothing to do isn't repeated, so a
+//! Once the device has failed, further steps say nothing. A step that was refused or found nothing to do isn't repeated, so a
 //! script may ask for more ticks than there are.
 
 ghost use Rattle.std.specs.Prelude.{◌≡◌, ◌≤◌, IfOk, Some};

@@ -12,7 +12,7 @@ use Rattle.pmem.specs.Trace.{Operation}
 use Rattle.pmem.specs.Words.{image_of, value_of}
 use Rattle.log_area.specs.Writings.{geometry_operations, record_operations}
 
--- each word after the superblock comes to persist as 0
+-- in each word after the superblock 0 is stored, and persists
 abbrev pub clear_operations : ℕ → List Operation
 clear_operations words = persist_operations committer 8 (λ k. 0) (words - 8) 1 (words / 8 - 1)
 
@@ -34,7 +34,7 @@ IsFormatRefusal layout old new fault =
     ((fault ≡ BadGeometry) × (old.words ≢ total_words layout) × (new ≡ old))
     ⊎ ((fault ≡ DeviceFault) × (old.words ≡ total_words layout) × (new.failures ≡ old.failures + 1))
 
--- whether nothing was kept in it, which is an image now; else it is as it was
+-- whether nothing was kept in the device, which is an image now; otherwise the device is as it was
 abbrev pub HasFormattedNew : Layout → Device → Device → Bool → Type 0
 HasFormattedNew layout old new true = (0 < old.words) × (value_of old 0 ≡ 0) × (image_of new ≡ fresh_image layout)
 HasFormattedNew layout old new false = ((old.words ≡ 0) ⊎ (value_of old 0 ≢ 0)) × (new ≡ old)

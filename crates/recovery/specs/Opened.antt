@@ -33,7 +33,7 @@ pub record HasSlotsOf (before image : Image) : Type 0 where
 unfoldable pub Refuses : Image → Fault → Type 0
 Refuses image fault = (opening_fault image ≡ Some fault) ⊎ (fault ≡ OutOfMemory)
 
--- what is learnt of an image that opens
+-- what is learnt about an image that opens
 pub record IsExamined (image : Image) (layout : Layout) (r : Record) (gaps : Option (List Gap)) (free : List Bool) (live : List LiveSlot) : Type 0 where
   pub opens : opening_fault image ≡ None
   pub rules : IsRuledBy layout r image
@@ -92,7 +92,7 @@ abbrev pub MakesOpening : Image → Device → Device → Type 0
 MakesOpening image old new = MakesAll (opening_counts image) old new
 
 -- The old device, at rest and of today's version, was opened, and the new one is what that made of it: this record rules
--- it, the superblock is as it was, and so are the slots, but for what a sweep of more than eight gaps stores
+-- it, the superblock is as it was, and so are the slots, except for what a sweep of more than eight gaps stores
 pub record HasOpenedToday (old new : Device) (layout : Layout) (r : Record) (next : ℕ) (free : List Bool) (live : List LiveSlot) : Type 0 where
   pub opens : opening_fault (image_of old) ≡ None
   pub layout_is : layout ≡ layout_of (image_of old)
@@ -106,10 +106,10 @@ pub record HasOpenedToday (old new : Device) (layout : Layout) (r : Record) (nex
   pub slots : (word : ℕ) → 8 + 32 * layout.places ≤ word → word < old.words → IsSettledAt new word (slice_index (opened_slots (image_of old)) word)
   pub made : MakesAll (record_counts (image_of old)) old new
 
--- The old device, at rest, was opened, and the new one is what that made of it: this record rules it, the superblock is as
--- it was, but for the version, and so are the slots, but for what a sweep of more than eight gaps stores; no crash meanwhile leaves anything else
--- in a word that is left alone; the next timestamp is the dirty one of the record that ruled before, these slots are free,
--- and these live
+-- The old device, at rest, was opened, and the new one is what that made of it. This record rules it. The superblock is as
+-- it was, except for the version, and so are the slots, except for what a sweep of more than eight gaps stores. No crash meanwhile leaves anything else
+-- in a word that is left alone. The next timestamp is the dirty one of the record that ruled before, these slots are free,
+-- and these are live
 pub record HasOpened (old new : Device) (layout : Layout) (r : Record) (next : ℕ) (free : List Bool) (live : List LiveSlot) : Type 0 where
   pub opens : opening_fault (image_of old) ≡ None
   pub layout_is : layout ≡ opened_layout (layout_of (image_of old))

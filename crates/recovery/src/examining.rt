@@ -25,7 +25,7 @@ use std::alloc::{AllocError, Global};
 use std::collections::BTreeMap;
 use std::thread::Threads;
 
-/// What is learnt of an image that opens.
+/// What is learnt about an image that opens.
 #[derive(Drop)]
 pub struct Examined {
     pub geometry: Geometry,
@@ -35,7 +35,7 @@ pub struct Examined {
     /// Whether each slot is free.
     pub free: Vec<bool>,
     pub live: Vec<LiveSlot>,
-    /// By key the place of its slot in `live`.
+    /// For each key, the place of its slot in `live`.
     pub places: BTreeMap<Key, usize, Global>,
     /// Whether the begin or the end of each slot is in a gap; empty if there are at most eight.
     pub hits: Vec<bool>,

@@ -1,4 +1,4 @@
-//! Word 0 goes first and comes last, and each time that persists before anything else is stored: so whatever stops a format
+//! Word 0 goes first and comes last, and each time that persists before anything else is stored: so a format that is stopped
 //! leaves an image that isn't formatted, or a whole one.
 
 ghost use Rattle.std.specs.Prelude.{◌≡◌, ◌≢◌, ◌+◌, ◌/◌, ◌<◌, ℕ, Ok, true, false, IfOk, IfErr, OnOk, OnErr};
@@ -17,7 +17,7 @@ use base::longs::Longs;
 use log_area::{FORMATTED, Record, write_geometry, write_record};
 use pmem::{Pmem, set_word};
 
-/// Makes a new image of a device. A format that is stopped leaves what a crash before it could have left, an image that
+/// Creates a new image on a device. A format that is stopped leaves what a crash before it could have left, an image that
 /// isn't formatted, or the new one.
 pub fn format<D: Pmem>(device: &mut D, geometry: Geometry) -> Result<(), Fault>
     ensures refusal { IfErr result (IsFormatRefusal geometry (D.state device.old) (D.state device.new)) }
@@ -37,7 +37,7 @@ pub fn format<D: Pmem>(device: &mut D, geometry: Geometry) -> Result<(), Fault>
     }
 }
 
-/// Formats a device in which nothing was ever kept: it has words, and the first is 0. Whether it did; any other is left as it is.
+/// Formats a device in which nothing was ever kept: it has words, and the first is 0. Returns whether it did; leaves any other as it is.
 pub fn format_new<D: Pmem>(device: &mut D, geometry: Geometry) -> Result<bool, Fault>
     requires at_rest { IsAtRest (D.state device.old) }
     ensures kept { value_of (D.state device.old) 0 ≢ 0 → (result ≡ Ok false) × (device.new ≡ device.old) }

@@ -1,5 +1,5 @@
 //! What the life before drew and did not cover may have left versions on the device. Its timestamps become gaps, which commit
-//! nothing, so those versions count for nobody without being looked for.
+//! nothing, so those versions don't count for any reader, and nobody has to look for them.
 
 ghost use Rattle.std.specs.Prelude.{◌≡◌, ◌+◌, ◌-◌, ◌<◌, ◌&&◌, nat_lt, length, IfErr, IfOk, OnOk, OnErr};
 ghost use Rattle.base.specs.declared.fault.Fault.TheVariants.{GapsFull};
@@ -65,7 +65,7 @@ fn add_longs(gaps: &mut GapList, ruling: Record, above: Ts, below: Ts) -> Result
     Ok(())
 }
 
-// Adds the timestamps that the opening skips, if there are any.
+// Adds the timestamps that opening skips, if there are any.
 fn add_skipped(gaps: &mut GapList, ruling: Record) -> Result<(), Fault>
     requires may_rule { MayRule ruling }
     requires before { HasUpTo ruling ruling.persisted gaps.old }
@@ -91,7 +91,7 @@ pub fn lies_in_gap(ruling: Record, timestamp: Ts) -> bool
         || is_skipped(ruling, timestamp)
 }
 
-// Whether the opening skips the timestamp.
+// Whether opening skips the timestamp.
 fn is_skipped(ruling: Record, timestamp: Ts) -> bool
     ensures { result ≡ (nat_lt ruling.persisted timestamp && nat_lt timestamp ruling.dirty) }
 {

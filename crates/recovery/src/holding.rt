@@ -25,7 +25,7 @@ pub struct Held {
     pub free: Vec<bool>,
     /// The others, in their order.
     pub live: Vec<LiveSlot>,
-    /// By key the place in `live` of its slot.
+    /// For each key, the place of its slot in `live`.
     pub places: BTreeMap<Key, usize, Global>,
 }
 
@@ -116,7 +116,7 @@ fn findings_of(alloc: Global, readings: &[SlotReading]) -> Result<Findings, Allo
     })
 }
 
-// By its key the place of each live slot among them. Of two slots with one key the later one has its place there.
+// For each key, the place of its live slot among the live slots. If two slots have one key, it is the place of the later one.
 fn places_of(
     alloc: Global,
     readings: &[SlotReading],

@@ -1,5 +1,5 @@
 //! Opening writes a record before anything is drawn: what the life before may have drawn and not covered becomes a gap, so no
-//! timestamp is drawn twice, and versions that carry one of them count for nobody. All that takes memory comes before the first
+//! timestamp is drawn twice, and versions that have one of them don't count for any reader. All that takes memory comes before the first
 //! operation, so if opening is refused, the image is as it was.
 
 ghost use Rattle.std.specs.Prelude.{◌≡◌, ◌+◌, ◌-◌, ◌*◌, ◌^◌, ◌<◌, ◌≤◌, ℕ, List, [], IfOk, IfErr, OnOk, OnErr, MatchResult};
@@ -60,7 +60,7 @@ pub fn open<R: Threads + Sync, D: Pmem + Drop + Send + Sync>(
     // A fault of the superblock, of a gate or of the ruling record is reported even if memory is refused.
     ensures log { IfErr result (λ e. ReportsLogFault (image_of (D.state device)) e.0) }
 
-    // A crash at any moment leaves the same history, under the record that ruled or the one that the opening writes.
+    // A crash at any moment leaves the same history, under the record that ruled or the one that opening writes.
     // What was drawn and not covered is left out.
     ensures images { (history drawn : List Commit) (next : ℕ) → Stands (image_of (D.state device)) history drawn next
         → MatchResult result
@@ -103,11 +103,11 @@ pub struct OpenedImage {
     pub next: u64,
     pub free: Vec<bool>,
     pub live: Vec<LiveSlot>,
-    /// By key the place of its slot in `live`.
+    /// For each key, the place of its slot in `live`.
     pub places: BTreeMap<Key, usize, Global>,
 }
 
-/// The same, of a device that stays where it is.
+/// The same, for a device that stays where it is.
 pub fn open_device<R: Threads + Sync, D: Pmem + Sync>(
     rt: &R,
     alloc: Global,
@@ -154,7 +154,7 @@ impl Examined {
         found.open_today(device)
     }
 
-    // The same of an image of today's version.
+    // The same, for an image of the current version.
     fn open_today<D: Pmem>(self, device: &mut D) -> Result<OpenedImage, Fault>
         requires examined { IsExaminedAs (image_of (D.state device.old)) self.geometry self.ruling self.gaps self.free.items self.live.items }
         requires hits { AreHits (image_of (D.state device.old)) self.geometry self.gaps self.hits.items }

@@ -26,8 +26,8 @@ pub struct ImageContents {
     pub rows: Vec<(Key, Row)>,
 }
 
-/// Reads an image without opening it, and so also one whose opening would find no timestamps left. It is refused for what
-/// is wrong with it.
+/// Reads an image without opening it, and so also one whose opening would find no timestamps left. The image is refused for
+/// what is wrong with it.
 pub fn read_image<R: Threads + Sync>(
     rt: &R,
     alloc: Global,

@@ -62,14 +62,14 @@ pub struct SlotReading {
     pub found: SlotContent,
 }
 
-// Whether what was begun and ended then is live under the record.
+// Whether a version with this begin and this end is live under the record.
 fn is_shown(ruling: Record, begin: Ts, end: Ts) -> bool
     ensures { result ≡ (is_committed ruling begin && not (is_committed ruling end)) }
 {
     ruling.commits(begin) && !ruling.commits(end)
 }
 
-// What a slot of an image holds that has this layout and that this record rules.
+// What a slot holds, of an image that has this layout and that this record rules.
 fn look<D: Pmem>(device: &D, geometry: Geometry, ruling: Record, slot: u64) -> SlotReading
     requires size { (D.state device.now).words ≡ total_words geometry }
     requires under { IsUnder geometry ruling (image_of (D.state device.now)) }
@@ -106,7 +106,7 @@ fn look<D: Pmem>(device: &D, geometry: Geometry, ruling: Record, slot: u64) -> S
     }
 }
 
-// How many slots a thread reads before it looks for more, and fewer are not worth a second thread.
+// How many slots a thread reads before it looks for more. Fewer aren't worth a second thread.
 const CHUNK: usize = 2048;
 
 // What one reading of each slot gives, in their order, by several threads. Each writes what it reads to its final place.
@@ -152,14 +152,14 @@ fn read_into<R: Threads + Sync, D: Pmem + Sync>(
     );
 }
 
-// What stands for a reading that is still to be made.
+// A placeholder for a reading that is still to be made.
 const UNREAD: SlotReading = SlotReading {
     begin: 0,
     end: 0,
     found: SlotContent::Bad,
 };
 
-// Reads as many slots as there are readings, from one on.
+// Reads as many slots as there are readings, from the first on.
 fn read_chunk<D: Pmem>(
     device: &D,
     geometry: Geometry,

@@ -22,7 +22,7 @@ use log_area::Record;
 use pmem::Pmem;
 use std::alloc::{AllocError, Global};
 
-// Whether a sweep stores 0 in each slot, by what was read of each.
+// Whether a sweep stores 0 in each slot, by what was read of it.
 pub fn hit_slots(
     alloc: Global,
     ruling: Record,

@@ -1,4 +1,4 @@
-//! An older version is laid out the same, so its number is all that changes. That persists before the record is written, which
+//! An older version has the same layout, so only its number changes. That number persists before the record is written, which
 //! may name what the older version has no place for.
 
 ghost use Rattle.std.specs.Prelude.{◌≡◌, None, IfOk, IfErr, OnOk, OnErr};
@@ -14,7 +14,7 @@ use log_area::update_version;
 use pmem::Pmem;
 
 /// Gives an image that opens the version that it has once it is open, if it has another, and waits until that
-/// persists. Returns the layout that it has then.
+/// persists. Returns the layout that the image has then.
 pub(crate) fn update<D: Pmem>(device: &mut D, geometry: Geometry) -> Result<Geometry, Fault>
     requires opens { opening_fault (image_of (D.state device.old)) ≡ None }
     requires laid_out { layout_of (image_of (D.state device.old)) ≡ geometry }

@@ -27,7 +27,7 @@ IsClosingRefusal q old new fault =
     ((closing_fault q ≡ Some fault) × (new ≡ old))
     ⊎ ((closing_fault q ≡ None) × (fault ≡ DeviceFault) × (old.failures < new.failures))
 
--- a state is shown from which the close goes on
+-- a state is shown from which closing goes on
 pub record GoesOnFrom (new : VolatileState) (before now : Device) (q q' : State) : Type 0 where
   pub shows : Shows new now q'
   pub works : q'.failed ≡ false
@@ -39,7 +39,7 @@ pub record ClosePhaseDone (old new : VolatileState) (before now : Device) : Type
   pub no_failure : HasNoFailure before now
   pub goes_on : (q : State) → Shows old before q → q.failed ≡ false → (q' : State) × GoesOnFrom new before now q q'
 
--- an operation failed in it
+-- an operation failed in this part
 pub record ClosePhaseFailed (old : VolatileState) (before now : Device) (fault : Fault) : Type 0 where
   pub fault_is : fault ≡ DeviceFault
   pub failure : before.failures < now.failures

@@ -27,7 +27,7 @@ chosen_reply (Ok true) = Ticked Chosen
 chosen_reply (Ok false) = Idle
 chosen_reply (Err fault) = Refused fault
 
--- the reply of a tick that came to this, if this batch was covered last
+-- the reply of a tick with this result, if this batch was covered last
 abbrev pub as_reply : Result Tick Fault → Option Batch → Reply
 as_reply (Ok came.Idle) last = Idle
 as_reply (Ok (came.Reached stage)) last = Ticked stage
@@ -35,7 +35,7 @@ as_reply (Ok came.Covered) (Some batch) = Covered batch
 as_reply (Ok came.Covered) None = Done
 as_reply (Err fault) last = Refused fault
 
--- what waits to be handed out after a tick that came to this, if something waited before: the batch that it covered, or
+-- what waits to be handed out after a tick with this result, if something waited before: the batch it covered, or
 -- the same as before
 abbrev pub Waits : Result Tick Fault → Option Batch → Option Batch → Type 0
 Waits (Ok came.Covered) before now = IsSome now

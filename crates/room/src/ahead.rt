@@ -9,7 +9,7 @@ impl<D: SyncAhead + Drop> Room<D> {
     ghost use Rattle.machine.specs.Machine.{State};
     ghost use Rattle.room.specs.Room.{Shows, covered_by, device_of};
 
-    /// Hands out the sync that the committer's next tick would wait for, if it can be made ahead of it.
+    /// Hands out the sync that the committer's next tick would wait for, if it can be made ahead of that tick.
     pub fn begin_sync(&mut self) -> Option<D::Pending>
         ensures device { device_of D.state self.new ≡ device_of D.state self.old }
         ensures shows { (q : State) → Shows D.state self.old q → Shows D.state self.new q }
@@ -18,7 +18,7 @@ impl<D: SyncAhead + Drop> Room<D> {
         self.device.begin_sync(Actor::COMMITTER)
     }
 
-    /// Takes it back.
+    /// Takes the sync back.
     pub fn end_sync(&mut self, pending: D::Pending)
         ensures device { device_of D.state self.new ≡ device_of D.state self.old }
         ensures shows { (q : State) → Shows D.state self.old q → Shows D.state self.new q }

@@ -124,7 +124,7 @@ fn begin<R: Threads + Sync, D: Pmem + Sync>(
     Ok(VolatileState::new(sessions))
 }
 
-// What is learnt of an image, and the entries of its index.
+// What is learnt about an image, and the entries of its index.
 #[derive(Drop)]
 struct Learnt {
     found: Examined,

@@ -1,5 +1,5 @@
-//! Once an operation has failed the device may hold anything of it, so each later step is refused before it reads or writes:
-//! what a crash left then stays what the next opening finds.
+//! Once an operation has failed, the device may hold any part of it, so each later step is refused before it reads or writes:
+//! what a crash left then is still what the next opening finds.
 
 ghost use Rattle.std.specs.Prelude.{◌≡◌, false};
 ghost use Rattle.room.specs.Steps.{ShowsAs};
@@ -59,7 +59,7 @@ impl<D: Pmem + Drop> Room<D> {
         }
     }
 
-    /// These steps, one after the other, and their replies. Room for all of them is made first: `OutOfMemory`, the only
+    /// Takes these steps, one after the other, and returns their replies. Room for all replies is made first: `OutOfMemory`, the only
     /// refusal, does nothing.
     pub fn drive(&mut self, steps: &[Step]) -> Result<Vec<Reply>, Fault>
         ensures run { IfOk result (λ replies. (q : State) → Shows D.state self.old q → (states : List State) × RunsTo D.state self.old self.new steps.now replies.items q states) }
@@ -83,7 +83,7 @@ impl<D: Pmem + Drop> Room<D> {
         self.volatile.closing_gate()
     }
 
-    /// The covered rows by rising key, also once the device has failed.
+    /// The covered rows by rising key, even if the device has failed.
     pub fn tables(&self) -> Result<Vec<(Key, Row)>, Fault>
         ensures ok { IfOk result (λ rows. (q : State) → Shows D.state self.now q → Lists rows.items (after q.history)) }
         ensures fault { IfErr result (λ fault. fault ≡ OutOfMemory) }

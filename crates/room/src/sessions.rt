@@ -20,7 +20,7 @@ impl<D: Pmem + Drop> Room<D> {
     ghost use Rattle.session_steps.specs.Replies.{began, read, scanned, done, drawn, stamped, polled};
     ghost use Rattle.room.specs.Room.{Leads, covered_by};
 
-    /// Opens a session under the lowest number that is free. Its number.
+    /// Opens a session under the lowest free number. Returns the number.
     #[inline(always)]
     pub fn begin(&mut self) -> Result<u8, Fault>
         ensures step { Leads D.state self.old self.new Begin (as_reply (began result)) }
@@ -99,7 +99,7 @@ impl<D: Pmem + Drop> Room<D> {
         self.volatile.sessions.draw(session)
     }
 
-    /// Stamps the next of the keys that a session has drawn. Whether it was the last.
+    /// Stamps the next of the keys that a session has drawn. Returns whether it was the last.
     #[inline(always)]
     pub fn stamp(&mut self, session: u8) -> Result<bool, Fault>
         ensures step { Leads D.state self.old self.new (Stamp session) (as_reply (stamped result)) }

@@ -39,7 +39,7 @@ impl VolatileState {
         }
     }
 
-    // The reply of a tick that came to this. A batch that it covered is handed out.
+    // The reply of a tick with this result. A batch that the tick covered is handed out.
     #[inline(always)]
     pub(crate) fn reply_of(&mut self, returned: Result<Tick, Fault>) -> Reply
         ensures reply { result ≡ as_reply returned self.old.covered }

@@ -1,11 +1,11 @@
 use base::step::Stage;
 
-/// What a tick of the committer came to.
+/// The result of a tick of the committer.
 #[derive(Clone, Copy, Debug, PartialEq, Eq)]
 pub enum Tick {
     /// There was nothing to do.
     Idle,
-    /// The committer stands at this stage of its cycle.
+    /// The committer is at this stage of its cycle.
     Reached(Stage),
     /// The pending batch is covered.
     Covered,

@@ -1,5 +1,5 @@
-//! What a room keeps in ordinary memory, apart from its device. A stop loses all of it, so nothing here may be what an acknowledged
-//! commit rests on.
+//! What a room keeps in ordinary memory, apart from its device. A stop loses all of it, so no acknowledged commit may depend on what
+//! is here.
 
 use base::batch::Batch;
 use base::fault::Fault;
@@ -72,7 +72,7 @@ impl VolatileState {
         self.sessions.collect(device)
     }
 
-    // The covered rows by rising key, on the device on which the volatile state shows a plain state, a failed one too.
+    // The covered rows by rising key, on the device on which the volatile state shows a plain state, also a failed one.
     pub(crate) fn tables<D: Pmem>(
         &self,
         alloc: Global,

@@ -1,5 +1,5 @@
-//! A tick and a visit are what most steps of a life are, and they answer little. A reply has room for the largest there is: the calls
-//! that return what a tick or a visit came to don't move one.
+//! Most steps of a life are ticks and visits, and they return little. A reply has room for the largest there is: the calls
+//! that return the result of a tick or a visit don't move one.
 
 use crate::replies::visited;
 use crate::room::Room;

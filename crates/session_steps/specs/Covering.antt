@@ -57,7 +57,7 @@ pub record IsOf (q : State) (hand : Hand) (ruling : Record) : Type 0 where
   pub in_hand : q.hand ≡ Some hand
   pub target : hand.target ≡ ruling
 
--- what holds before it is covered, whatever is hidden
+-- what holds before the batch is covered, whatever is hidden
 pub record MayCover (s : Sessions) (ruling : Record) (h : Hidden) (hand : Hand) : Type 0 where
   pub keeps : Keeps h.origin (plain_of s h)
   pub agrees : Agrees s h.origin h.seen (plain_of s h)

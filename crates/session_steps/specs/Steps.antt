@@ -92,7 +92,7 @@ pub record Holds (s : Sessions) (h : Hidden) : Type 0 where
 abbrev pub HoldsSome : Sessions → Type 0
 HoldsSome s = (h : Hidden) × Holds s h
 
--- a step leads to a state that agrees with the sessions then: all that there is to say of one that makes no operation
+-- a step leads to a state that agrees with the sessions then: this is all there is to say about a step that makes no operation
 pub record Goes (old new : Sessions) (step : SessionStep) (reply : SessionReply) (h : Hidden) : Type 0 where
   pub next : Hidden
   pub origin : next.origin ≡ h.origin
@@ -146,7 +146,7 @@ is_active (Active snapshot writes) = true
 is_active (Drawn t) = false
 is_active ReadOnly = false
 
--- no commit of its is drawn: it is covered, or it wrote nothing
+-- it has no drawn commit: its commit is covered, or it wrote nothing
 abbrev pub is_over : List DrawnCommit → Transaction → Bool
 is_over drawn (Active snapshot writes) = false
 is_over drawn (Drawn t) = is_none (drawn_at t drawn)

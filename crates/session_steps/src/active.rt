@@ -19,7 +19,7 @@ pub struct Active<'a> {
 #[derive(Clone, Copy)]
 pub struct Barred;
 
-/// What bars a session whose transaction isn't one that the step is of.
+/// What bars a session whose transaction isn't one that the step applies to.
 #[inline(always)]
 pub fn bar(transactions: &Transactions, session: u8) -> Fault
     ensures { result ≡ bar_of (transaction_at transactions.now session) }

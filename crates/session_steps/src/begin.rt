@@ -6,7 +6,7 @@ impl Sessions {
     ghost use Rattle.session_steps.specs.Replies.{began};
     ghost use Rattle.session_steps.specs.Steps.{HoldsSome, Takes};
 
-    /// Opens a session under the lowest number that is free. Its number.
+    /// Opens a session under the lowest free number. Returns the number.
     #[inline(never)]
     pub fn begin(&mut self) -> Result<u8, Fault>
         requires shown { ∥ HoldsSome self.old ∥₁ }

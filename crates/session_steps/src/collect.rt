@@ -62,7 +62,7 @@ impl<'a> Readers for SnapshotsInUse<'a> {
 }
 
 // The index forgets the version in a slot that was visited, if the visit freed it: no entry names a slot that was free before. The
-// place of the entry that named it.
+// result is the place of the entry that named it.
 #[inline(always)]
 fn forget_freed<D: Pmem>(
     index: &mut Index,
@@ -84,7 +84,7 @@ fn forget_freed<D: Pmem>(
     }
 }
 
-// The index forgets the version in a slot. The place of the entry that named it.
+// The index forgets the version in a slot. Returns the place of the entry that named it.
 #[inline(never)]
 fn forget<D: Pmem>(index: &mut Index, device: &D, geometry: Geometry, slot: SlotNo) -> Option<usize>
     requires slot { slot < geometry.slots }
@@ -123,7 +123,7 @@ impl Sessions {
         }
     }
 
-    // One visit once the gaps are swept.
+    // One visit, once the gaps are swept.
     #[inline(always)]
     fn visit<D: Pmem>(&mut self, device: &D) -> Visit
         requires shown { ∥ ShowsSome self.old (D.state device.now) ∥₁ }
@@ -156,7 +156,7 @@ impl Sessions {
         }
     }
 
-    // One visit before: the gaps are those that the ruling record names.
+    // One visit before that: the gaps are those that the ruling record names.
     #[inline(never)]
     fn sweep<D: Pmem>(&mut self, device: &mut D) -> Result<Visit, Fault>
         requires shown { ∥ ShowsSome self.old (D.state device.old) ∥₁ }

@@ -23,7 +23,7 @@ fn cover_writes(index: &mut Index, writes: &WriteSet)
     }
 }
 
-// Covers the versions of those of the commits that the record commits. The numbers of the sessions that drew them.
+// Covers the versions of the commits that the record commits. Returns the numbers of the sessions that drew them.
 fn cover_commits(index: &mut Index, commits: &[DrawnCommit], ruling: &Record) -> SessionSet
     requires room { All (λ d. HasRoom index.old d.writes) commits.now }
     requires numbered { IsTrue (are_numbered commits.now) }

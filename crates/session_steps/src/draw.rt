@@ -19,16 +19,16 @@ use index::{Entry, Index};
 use snapshot::Snapshot;
 use txn::{DrawnCommit, Transaction, WriteSet};
 
-// How many entries of the index are looked at for each key that may get one. Of those that say nothing there are never more than
-// of the others for long: when all have been looked at, a fourth as many have been added.
+// How many entries of the index are looked at for each key that may get one. Entries that say nothing are never more than the
+// others for long: when all have been looked at, a fourth as many have been added.
 const LOOKS_A_KEY: usize = 4;
 
-/// What the index says of the keys that a transaction has written.
+/// What the index says about the keys that a transaction has written.
 #[derive(Clone, Copy)]
 pub struct Asked {
-    /// The least that was last drawn by a commit which the snapshot doesn't cover.
+    /// The least key that was last drawn by a commit which the snapshot doesn't cover.
     pub conflict: Option<Key>,
-    /// Whether each has an entry, if none is in conflict.
+    /// Whether each key has an entry, if none is in conflict.
     pub all_there: bool,
 }
 

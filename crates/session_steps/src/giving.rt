@@ -30,7 +30,7 @@ pub fn give(slots: &mut SlotAlloc, slot: Option<SlotNo>)
     }
 }
 
-/// What the writes of a transaction say of a key that it is to write.
+/// What the writes of a transaction say about a key that it is to write.
 #[derive(Clone, Copy)]
 pub struct OwnKey {
     /// The slot of its version of the key.

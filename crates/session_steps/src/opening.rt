@@ -21,7 +21,7 @@ impl Sessions {
     ghost use Rattle.session_steps.specs.Opening.{ShowsOpened};
 
     /// The sessions of a life that begins on an opened device, with the index of its slots, those that are free, and a table of its
-    /// lines that nobody touches: none is open. It takes no memory.
+    /// lines that nobody touches. No session is open. It takes no memory.
     pub fn open(
         alloc: Global,
         index: Index,

@@ -1,7 +1,7 @@
 //! A put clears before it fills. A free slot may still hold a begin that the ruling record commits, of a version that was
 //! replaced and collected: with a new key and row behind it, a crash would show a row that nobody committed. So 0 is sure to
-//! survive in the begin before any other word of the slot is stored; after that these need no order, since a slot whose begin
-//! is 0 is read by nobody. A slot that the session already has was cleared when it was taken, and is filled again as it is.
+//! survive in the begin before any other word of the slot is stored; after that these need no order, since nobody reads a slot
+//! whose begin is 0. A slot that the session already has was cleared when it was taken, and is filled again as it is.
 
 ghost use Rattle.std.specs.Prelude.{◌≡◌, ◌≢◌, None, Some, IfErr};
 ghost use Rattle.base.specs.declared.fault.Fault.TheVariants.{OutOfMemory};

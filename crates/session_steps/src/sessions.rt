@@ -16,7 +16,7 @@ pub struct Sessions {
     pub(crate) dirty: DirtyTable,
     pub(crate) slots: SlotAlloc,
     pub(crate) collector: Collector,
-    // The place of the index's entry that is looked at next, so that none stays that says nothing.
+    // The place of the index's entry to look at next, so that none stays that says nothing.
     pub(crate) next_entry: usize,
     pub(crate) alloc: Global,
 }

@@ -1,7 +1,7 @@
 //! An entry of the index is settled when its key has no version any more, and all who may still ask have seen the last commit that
-//! wrote it. It says no more then than a key without an entry does, and is taken out: so the index grows with the keys that have
+//! wrote it. The entry then says no more than a missing one would, and is taken out: so the index grows with the keys that have
 //! versions, and not with those that ever had one. A deletion of a key that has no row leaves an entry that no visit comes to. So
-//! who adds entries also looks at some that are there, each in its turn.
+//! a step that adds entries also looks at some that are there, each in its turn.
 
 ghost use Rattle.std.specs.Prelude.{◌≡◌, ◌+◌, nat_lt, if◌then◌else◌};
 ghost use Rattle.snapshot.specs.Snapshots.{seen_by};
@@ -27,7 +27,7 @@ fn is_settled(entry: &Entry, readers: &SnapshotsInUse<'_>) -> bool
     }
 }
 
-// Takes the entry at the place out if it is settled. Whether it was.
+// Takes the entry at the place out if it is settled. Returns whether it was.
 #[inline(always)]
 fn settle_at(index: &mut Index, place: usize, readers: &SnapshotsInUse<'_>) -> bool
     ensures { Settles (all_cover (seen_by readers.now.numbers.now.record) readers.now.transactions.now) place index.old index.new result }
@@ -70,7 +70,7 @@ impl Sessions {
         }
     }
 
-    // Looks at the next entry, and takes it out if it is settled: the last comes to its place, and is the next then.
+    // Looks at the next entry, and takes it out if it is settled: the last entry then moves to its place, and is the next one.
     fn settle_one(&mut self)
         ensures tidies { Tidies self.old self.new }
         ensures looks { (is_out : Bool) × Settles (all_cover (seen_by self.old.numbers.record) self.old.transactions) self.old.next_entry self.old.index self.new.index is_out }

@@ -58,7 +58,7 @@ impl Sessions {
         }
     }
 
-    /// Stamps one write more of a session's commit. Whether it was the last.
+    /// Stamps one more write of a session's commit. Returns whether it was the last.
     #[inline(never)]
     pub fn stamp<D: Pmem>(&mut self, device: &mut D, session: u8) -> Result<bool, Fault>
         requires shown { ∥ HoldsSomeOn self.old (D.state device.old) ∥₁ }
@@ -148,7 +148,7 @@ fn stamp_own<D: Pmem>(
     }
 }
 
-// And in the end of one.
+// Stores a timestamp in the end of a slot, if there is one.
 #[inline(always)]
 fn stamp_ended<D: Pmem>(
     device: &mut D,

@@ -13,7 +13,7 @@ impl Sessions {
     ghost use Rattle.base.specs.declared.fault.Fault.TheVariants.{OutOfMemory};
     ghost use Rattle.session_steps.specs.Shows.{Shows, ShowsAny};
 
-    /// The covered rows by rising key, on the device on which the sessions show a plain state, a failed one too.
+    /// The covered rows by rising key, on the device on which the sessions show a plain state, also a failed one.
     pub fn tables<D: Pmem>(&self, alloc: Global, device: &D) -> Result<Vec<(Key, Row)>, Fault>
         requires shown { ∥ ShowsAny self.now (D.state device.now) ∥₁ }
         ensures ok { IfOk result (λ rows. (q : State) → Shows self.now (D.state device.now) q → Lists rows.items (after q.history)) }

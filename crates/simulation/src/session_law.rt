@@ -3,18 +3,18 @@
 
 ghost use Rattle.simulation.specs.sessions.Laws.{PresentSees, StepsKeepSight, Reads, ChainsLead, LinksLead, Conflicts, BatchesCover};
 
-/// The snapshot of all that is covered covers exactly what counts, and over every step each snapshot stays exact.
+/// The snapshot of all that is covered covers exactly what counts, and each snapshot stays exact over every step.
 pub fn snapshots_stay_exact()
     ensures present { PresentSees }
     ensures step { StepsKeepSight }
 {}
 
-/// What a snapshot in use covers in the slots are the rows of its tables, each key once; in a failed state too.
+/// What a snapshot in use covers in the slots is exactly the rows of its tables, each key once; also in a failed state.
 pub fn snapshots_read_their_tables()
     ensures { Reads }
 {}
 
-/// From a key's newest version that is held links lead to the version that a snapshot sees; in a failed state too.
+/// From a key's newest version that is held, links lead to the version that a snapshot sees; also in a failed state.
 pub fn links_lead_to_what_is_seen()
     ensures chains { ChainsLead }
     ensures device { LinksLead }
@@ -25,7 +25,7 @@ pub fn conflicts_are_of_last_draws()
     ensures { Conflicts }
 {}
 
-/// A batch is of the drawn commits that its record commits. The others stay drawn, and the versions of the batch are the
+/// A batch has exactly the drawn commits that its record commits. The others stay drawn, and the versions of the batch are the
 /// newest on the keys that it writes.
 pub fn records_say_who_is_covered()
     ensures { BatchesCover }

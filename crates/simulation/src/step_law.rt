@@ -8,7 +8,7 @@ pub fn runs_count()
     ensures { RunsCount }
 {}
 
-/// One that stops makes fewer, and one fails.
+/// A run that stops makes fewer, and one operation fails.
 pub fn stops_count()
     ensures { StopsCount }
 {}
@@ -39,7 +39,7 @@ pub fn stamps_lead()
     ensures { StampsLead }
 {}
 
-/// A stamp that makes an operation is one of which the machine says that a device may fail in it.
+/// If a stamp makes an operation, the machine says that the device may fail in it.
 pub fn stamps_operate()
     ensures { StampsOperate }
 {}

@@ -3,7 +3,7 @@
 
 ghost use Rattle.simulation.specs.visits.Laws.{VisitsKeep, VisitsLead, VisitsCount, SweepsEnd, EndsShowGarbage, VisitsKeepSight};
 
-/// A visit keeps what a plain state of a life keeps: of the slot that it frees no snapshot in use reads the version.
+/// A visit keeps what a plain state of a life keeps: no snapshot in use reads the version in the slot that it frees.
 pub fn visits_keep()
     ensures { VisitsKeep }
 {}
@@ -19,7 +19,7 @@ pub fn visits_count()
     ensures { VisitsCount }
 {}
 
-/// Once a sweep has ended no crash leaves a timestamp of a swept gap in the begin or the end of any slot.
+/// Once a sweep has ended, no crash leaves a timestamp of a swept gap in the begin or the end of any slot.
 pub fn sweeps_end()
     ensures { SweepsEnd }
 {}

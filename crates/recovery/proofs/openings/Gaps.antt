@@ -377,7 +377,7 @@ module _ (r : Record) (may : MayRule r) where
       pub all-between : HasLongsBetween r last (r.persisted + 1)
       all-between = longs-between last (r.persisted + 1) (omega arith) (λ t up down. none-at 0 r.gaps i t own-tidy (omega (arith, up, joined_to.at)) (λ lt. absurd (omega (arith, lt, all))) (omega (arith, all)))
 
-  -- ---- the timestamps that the opening skips
+  -- ---- the timestamps that opening skips
 
   lies-below : (t : ℕ) → lies t ≡ true → t ≤ r.dirty - 1
   lies-below t lay =

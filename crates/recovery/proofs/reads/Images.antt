@@ -23,7 +23,7 @@ refusal-log image fault (inl is) = inl (log-first image fault is)
 refusal-log image fault (inr memory) = inr memory
 
 module _ (layout : Layout) (r : Record) (image : Image) (rules : IsRuledBy layout r image) where
-  -- the same, with what stands at the end of the list
+  -- the same, with what is at the end of the list
   first-is : (rest : Option Fault) → option_or (some_if (not (is_formatted image)) NotFormatted)
       (option_or (some_if (not (is_known_version (layout_of image).version)) (Version (layout_of image).version))
       (option_or (some_if (not (has_good_geometry image)) BadGeometry)

@@ -59,7 +59,7 @@ module _ (c : VolatileState) (before : Device) (gate : ℕ) (is : gate ≡ c.ses
     pub refused-part : (now : Device) (fault : Fault) → ClosePhaseFailed c before now fault → (q : State) → Shows c before q → q.failed ≡ false → IsClosingRefusal q before now fault
     refused-part now fault part q shown works = inr (may-close q shown works, part.fault_is, part.failure)
 
-    -- ---- the close as a whole
+    -- ---- closing as a whole
 
     module _ (new : VolatileState) (between : Device) (done : ClosePhaseDone c new before between) where
       pub numbered-last : new.cycle ≡ None → ∥ ShowsSome c before ∥₁ → new.sessions.numbers.record.gate + 1 < 2 ^ 62

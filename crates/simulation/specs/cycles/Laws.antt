@@ -83,7 +83,7 @@ abbrev pub LineTicks : Type 0
 LineTicks = (o : Origin) (q : State) (hand : Hand) (i : ℕ) (line : Line) (old new : Device) → IsOrderly old → IsOrderly new → HasInHand o q hand (1 + i) old → slice_get (lines_in q hand.commits) i ≡ Some line
     → new ≡ flushed committer (line_number q.layout line) old → Ticks o q (one_tick_on q hand) (Ticked (LineFlushed i)) old new
 
--- all are, and the committer fences
+-- all lines are flushed, and the committer fences
 abbrev pub FenceTicks : Type 0
 FenceTicks = (o : Origin) (q : State) (hand : Hand) (old new : Device) → IsOrderly old → IsOrderly new → HasInHand o q hand (1 + length (lines_in q hand.commits)) old
     → new ≡ fenced committer old → Ticks o q (one_tick_on q hand) (Ticked LinesFenced) old new
@@ -94,7 +94,7 @@ OperationTicks = (o : Origin) (q : State) (hand : Hand) (stage : WritingStage) (
     → HasInHand o q hand (2 + length (lines_in q hand.commits) + operations_before stage) old
     → new ≡ applied (operation_of (writing_at q hand stage)) old → Ticks o q (one_tick_on q hand) (Ticked reached) old new
 
--- and the last, which covers it
+-- and the last tick, which covers the batch
 abbrev pub CoveringTicks : Type 0
 CoveringTicks = (o : Origin) (q : State) (hand : Hand) (old new : Device) → IsOrderly old → IsOrderly new → HasInHand o q hand (2 + length (lines_in q hand.commits) + operations_before FenceGate) old
     → new ≡ fenced committer old → Ticks o q (state_covered q hand) (Covered (batch_of q hand)) old new

@@ -30,19 +30,19 @@ StepsKeepSight =
     (o : Origin) (q q' : State) (step : Step) (reply : Reply) (snapshot : Seen) (begun : ℕ) → Keeps o q → begun ≤ length q.history → Stepped q step reply q' → Sees o q snapshot begun
     → Sees o q' snapshot begun
 
--- what a snapshot in use covers in the words of the slots are the rows of its tables
+-- what a snapshot in use covers in the words of the slots is exactly the rows of its tables
 abbrev pub Reads : Type 0
 Reads =
     (o : Origin) (q : State) (device : Device) (snapshot : Seen) (begun : ℕ) → IsOrderly device → Upholds o q device → IsInUse q begun → Sees o q snapshot begun
     → ReadsBy (covers snapshot) q.layout (after (take begun q.history)) (image_of device)
 
--- from a key's newest version links lead to the one that a snapshot sees, of each that covers the ends of what was freed
+-- from a key's newest version links lead to the one that a snapshot sees, for each that covers the ends of what was freed
 abbrev pub ChainsLead : Type 0
 ChainsLead =
     (o : Origin) (q : State) (image : Image) (snapshot : Seen) (n : ℕ) (key : Key) (newest : Option ℕ) → layout_of image ≡ q.layout → length image ≡ total_words q.layout → Keeps o q
     → SlotsShow o q (slice_index image) → Links o q (slice_index image) → CoversFreed o q (slice_index image) n → SeesBegins o q snapshot n image → HoldsNewest q key newest → IsLinked snapshot image key newest
 
--- so they do on a device, of each snapshot in use
+-- so they do on a device, for each snapshot in use
 abbrev pub LinksLead : Type 0
 LinksLead =
     (o : Origin) (q : State) (device : Device) (snapshot : Seen) (begun : ℕ) (key : Key) (newest : Option ℕ) → IsOrderly device → Upholds o q device → IsInUse q begun → Sees o q snapshot begun

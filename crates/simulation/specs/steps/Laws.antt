@@ -24,7 +24,7 @@ RunsCount =
     (ops : List Operation) (old new : Device) → all_succeed ops ≡ true → Runs ops old new
     → (operations_of new ≡ operations_of old + length ops) × (new.failures ≡ old.failures)
 
--- one that stops makes fewer, and one fails
+-- a run that stops makes fewer, and one operation fails
 abbrev pub StopsCount : Type 0
 StopsCount =
     (ops : List Operation) (old new : Device) → all_succeed ops ≡ true → StopsWithin ops old new
@@ -54,14 +54,14 @@ pub record PutsLead : Type 0 where
       → slot < q.layout.slots → held_after_put q n v.key slot ≡ Some (version_by v.key (BySession n))
       → StopsWithin (put_operations q n actor slot v) old new → Upholds o q old → Leads o q (record q { failed = true }) old new
 
--- it makes no more operations than the machine allows
+-- a put makes no more operations than the machine allows
 pub record PutsCount : Type 0 where
   pub stored : (q : State) (n actor slot : ℕ) (v : Content) (old new : Device) → Runs (put_operations q n actor slot v) old new → Takes (most_operations q (Put n v.key v.row)) 0 old new
   pub stopped : (q : State) (n actor slot : ℕ) (v : Content) (old new : Device) → StopsWithin (put_operations q n actor slot v) old new → Takes (most_operations q (Put n v.key v.row)) 1 old new
 
 -- ---- a stamp
 
--- a stamp of the next write of the session's commit; or one that the device stopped
+-- a stamp of the next write of the session's commit; or a stamp that the device stopped
 pub record StampsLead : Type 0 where
   pub stored : (o : Origin) (q : State) (n : ℕ) (key : Key) (row : Option (List ℕ)) (own ended : Option ℕ) (old new : Device) → refusal q (Stamp n) ≡ None → stamped_write q n ≡ Some (key, row)
       → IsSlotOf q (version_by key (ByCommit (timestamp_of (q.sessions n)))) own → IsSlotOf q (newest_of q key) ended
@@ -77,7 +77,7 @@ StampsOperate =
     → IsSlotOf q (version_by key (ByCommit (timestamp_of (q.sessions n)))) own → IsSlotOf q (newest_of q key) ended
     → 0 < length (stamp_operations q own ended (timestamp_of (q.sessions n))) → operates q (Stamp n) ≡ true
 
--- it makes no more operations than the machine allows
+-- a stamp makes no more operations than the machine allows
 pub record StampsCount : Type 0 where
   pub stored : (q : State) (n t : ℕ) (own ended : Option ℕ) (old new : Device) → Runs (stamp_operations q own ended t) old new → Takes (most_operations q (Stamp n)) 0 old new
   pub stopped : (q : State) (n t : ℕ) (own ended : Option ℕ) (old new : Device) → StopsWithin (stamp_operations q own ended t) old new → Takes (most_operations q (Stamp n)) 1 old new

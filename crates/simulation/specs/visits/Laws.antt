@@ -20,7 +20,7 @@ use Rattle.simulation.specs.visits.Garbage.{is_covered_by_all}
 abbrev pub VisitsKeep : Type 0
 VisitsKeep = (o : Origin) (q : State) → Keeps o q → Keeps o (visited q)
 
--- a visit, whose operations were made; or one that the device stopped
+-- a visit whose operations were made; or a visit that the device stopped
 pub record VisitsLead : Type 0 where
   pub made : (o : Origin) (q : State) (old new : Device) → q.failed ≡ false → Runs (visit_operations q (value_of old)) old new → Upholds o q old → Leads o q (visited q) old new
   pub stopped : (o : Origin) (q : State) (old new : Device) → q.failed ≡ false → StopsWithin (visit_operations q (value_of old)) old new → Upholds o q old → Leads o q (record q { failed = true }) old new

@@ -51,7 +51,7 @@ filter-drawn p (d ∷ ds) = grind (arith, filter-drawn p ds)
 gaps-dropped : (q : State) (gaps : List Gap) → (gaps ≡ q.ruling.gaps) ⊎ ((q.swept ≡ true) × (gaps ≡ [])) → (if q.swept then [] else gaps) ≡ (if q.swept then [] else q.ruling.gaps)
 gaps-dropped q gaps a = grind (arith)
 
--- the close covers the same commits, under the same record
+-- closing covers the same commits, under the same record
 closed-covered : (q : State) (hand : Hand) → KeepsHand q hand → closed (state_covered q hand) ≡ closed (record q { hand = Some hand })
 closed-covered q hand k = λ i. record {
   ruled_by = record { gate = number i; persisted = q.next - 1; dirty = q.next; gaps = gaps-dropped q hand.target.gaps k.gaps i; longs = [] };
@@ -103,7 +103,7 @@ tick-covers q hand in_hand k = record {
     by image cover s (inl c) = grind (arith, one-is (present (state_covered q hand)) cover c, second-at q hand in_hand, stands-in_hand q hand image)
     by image cover s (inr c) = grind (arith, one-is (closed (state_covered q hand)) cover c, closing-last q, last image)
 
--- ---- whatever the tick comes to
+-- ---- whatever the result of the tick
 
 module _ (q q' : State) (hand : Hand) (reply : Reply) (in_hand : q.hand ≡ Some hand) (up : q.failed ≡ false) (stepped : Stepped q CommitTick reply q') where
   outcome : (q' ≡ one_tick_on q hand) ⊎ ((q' ≡ state_covered q hand) ⊎ (q' ≡ record q { failed = true }))
