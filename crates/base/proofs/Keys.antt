@@ -1,4 +1,4 @@
--- Keys: when two are one, which comes first, and lists of them that rise.
+-- Keys: when two are the same, which comes first, and lists of them that rise.
 use Rattle.std.proofs.Common.{◌≡◌, true, false, List, [], ◌∷◌, refl, arith}
 use Rattle.std.proofs.lemmas.Bool.{and_parts, eqb-true}
 use Rattle.std.proofs.lemmas.Bool.Decides.{nat_tests}
@@ -20,7 +20,7 @@ key_lt-trans a b c h k = grind (arith, nat_tests)
 pub key_lt-apart : (a b : Key) → key_lt a b ≡ true → key_eq a b ≡ false
 key_lt-apart a b less = grind (arith, nat_tests)
 
--- of two keys that differ one comes first
+-- if two keys differ, one of them comes first
 pub key_lt-swap : (a b : Key) → key_eq a b ≡ false → key_lt a b ≡ false → key_lt b a ≡ true
 key_lt-swap a b apart less = grind (arith, nat_tests)
 

@@ -91,7 +91,7 @@ second_part o r e h = subst (λ (o : Ordering). is_gt (ordering_then o r) ≡ fa
 key_self : (key : Key) → key_cmp key key ≡ Equal
 key_self key = ap (λ (o : Ordering). ordering_then o (nat_cmp key.key key.key)) (equal key.table key.table refl) ∙ equal key.key key.key refl
 
--- keys of which neither comes after the other are one
+-- keys of which neither comes after the other are the same
 one_key : (a b : Key) → is_gt (key_cmp a b) ≡ false → is_gt (key_cmp b a) ≡ false → a ≡ b
 one_key a b h g = grind (arith, first_part, le_from_not_gt)
 

@@ -34,7 +34,7 @@ pub written_alike : (k : Key) (row other : Option (List ℕ)) (commits : List Co
 written_alike k row other [] h = absurd (cc h)
 written_alike k row other (c ∷ cs) h = grind (arith, written_alike k row other cs)
 
--- rows that differ at written keys alone are alike once the commits are laid over them
+-- rows that differ only at written keys are alike once the commits are laid over them
 pub laid_alike : (k : Key) (row other : Option (List ℕ)) (commits : List Commit) → (is_written k commits ≡ false → other ≡ row) → after_commits k other commits ≡ after_commits k row commits
 laid_alike k row other commits same = grind (arith, written_alike)
 

@@ -9,7 +9,7 @@ use Rattle.board.specs.Cells.{is_written}
 use Rattle.board.specs.Stored.{Stands}
 use Rattle.board.proofs.Puts.{laid_alike}
 
--- rows that differ at keys of the first batch alone
+-- rows that differ only at keys of the first batch
 pub stands_alike : (coverage : Coverage) (floor : ℕ) (rows other : List (Key × List ℕ)) (batches : List Batch) (batch : Batch) (list : Published) → slice_get batches 0 ≡ Some batch → batch.stamp ≤ floor
     → ((k : Key) → is_written k batch.commits ≡ false → lookup_key other k ≡ lookup_key rows k)
     → Stands coverage floor rows batches list → Stands coverage floor other batches list

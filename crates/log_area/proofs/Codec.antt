@@ -1,4 +1,4 @@
--- What the words of a place say of the record in it.
+-- What the words of a place say about the record in it.
 use Rattle.std.proofs.Common.{◌≡◌, ◌⊎◌, inl, inr, ℕ, ◌+◌, ◌*◌, ◌/◌, ◌%◌, ◌^◌, ◌<◌, ◌≤◌, true, List, [], ◌∷◌, length, get_or, drop, refl, sym, ◌∙◌, ap, arith, lit<}
 use Rattle.std.proofs.lemmas.List.{ext_get_or, length-drop}
 use Rattle.base.specs.declared.gap.Gap.{Gap}

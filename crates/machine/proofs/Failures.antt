@@ -14,7 +14,7 @@ use Rattle.base.specs.Replies.{is_failure}
 use Rattle.machine.proofs.Runs.{IsAnswer, Answers-answer}
 use Rattle.machine.proofs.collector.Visits.{visit-changes}
 
--- ---- no refusal of a step that is not made reports one
+-- ---- a refusal of a step that isn't made reports no failing device
 
 -- if there is a fault, it doesn't report a failing device
 abbrev Quiet : Option Fault → Type 0
@@ -38,7 +38,7 @@ refusal-quiet q step = grind (arith, quiet-or, quiet-if, quiet-conflict, quiet-n
 pub answer-quiet : (reply : Reply) → IsAnswer reply → is_failure reply ≡ false
 answer-quiet b a = grind (arith)
 
--- ---- the state fails with the device, and never else
+-- ---- the state fails with the device, and in no other case
 
 choice : (b : Bool) (x y : State) (v : Bool) → x.failed ≡ v → y.failed ≡ v → (cond b x y).failed ≡ v
 choice a x y v p r = grind (arith)

@@ -38,7 +38,7 @@ pub replayed : (q : State) (steps : List Step) → Run q steps (replies q steps)
 replayed q [] = tt
 replayed q (step ∷ steps) = (stepped q step, replayed (state_of q step) steps)
 
--- and it is the only one that it may answer
+-- and this is its only possible reply
 
 answers-answer : (q : State) (step : Step) (reply : Reply) → Answers q step reply → reply ≡ answer q step
 answers-answer q Begin reply a = a

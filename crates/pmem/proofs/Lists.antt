@@ -273,7 +273,7 @@ module _ (Q : ℕ → ℕ → Type 0) where
         let made = makes-run (front s) s.run in
         omega (arith, ap operations_of s.fails, made.stores_made, made.flushes_made, made.fences_made, s.few, all-count (take s.count ops) (front s), all-count ops all, length-take-le s.count ops (omega (arith, s.few)))
 
--- ---- a loop that makes one operation a turn
+-- ---- a loop that makes one operation per turn
 
 module _ (op : ℕ → Operation) where
   abbrev pub turns : ℕ → List Operation
@@ -307,7 +307,7 @@ stores_only Q first value n each = all-first (λ k. store_op (first + k) (value 
 pub flushes_only : (Q : ℕ → ℕ → Type 0) (actor line n : ℕ) → StoreOnly Q (flush_operations actor line n)
 flushes_only Q actor line n = all-first (λ k. flush_op actor (line + k)) (StoresOnly Q) n (λ k lt. tt)
 
--- what is stored in one of them alone
+-- only its own value is stored in each of them
 own : (first : ℕ) (value : ℕ → ℕ) (n k : ℕ) → StoreOnly (IsThereAlone (first + k) (value k)) (store_operations first value n)
 own first value n k = stores_only (IsThereAlone (first + k) (value k)) first value n (λ i less same. let is : i ≡ k = omega (arith, same) in ap value is)
 

@@ -6,7 +6,7 @@ use Rattle.pmem.specs.Device.{Entry, persisted}
 use Rattle.pmem.proofs.Awaited.{persisted_twice}
 use Rattle.pmem_model.specs.Listing.{line_at, is_listed, is_pending, IsListing}
 
--- it depends on the first places alone
+-- it depends only on the first places
 listed-same : (xs ys : List ℕ) (actor line n : ℕ) → ((k : ℕ) → k < n → line_at xs actor k ≡ line_at ys actor k) → is_listed xs actor line n ≡ is_listed ys actor line n
 listed-same xs ys actor line zero same = refl
 listed-same xs ys actor line (suc n) same = let rest = listed-same xs ys actor line n (λ k lt. same k (omega arith)) in (λ i. (line == same n (omega arith) i) || rest i)

@@ -46,7 +46,7 @@ impl Snapshot {
         }
     }
 
-    /// From now on covers the same as `covered`. Usually neither has a gap or a long commit, and no list is copied.
+    /// Becomes a copy of `covered`. Usually neither has gaps or long commits, so no list is copied.
     #[inline(always)]
     pub fn set(&mut self, covered: &Covered<'_>)
         ensures { self.new ≡ covered.now }

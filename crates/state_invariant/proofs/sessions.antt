@@ -1,3 +1,3 @@
--- Lemmas on steps that change one session alone.
+-- Lemmas on steps that change only one session.
 pub mod Changes
 pub mod Steps

@@ -169,7 +169,7 @@ put {T} slab places n key x table at =
         by true is = let e : m ≡ n = grind (arith, nat_tests) in ap (λ (k : ℕ). entry_at places k) e ∙ at
         by false is = refl
 
--- ---- below which number each is taken
+-- ---- the number below which each is taken
 
 -- and one with a value a place
 has-place : {T : Type 0} (slab : Slab T) (places : List (Option ℕ)) (k : ℕ) → is_none (entry_at (listed slab places) k) ≡ false → is_none (entry_at places k) ≡ false

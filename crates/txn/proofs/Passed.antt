@@ -13,7 +13,7 @@ filter-map f p (x ∷ xs) = grind (arith, filter-map f p xs) steps 800000
 pub length-passed : (reach : ℕ) (ds : List DrawnCommit) → length (passed_over reach (map plain_drawn ds)) ≡ length (filter (λ (d : DrawnCommit). is_passed reach (plain_drawn d)) ds)
 length-passed reach ds = grind (arith, length-map, filter-map)
 
--- fewer of the elements before one that passes the test do than of all
+-- fewer of the elements before one that passes the test pass it than of all
 pub fewer-before : {X : Type 0} (p : X → Bool) (xs : List X) (i : ℕ) (x : X) → i < length xs → x ≡ get_or xs i x → p x ≡ true → length (filter p (take i xs)) < length (filter p xs)
 fewer-before p [] i x within at passes = absurd (omega (arith, within))
 fewer-before p (y ∷ ys) zero x within at passes = grind (arith)

@@ -31,7 +31,7 @@ none-below : (t n : ℕ) (ds : List DrawnCommit) → are_later t ds ≡ true →
 none-below t n [] all = refl
 none-below t n (d ∷ ds) all = grind (arith, none-below t n ds)
 
--- of all commits n that aren't stamped come before these
+-- of all commits, n that aren't stamped come before these
 abbrev IsLeft : List DrawnCommit → ℕ → List DrawnCommit → Type 0
 IsLeft all n [] = Unit {0}
 IsLeft all n (d ∷ ds) = (t : ℕ) → d.timestamp ≤ t → below t 0 all ≡ below t n (d ∷ ds)

@@ -1,4 +1,4 @@
--- Rounds of the collector that nothing comes between: the second changes nothing.
+-- Rounds of the collector with nothing between them: the second changes nothing.
 use Rattle.std.proofs.Common.{◌≡◌, ◌⊎◌, inl, inr, ℕ, zero, suc, ◌+◌, ◌-◌, ◌*◌, ◌<◌, ◌≤◌, Bool, true, false, ◌&&◌, cond, replicate, refl, sym, ◌∙◌, ap, subst, arith, nat_eq, Option, None}
 use Rattle.std.specs.List.{list_all}
 use Rattle.std.proofs.lemmas.Bool.{cases_lt, eq-eqb, lt-ltb, le-ltb}

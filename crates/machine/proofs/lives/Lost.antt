@@ -1,4 +1,4 @@
--- What was left out by a stop never returns, and no timestamp is drawn twice over lives.
+-- What was left out by a stop never returns, and no timestamp is drawn twice across lives.
 use Rattle.std.proofs.Common.{◌≡◌, ℕ, ◌+◌, ◌<◌, ◌≤◌, Bool, true, false, cond, not, ◌||◌, nat_eq, List, [], ◌∷◌, ◌++◌, refl, sym, ◌∙◌, ap, subst, append-nil, append_assoc, arith, inl, inr, get_or}
 use Rattle.std.specs.Prelude.{Option, Some, None, All, Result, Ok, Err, filter}
 use Rattle.std.specs.Option.{option_map_or}

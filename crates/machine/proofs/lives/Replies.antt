@@ -1,4 +1,4 @@
--- What the replies of a run say of the commits that it draws and covers.
+-- What the replies of a run say about the commits that it draws and covers.
 use Rattle.std.proofs.Common.{◌≡◌, ◌⊎◌, inl, inr, ℕ, Bool, true, false, cond, not, ◌||◌, nat_eq, List, [], ◌∷◌, ◌++◌, refl, sym, ◌∙◌, ap, subst, append-nil, append_assoc, map, arith}
 use Rattle.std.specs.Prelude.{Option, Some, None, All, Contains, IsTrue, Result, Ok, Err, filter, flat_map, if◌then◌else◌}
 use Rattle.std.specs.Option.{option_map_or}

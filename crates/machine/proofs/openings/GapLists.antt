@@ -202,7 +202,7 @@ opened-gaps version r formed =
 first-in : (gap : Gap) (gaps : List Gap) → gap.first ≤ gap.last → In (gap ∷ gaps) gap.first
 first-in gap gaps le = inl (omega arith, le)
 
--- the head of a tidy list reaches xs far xs that of another with the same timestamps
+-- the head of a tidy list reaches as far as that of another with the same timestamps
 head-le : (low : ℕ) (a : Gap) (xs : List Gap) (b : Gap) (ys : List Gap) → Tidy low (a ∷ xs) → Tidy low (b ∷ ys) → a.first ≡ b.first → (In (b ∷ ys) (a.last + 1) → In (a ∷ xs) (a.last + 1)) → b.last ≤ a.last
 head-le low a xs b ys ta tb same back = grind (arith, cases_lt, in-low)
 

@@ -55,7 +55,7 @@ module _ {X : Type 0} where
       → ((key : Key) → lookup_key (pair ∷ xs) key ≡ lookup_key (pair ∷ ys) key) → (key : Key) → lookup_key xs key ≡ lookup_key ys key
   past-head pair xs ys above_xs above_ys same key = grind (arith, key_eq-true, absent)
 
-  -- lists by rising key that have the same at each key are one
+  -- lists by rising key that have the same at each key are the same
   pub one-list : (xs ys : List (Key × X)) → rising xs ≡ true → rising ys ≡ true → ((key : Key) → lookup_key xs key ≡ lookup_key ys key) → xs ≡ ys
   one-list [] [] rx ry same = refl
   one-list [] (y ∷ ys) rx ry same = absurd (none-some y.1 (same y.0 ∙ head-found y ys))
@@ -172,6 +172,6 @@ scan-lists q n table lo hi = record {
     within key true = seen-tables q n key
     within key false = refl
 
--- and no other list is
+-- and there is no other such list
 pub one-listing : (rows others : List (Key × List ℕ)) (tables : Tables) → Lists rows tables → Lists others tables → rows ≡ others
 one-listing rows others tables a b = one-list rows others a.rising b.rising (λ key. a.same key ∙ sym (b.same key))

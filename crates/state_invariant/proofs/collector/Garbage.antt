@@ -1,4 +1,4 @@
--- Which versions are garbage: those that a commit replaced which each snapshot in use sees.
+-- Which versions are garbage: those replaced by a commit that each snapshot in use sees.
 use Rattle.std.proofs.Common.{◌≡◌, ◌≢◌, ◌⊎◌, inl, inr, ℕ, zero, suc, ◌+◌, ◌<◌, ◌≤◌, Bool, true, false, cond, List, [], ◌∷◌, length, take, drop, refl, sym, ◌∙◌, ap, subst, arith, Option, Some, None, slice_get, true≢false}
 use Rattle.std.specs.Prelude.{nat_eq, nat_le, unwrap_or}
 use Rattle.std.specs.List.{list_all, range_with_len}

@@ -27,7 +27,7 @@ pub data OnlyFrees (q : State) (held : ℕ → Option Version) (slot : ℕ) : Ty
   stays : held slot ≡ q.held slot → OnlyFrees q held slot
   frees : IsGarbage q slot → held slot ≡ None → OnlyFrees q held slot
 
--- a visit frees the slot of its place alone
+-- a visit frees only the slot of its place
 pub visit-frees : (o : Origin) (q : State) (at slot : ℕ) → Keeps o q → OnlyFrees q (held_after_visit q at) slot
 visit-frees o q at slot kept = grind (arith, garbage-is, replaced-same, replaced-other, cases_eq)
 

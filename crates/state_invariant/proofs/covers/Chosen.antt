@@ -239,7 +239,7 @@ module _ (o : Origin) (q : State) (kept : Keeps o q) where
         | inr later ↦ or_right (nat_eq t (time_of d)) (list_any (λ d. nat_eq t (time_of d)) ds) (turned ds later)
       ]
 
-  -- none is both
+  -- no commit is both
   apart : (t : ℕ) → has_timestamp (chosen q) t ≡ true → list_any (nat_eq t) (passed_over q) ≡ true → ⊥
   apart t has any = grind (arith, chosen-found, passed-found, true≢false)
 

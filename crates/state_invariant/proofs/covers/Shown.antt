@@ -35,7 +35,7 @@ any-place p (c ∷ cs) any = elim (or_cases (p c) (list_any p cs) any) [
   | inr later ↦ (let r = any-place p cs later in (suc r.0, r.1, r.2, r.3))
 ]
 
--- the last writer of a batch that writes the key at one timestamp alone
+-- the last writer of a batch that writes the key at only one timestamp
 writer-one : (key : Key) (t w : ℕ) (cs : List Commit) → list_all (λ c. not (writes_key key c) || nat_eq c.timestamp t) cs ≡ true → (list_any (writes_key key) cs ≡ true) ⊎ (w ≡ t) → writer_from key w cs ≡ t
 writer-one key t w [] all (inl any) = absurd (false≢true any)
 writer-one key t w [] all (inr same) = same
@@ -94,7 +94,7 @@ module _ (o : Origin) (q : State) (hand : Hand) (value : ℕ → ℕ) (up : q.fa
   drawn-uncounted : (t : ℕ) (d : Drawn) → drawn_at q t ≡ Some d → is_committed q.ruling t ≡ false
   drawn-uncounted t d found = (drawn-facts o q kept t d found).1
 
-  -- a drawn commit on a key that the batch doesn't write is drawn still
+  -- a drawn commit on a key that the batch doesn't write is still drawn
   drawn-still : (key : Key) (e : ℕ) → list_any (writes_key key) hand.commits ≡ false → is_drawn_on q key e ≡ true → is_drawn_on covered key e ≡ true
   drawn-still key e none drawn =
       let d = any-by_timestamp (λ d. nat_eq d.commit.timestamp e && writes_key key d.commit) q.drawn kept.draws.rising drawn in

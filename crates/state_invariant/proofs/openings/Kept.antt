@@ -42,7 +42,7 @@ live-parts a misfit second e is = grind (arith)
 good-slot : (r : Record) (image : Image) (slot : ℕ) → is_bad_slot r image slot ≡ false → IsGood r image slot
 good-slot r image slot e = grind (arith, or_parts, leb-false, live-parts)
 
--- two live slots of a key are one
+-- two live slots of a key are the same
 one-lower : (r : Record) (image : Image) (lower slot : ℕ) → lower < slot → IsGood r image slot → is_shown r image lower ≡ true → is_shown r image slot ≡ true → key_of image lower ≡ key_of image slot → ⊥
 one-lower r image lower slot less good live_lower live same =
     let test : ℕ → Bool = λ l. is_shown r image l && key_eq (key_of image l) (key_of image slot) in

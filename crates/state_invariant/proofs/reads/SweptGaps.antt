@@ -1,4 +1,4 @@
--- What a snapshot sees of a slot, whatever it says of timestamps in swept gaps.
+-- What a snapshot sees of a slot, whatever it says about timestamps in swept gaps.
 use Rattle.std.proofs.Common.{◌≡◌, ◌≢◌, ◌⊎◌, inl, inr, ℕ, ◌<◌, Bool, true, false, cond, not, ◌&&◌, ◌||◌, List, [], ◌∷◌, refl, sym, ◌∙◌, ap, subst, arith, Option, Some, None, true≢false}
 use Rattle.std.specs.Prelude.{nat_eq, unwrap_or, find}
 use Rattle.std.specs.List.{list_any}

@@ -83,7 +83,7 @@ session-keeps o q n kept = grind arith
 pub each-set : (P : Option Session → Type 0) (n : ℕ) (s : Option Session) (sessions : ℕ → Option Session) → P s → ((m : ℕ) → P (sessions m)) → (m : ℕ) → P (replaced n s sessions m)
 each-set P n s sessions this each m = grind (arith, cases_eq, replaced-same, replaced-other)
 
--- one that is set where there was one, or at a session's number, or that ends
+-- one that is set at a session's number, or that ends
 pub numbered-set : (o : Origin) (q : State) (n : ℕ) (s : Option Session) → Keeps o q → IsSessionNumber n ⊎ (s ≡ None) → AreNumbered (replaced n s q.sessions)
 numbered-set o q n s kept this m session is = grind (arith, cases_eq, replaced-same, replaced-other)
 

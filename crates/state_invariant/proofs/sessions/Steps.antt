@@ -152,7 +152,7 @@ module _ (o : Origin) (q : State) (n : ℕ) (key : Key) (row : List ℕ) (kept :
 abbrev freed : (Option Version → Bool) → (ℕ → Option Version) → ℕ → Option Version
 freed test held slot = cond (test (held slot)) None (held slot)
 
--- which slots may be freed: of sessions alone, and the sessions after it have no row there, and elsewhere what they had
+-- which slots may be freed: only those of sessions, and the sessions after it have no row there, and elsewhere what they had
 pub record MayFree (q : State) (sessions : ℕ → Option Session) (test : Option Version → Bool) : Type 0 where
   pub commits : (key : Key) (t : ℕ) → test (Some (version_by key (ByCommit t))) ≡ false
   pub stays : (key : Key) (m : ℕ) → test (Some (version_by key (BySession m))) ≡ false → lookup_key (writes_of (sessions m)) key ≡ lookup_key (writes_of (q.sessions m)) key

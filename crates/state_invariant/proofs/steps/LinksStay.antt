@@ -31,7 +31,7 @@ links-stores o q value new same links = record { each = λ slot v lt held place 
 
 -- ---- opening
 
--- a session holds a slot for what it writes alone
+-- a session holds slots only for what it writes
 pub session-writes : (o : Origin) (q : State) (slot n : ℕ) (key : Key) → Keeps o q → slot < q.layout.slots → q.held slot ≡ Some (version_by key (BySession n)) → (row : List ℕ) × (row_in (writes_of (q.sessions n)) key ≡ Some row)
 session-writes o q slot n key kept lt held = kept.owns.has slot (version_by key (BySession n)) lt held
 

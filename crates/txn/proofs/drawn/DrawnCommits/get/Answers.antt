@@ -11,7 +11,7 @@ use Rattle.txn.proofs.drawn.DrawnCommits.get.Goals as goal
 there : (t at : ℕ) (ds : List DrawnCommit) (d : DrawnCommit) → at ≡ place_of t ds → at < length ds → d ≡ get_or ds at d → slice_get ds (place_of t ds) ≡ Some d
 there t at ds d is within lies = subst (λ (n : ℕ). slice_get ds n ≡ Some d) is (slice_get-get_or ds at d within ∙ ap (λ (x : DrawnCommit). Some x) (sym lies))
 
--- what is known of the commits that are there
+-- what is known about the commits that are there
 told : (t : ℕ) (ds now : List DrawnCommit) (o : Option DrawnCommit) → ds ≡ now → drawn_at t ds ≡ o → o ≡ drawn_at t now
 told t ds now o same is = sym is ∙ ap (drawn_at t) same
 
