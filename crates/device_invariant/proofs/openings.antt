@@ -1,2 +1,2 @@
--- Lemmas on openings.
+-- Lemmas on opening.
 pub mod Upheld

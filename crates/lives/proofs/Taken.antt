@@ -58,7 +58,7 @@ so-far-none q device P p = record { at = q; goes_on = λ more later last end run
 abbrev pub IsBusy : Reply → Type 0
 IsBusy reply = is_final reply ≡ false
 
--- it was taken so often, each time with something to do, and then once more, with this reply
+-- it was taken this often, each time with something to do, and then once more, with this reply
 pub record TakenAgain (q : State) (device : Device) (step : Step) (count : ℕ) (reply : Reply) (now : Device) (P : State → Type 0) : Type 0 where
   pub before : List Reply
   pub counted : length before ≡ count
@@ -122,7 +122,7 @@ false-true b f t = cc
 pub repeated-none : (q : State) (device : Device) (asked : Repeated) (P : State → Type 0) → asked.times ≡ 0 → P q → HasRepeated q device asked None device P
 repeated-none q device asked P none p = grind (arith, false-true)
 
--- so often, and some more
+-- this often, and some more
 whole : (step : Step) (times count rest : ℕ) (more : List Step) → times ≡ count + suc rest → replicate count step ++ step ∷ (replicate rest step ++ more) ≡ replicate times step ++ more
 whole step times count rest more is =
     sym (append_assoc (replicate count step) (step ∷ replicate rest step) more)
@@ -194,7 +194,7 @@ repeated-so state room q device asked count rest reply orderly times done so_far
 
 -- ---- all steps
 
--- of these so much is reported
+-- this much is reported of these
 pub record ReportedSoFar (q : State) (device : Device) (asked : List Repeated) (told : List (Option Reply)) (now : Device) (P : State → Type 0) : Type 0 where
   pub replies : List Reply
   pub so_far : SoFar q device (steps_of asked) replies now P

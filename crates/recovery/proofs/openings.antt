@@ -1,4 +1,4 @@
--- Lemmas on openings.
+-- Lemmas on opening.
 pub mod Gaps
 pub mod Images
 pub mod Faults

@@ -62,7 +62,7 @@ module _ {D : Type 0} {G : Ghosts D} (state : D → Device) where
         },
       )
 
-  -- one whose device failed refuses each step
+  -- a room whose device failed refuses each step
   pub step-refused : (room : Room D G) (step : Step) → IsOrderly (state room.device) → room.failed ≡ true → (q : State) → Shows state room q → (q' : State) × StepsTo state room room step (Refused Failed) q q'
   step-refused room step orderly failed q shows = (
     q,

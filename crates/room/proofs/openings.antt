@@ -1,3 +1,3 @@
--- Lemmas on openings.
+-- Lemmas on opening.
 pub mod Shown
 pub mod LiveIndex

@@ -1,4 +1,4 @@
--- What a step did to its device: nothing, operations that all succeeded, or such as ended with one that failed.
+-- What a step did to its device: nothing, operations that all succeeded, or operations that ended with one that failed.
 use Rattle.std.proofs.Common.{◌≡◌, ℕ, zero, suc, ◌+◌, ◌≤◌, true, List, [], ◌∷◌, ◌++◌, take, refl, arith}
 use Rattle.std.specs.Prelude.{Option, Some}
 use Rattle.std.specs.List.{list_all}
@@ -30,11 +30,11 @@ pub nothing-done : {device : Device} {Within : Image → Type 0} {most : ℕ} {b
 nothing-done images untold = grind (arith) steps 800000
 
 module _ {before now : Device} {Within : Image → Type 0} {most : ℕ} {by : Option ℕ} {Refuses : Fault → Type 0} where
-  -- operations that succeeded: it isn't refused
+  -- operations that succeeded: the step isn't refused
   pub all-made : LeavesOnly before now Within → HasNoFailure before now → operations_of now ≤ operations_of before + most → RunsBy by before now → ((fault : Fault) → Refuses fault → ⊥) → HasEffect before now Within most by Refuses
   all-made images same operations runs unrefused = grind (arith) steps 800000
 
-  -- such as ended with one that failed: it is refused for the device, and for nothing else
+  -- operations that ended with one that failed: the step is refused for the device, and for nothing else
   pub last-failed : (fault : Fault) → fault ≡ DeviceFault → Refuses fault → ((told : Fault) → Refuses told → fault ≡ told) → LeavesOnly before now Within → HasOneFailure before now → operations_of now ≤ operations_of before + most → RunsBy by before now
       → HasEffect before now Within most by Refuses
   last-failed fault is refused alone images more operations runs = grind (arith) steps 800000

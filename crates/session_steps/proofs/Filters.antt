@@ -23,7 +23,7 @@ pub any-filter : {X : Type 0} (p r : X → Bool) (xs : List X) → list_any (λ 
 any-filter p r [] = refl
 any-filter p r (x ∷ xs) = grind (arith, any-filter p r xs) steps 800000
 
--- one has it exactly if one of those that pass has it, or one of the others
+-- some element has it exactly if one of those that pass has it, or one of the others
 pub any-split : {X : Type 0} (p r : X → Bool) (xs : List X) → list_any p xs ≡ (list_any p (filter r xs) || list_any p (filter (λ x. not (r x)) xs))
 any-split p r [] = refl
 any-split p r (x ∷ xs) = grind (arith, any-split p r xs) steps 800000

@@ -69,7 +69,7 @@ module _ (s : Sessions) (o : Origin) (h : Hidden) (keeps : Keeps o (plain_of s h
   abbrev covered : ℕ → Bool
   covered = all_cover (seen_by s.numbers.record) s.transactions
 
-  -- the last timestamp of a settled entry is seen by who covers it
+  -- a snapshot that covers what all cover has seen the last timestamp of a settled entry
   seen-by : (snapshot : Seen) → ((t : ℕ) → covered t ≡ true → covers snapshot t ≡ true) → (last : Option ℕ) → option_map_or covered last true ≡ true → is_unseen snapshot last ≡ false
   seen-by snapshot each None is = refl
   seen-by snapshot each (Some t) is = ap not (each t is)

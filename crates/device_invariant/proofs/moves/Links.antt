@@ -21,6 +21,6 @@ links-shrink o q old new same links = links-stores o q (value_of old) (value_of 
 abbrev pub IsUnlinked : State → ℕ → ℕ → Type 0
 IsUnlinked q slot w = (w < 2) ⊎ ((q.held slot ≡ None) ⊎ ((q.failed ≡ true) × (n : ℕ) × (key : Key) × (q.held slot ≡ Some (version_by key (BySession n)))))
 
--- so they do over a store in such a word
+-- so they do after a store in such a word
 pub links-but_one : (o : Origin) (q : State) (old new : Device) (slot w value : ℕ) → w < slot_words q.layout.version → new ≡ stored (word_of q.layout slot w) value old → IsUnlinked q slot w → Links o q (value_of old) → Links o q (value_of new)
 links-but_one o q old new slot w value low is unlinked links = grind (arith, links-stores, cases_eq, others-stored, rest-stored)

@@ -66,7 +66,7 @@ module _ (q : State) (device : Device) (fresh : IsFresh q device) (kept : Keeps 
   dead : q.held slot ≡ None → IsDead q device slot
   dead held = by_hidden (subst (λ (v : Option Version). ShowsAs (origin_of q) q (value_of device) slot (class_of_version (origin_of q) q v)) held (shows.each slot lt))
     where
-      -- the whole history is what the opening found
+      -- the whole history is what opening found
       none-since : drop (length q.history) (take (length q.history) q.history) ≡ []
       none-since = drop-whole (take (length q.history) q.history) (length q.history) (omega (arith, ap (λ (cs : List Commit). length cs) (take_all (length q.history) q.history (omega arith))))
 

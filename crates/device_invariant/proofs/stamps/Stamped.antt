@@ -46,7 +46,7 @@ found-on t key (d ∷ drawn) rising any = by_test (nat_eq d.commit.timestamp t) 
     by_test false is (inl here) rest = absurd (true≢false (sym (and_parts (nat_eq d.commit.timestamp t) (writes_key key d.commit) here).0 ∙ is))
     by_test false is (inr later) rest = rest later
 
--- one on a key is found by its timestamp
+-- a commit on a key is found by its timestamp
 pub drawn-on : {o : Origin} (q : State) (key : Key) (t : ℕ) → DrawsInOrder o q → is_drawn_on q key t ≡ true → (d : Drawn) × (drawn_at q t ≡ Some d) × (writes_key key d.commit ≡ true)
 drawn-on q key t order any = found-on t key q.drawn order.rising any
 

@@ -34,7 +34,7 @@ sound-faultless image is = grind (arith) steps 800000
 pub known-good : (image : Image) → has_good_geometry image ≡ true → is_known_version (layout_of image).version ≡ true
 known-good image good = (and_parts _ _ (and_parts _ _ (and_parts _ _ (and_parts _ _ (and_parts _ _ good).0).0).0).0).0
 
--- ---- openings
+-- ---- opening
 
 committed-below : (r : Record) (t : ℕ) → is_committed r t ≡ true → t ≤ r.persisted
 committed-below r t is = leb-true t r.persisted (and_parts _ _ (and_parts _ _ (and_parts _ _ is).0).0).1

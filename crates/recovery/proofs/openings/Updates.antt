@@ -235,7 +235,7 @@ module _ {old new : Device} (rest : IsAtRest old) (opens : opening_fault (image_
       few = omega (arith, few-stopped (IsNewVersion old) (update-only old) stop, length-by (version old) (updates (image_of old)));
     }
 
--- ---- the opening of an image, once it is updated
+-- ---- opening an image, once it is updated
 
 module _ (old mid new : Device) (opens : opening_fault (image_of old) ≡ None) (updated-is : image_of mid ≡ updated (image_of old)) (made-update : MakesAll (update_counts (image_of old)) old mid) where
   abbrev before : Image

@@ -144,7 +144,7 @@ pub record IsPersisted (c : VolatileState) (before now : Device) (q : State) : T
   pub persisted : HasPersisted q now
   pub images : LeavesOnly before now (StandsClosing q)
 
--- what is drawn persists since some device, and so much of the record is written since
+-- what is drawn persists since some device, and this much of the record has been written since
 pub record IsRecording (c : VolatileState) (before now : Device) (writing : Progress) : Type 0 where
   pub between : Device
   pub persists : (q : State) → Shows c before q → q.failed ≡ false → IsPersisted c before between q

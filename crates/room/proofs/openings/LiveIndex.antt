@@ -80,7 +80,7 @@ in-live image (suc n) slot lt live = subst (λ (k : ℕ). Contains (live_below i
 abbrev IsNewestAlone : Entry → Type 0
 IsNewestAlone e = e ≡ record blank { newest = e.newest }
 
--- these are indexed: each key of one has one of them, and nothing else is known of any key
+-- these are indexed: each key of one has one of them, and nothing else is known about any key
 pub record HasListed (live : List LiveSlot) (index : List (Key × Entry)) : Type 0 where
   pub nothing_else : (key : Key) → entry_at index key ≡ record blank { newest = (entry_at index key).newest }
   pub newest : (key : Key) (slot : ℕ) → (entry_at index key).newest ≡ Some slot → (s : LiveSlot) × Contains live s × (s.slot ≡ slot) × (s.key ≡ key)

@@ -56,7 +56,7 @@ none-held a c x e = grind (arith, false≢true)
 
 -- ---- the index was made before the operations
 
--- the index of an image is that of the image with the version of today
+-- the index of an image is that of the image with the current version
 found-updated : (before : Image) → OpensUpdated before → (free : List Bool) (slots : ℕ) (index : List (Key × Entry)) → HasFound before free slots index → HasFound (updated before) free slots index
 found-updated before up free slots index found = record {
   nothing_else = found.nothing_else;
@@ -83,7 +83,7 @@ free-updated before up =
     ∙ (λ i. map (λ slot. not (up.shown (ruling before) slot i)) (range_with_len 0 (layout_of before).slots))
 
 module _ (old new : Device) (layout : Layout) (r : Record) (next : ℕ) (free : List Bool) (live : List LiveSlot) (opened : HasOpened old new layout r next free live) where
-  -- the image with the version of today
+  -- the image with the current version
   abbrev image : Image
   image = updated (image_of old)
 

@@ -214,7 +214,7 @@ module _ (s : Sessions) (ruling : Record) (h : Hidden) (hand : Hand) (may : MayC
           let writes : writes_key key (plain_drawn d).commit ≡ true = written-plain key d.writes ∙ list_any_at (λ (w : Write). key_eq w.key key) d.writes k w lt is in
           subst (λ (v : Version). IsSlotOf q v (slice_index_or d.writes k w).slot) (ap (λ (x : Key). version_by x (ByCommit d.timestamp)) same ∙ sym (law.written key (plain_drawn d) member (ap (λ (r : Record). is_covered_by r (plain_drawn d)) may.batch.target ∙ is_covered) writes)) (holds.writes k w lt).slot
 
-  -- a key whose commits all see has no drawn commit, so none of the batch
+  -- a key whose commits all see has no drawn commit, and so none in the batch
   seen-covered : (key : Key) → IsSeenByAll q key → IsSeenByAll q' key
   seen-covered key seen m used =
       any-both p (drop m (h.history ++ hand.commits)) (map (λ (d : PlainDrawn). d.commit) (map plain_drawn drawn.commits)) (any-dropped p m h.history hand.commits (since used) of-batch) of-others
@@ -293,7 +293,7 @@ module _ (s : Sessions) (ruling : Record) (h : Hidden) (hand : Hand) (may : MayC
     apart : (t : ℕ) → is_committed ruling t ≡ true → t ≡ left.timestamp → ⊥
     apart t is same = grind (arith, place) steps 800000
 
-    -- its keys are written by none of the batch
+    -- no commit of the batch writes its keys
     unwritten : (key : Key) → writes_key key (plain_drawn left).commit ≡ true → list_any (writes_key key) hand.commits ≡ false
     unwritten key writes = batch-writes key ∙ list_any_none (λ (e : DrawnCommit). has_key key e.writes) batch (λ j e low. false_from_ne_true (has_key key (slice_index_or batch j e).writes) (λ is. never j e low is))
       where
@@ -315,7 +315,7 @@ module _ (s : Sessions) (ruling : Record) (h : Hidden) (hand : Hand) (may : MayC
     numbers-same : line_numbers q' ((plain_drawn left).commit ∷ []) ≡ line_numbers q ((plain_drawn left).commit ∷ [])
     numbers-same = numbers-by-tests q q' ((plain_drawn left).commit ∷ []) refl (λ slot. refl) (λ slot. ended-same (q.held slot))
 
-    -- none of the batch is its session's
+    -- no commit of the batch is its session's
     left-apart : has sessions left.session ≡ false
     left-apart = of left.session ∙ list_any_none (λ (e : DrawnCommit). nat_eq e.session left.session) batch (λ j e low. false_from_ne_true (nat_eq (slice_index_or batch j e).session left.session) (λ is. never j e low is))
       where

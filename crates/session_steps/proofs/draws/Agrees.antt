@@ -216,7 +216,7 @@ module _ (s : Sessions) (h : Hidden) (n : ℕ) (snapshot : Seen) (writes : List 
         by (inl turned) = absurd (not-now u (last_row-before h.origin old holds.keeps u key last) turned.1)
         by (inr was) = has u slot last lt was.0
 
-    -- a key that a drawn commit writes, one writes still
+    -- a key that a drawn commit wrote, one still writes
     drawn-more : then.drawn ≡ old.drawn ++ drawn_now old (plain_writes writes) ∷ []
     drawn-more = map-append plain_drawn s.drawn.commits (new ∷ [])
 
@@ -325,7 +325,7 @@ module _ (s : Sessions) (h : Hidden) (n : ℕ) (snapshot : Seen) (writes : List 
           ∙ (λ i. list_any (λ part. or-false (part-hits slot part) i) (range_with_len 0 (version_lines s.numbers.geometry)))
           ∙ sym (own-is-parts slot)
 
-      -- what the lines of a slot come to
+      -- what the lines of a slot are
       at-is : (slot : ℕ) (own ended : Bool) → list_any (λ l. hits (line_number s.numbers.geometry l)) (cond own (flat_map (λ part. line_at slot part ∷ []) (range_with_len 0 (version_lines s.numbers.geometry))) (cond ended (line_at slot 0 ∷ []) []))
           ≡ (own && own-hits slot || ended && first-hits slot)
       at-is slot true true = parts-are slot ∙ absorb (own-hits slot) (first-hits slot) (first-own slot)

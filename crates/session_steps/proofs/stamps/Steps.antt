@@ -84,7 +84,7 @@ found_in u ds = find (λ (e : PlainDrawn). nat_eq e.commit.timestamp u) (map pla
 abbrev IsStill : ℕ → ℕ → PlainDrawn → List DrawnCommit → Type 0
 IsStill t u d ds = (e : PlainDrawn) × (found_in u (map (with_stamp t) ds) ≡ Some e) × (e.commit ≡ d.commit)
 
--- one that is found by its timestamp is found still
+-- a commit that is found by its timestamp is still found
 found-stamped : (t u : ℕ) (ds : List DrawnCommit) (d : PlainDrawn) → found_in u ds ≡ Some d → IsStill t u d ds
 found-stamped t u [] d is = absurd (cc is)
 found-stamped t u (c ∷ ds) d is = by (nat_eq c.timestamp u) refl is (found-stamped t u ds d)
@@ -137,7 +137,7 @@ module _ (s : Sessions) (h : Hidden) (t spare : ℕ) where
 
 -- ---- one commit has a timestamp
 
--- a test of all that have the timestamp is that of the one that has it
+-- a test of all commits that have the timestamp is a test of the one that has it
 pub one-at : (o : Origin) (q : State) (t : ℕ) (d : PlainDrawn) (r : PlainDrawn → Bool) → Keeps o q → drawn_at q t ≡ Some d → list_any (λ e. nat_eq e.commit.timestamp t && r e) q.drawn ≡ r d
 one-at o q t d r keeps at = by (list_any (λ e. nat_eq e.commit.timestamp t && r e) q.drawn) refl (r d) refl
   where

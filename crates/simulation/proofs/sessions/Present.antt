@@ -25,7 +25,7 @@ module _ (o : Origin) (q : State) (kept : Keeps o q) where
   no-gap : (t : ℕ) → IsOutOfSwept o q t → not (is_in q.ruling.gaps t) ≡ true → not (is_in o.ruling.gaps t) ≡ true
   no-gap t out is = grind (arith)
 
-  -- what the ruling record commits of what the opening's persisted, that committed too
+  -- what the ruling record commits, up to what the opening's record persisted, that record committed too
   committed-before : (t : ℕ) → IsOutOfSwept o q t → t ≤ o.ruling.persisted → is_committed q.ruling t ≡ true → is_committed o.ruling t ≡ true
   committed-before t out low is = grind (arith, le-leb, no-gap)
 

@@ -9,7 +9,7 @@ use Rattle.simulation.specs.steps.Moves.{Takes, all_succeed, put_operations, sta
 use Rattle.simulation.specs.steps.Laws.{PutsCount, StampsCount}
 use Rattle.simulation.proofs.steps.Runs.{runs-count, stops-count}
 
--- runs of so few operations that all succeed
+-- runs of at most this many operations, all of which succeed
 pub takes-run : (ops : List Operation) (most : ℕ) (old new : Device) → all_succeed ops ≡ true → length ops ≤ most → Runs ops old new → Takes most 0 old new
 takes-run ops most old new succeed few run = grind (arith, runs-count ops old new succeed run)
 

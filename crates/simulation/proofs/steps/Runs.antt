@@ -18,7 +18,7 @@ leaves-after P (op ∷ ops) device orderly each =
     leaves_trans (leaves-applied P op orderly.0 (along-first IsOrderly ops (applied op device) orderly.1) refl each.0 (along-first (λ d. (image : List ℕ) → MayLeave d image → P image) ops (applied op device) each.1))
     (leaves-after P ops (applied op device) orderly.1 each.1)
 
--- what each image has that a crash may leave before the operations, between them and after them, each has that a crash meanwhile might have left
+-- what holds of each image that a crash may leave before the operations, between them and after them, holds of each that a crash meanwhile might have left
 pub prefixes-leave : (P : List ℕ → Type 0) (ops : List Operation) (old new : Device) → Runs ops old new → Along (λ d. (image : List ℕ) → MayLeave d image → P image) ops old → LeavesOnly old new P
 prefixes-leave P ops old new run each = subst (λ (d : Device). LeavesOnly old d P) (sym run.made) (leaves-after P ops old run.orderly each)
 

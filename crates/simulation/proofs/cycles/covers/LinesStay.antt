@@ -59,7 +59,7 @@ module _ (o : Origin) (q : State) (hand : Hand) (kept : Keeps o q) (in_hand : q.
   k : KeepsHand q hand
   k = kept.numbers.hand hand in_hand
 
-  -- the timestamp that is drawn next is none of the batch's
+  -- the timestamp that is drawn next isn't one of the batch's
   next-apart : has_timestamp hand.commits q.next ≡ false
   next-apart = false_from_ne_true (has_timestamp hand.commits q.next) (λ has. never has)
     where
