@@ -1,4 +1,4 @@
--- A conflict is reported where a draw was refused for it.
+-- A conflict is reported only if a draw was refused with it.
 use Rattle.std.proofs.Common.{◌≡◌, ℕ, Err, ap, subst}
 use Rattle.base.specs.declared.fault.Fault.{Fault}
 use Rattle.base.specs.declared.fault.Fault.TheVariants.{Conflict}
@@ -10,7 +10,7 @@ use Rattle.store.specs.declared.error.StoreError.{StoreError}
 use Rattle.store.specs.Errors.{error_of, commit_error}
 use Rattle.store.specs.Answers.{ReportsConflict}
 
--- no other fault becomes one
+-- no other fault becomes a conflict
 conflict-fault : (fault : Fault) (key : Key) → error_of fault ≡ StoreError.Conflict key → fault ≡ Conflict key
 conflict-fault (Conflict k) key e = cc e
 conflict-fault fault key e = absurd (cc e)

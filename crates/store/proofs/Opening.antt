@@ -1,4 +1,4 @@
--- A damage that an opening reports.
+-- Damage that is reported when a store is opened.
 use Rattle.std.proofs.Common.{◌≡◌, inl, inr, ℕ, Bool, true, false}
 use Rattle.std.specs.Prelude.{Some, None}
 use Rattle.std.specs.Option.{option_or}

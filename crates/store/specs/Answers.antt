@@ -16,25 +16,24 @@ use Rattle.database.specs.Committing.{AnswersPut, AnswersWrites, IsPrepared, Mee
 use Rattle.store.specs.declared.error.StoreError.{StoreError}
 use Rattle.store.specs.Errors.{error_of, commit_error}
 
--- A run from an opening ends in this step, and what is returned is read off its reply: the fault as the error that it becomes
+-- A run from the opening of a device ends in this step, and what is returned is read off its reply: a fault as the error that it becomes
 abbrev pub Answers : {A : Type 0} → Step → (Reply → Result A Fault) → Result A StoreError → Type 0
 Answers step read (Ok value) = AnswersStep step read (Ok value)
 Answers step read (Err error) = (fault : Fault) × (error ≡ error_of fault) × AnswersStep step read (Err fault)
 
 -- ---- a range
 
--- The session scanned the table from the first key on, up to before the other one, and got these rows; or there is no key
--- between, and there is no row
+-- The session scanned the table from the start up to, but not including, the end, and got these rows; or there are no keys in between, and no rows
 abbrev pub Scans : ℕ → ℕ → ℕ → ℕ → List (Key × List ℕ) → Type 0
 Scans session table start end rows =
     ((start < end) × AnswersStep (Scan session table start (end - 1)) rows_of (Ok rows)) ⊎ ((end ≤ start) × (rows ≡ []))
 
--- the scan was refused
+-- the scan was refused, with a fault that becomes this error
 abbrev pub ScanRefused : ℕ → ℕ → ℕ → ℕ → StoreError → Type 0
 ScanRefused session table start end error =
     (start < end) × ((fault : Fault) × (error ≡ error_of fault) × AnswersStep (Scan session table start (end - 1)) rows_of (Err fault))
 
--- such rows, of which this is the case
+-- the session scanned such rows, and this is true of them
 abbrev pub OfScanned : ℕ → ℕ → ℕ → ℕ → (List (Key × List ℕ) → Type 0) → Type 0
 OfScanned session table start end Fact = (all : List (Key × List ℕ)) × Scans session table start end all × Fact all
 
@@ -44,24 +43,24 @@ last_key_of rows = option_map (λ row. row.0.key) (slice_get rows (length rows -
 
 -- ---- a put
 
--- what a refusal of a put is called, where rows have at most so many bytes
+-- the error for a refused put, if rows have at most this many bytes
 abbrev pub put_error : ℕ → Fault → StoreError
 put_error limit TooLong = StoreError.RowTooLong limit
 put_error limit fault = error_of fault
 
--- the row was put under the key by this session, or the put was refused
+-- the session put the row under the key, or the put was refused
 abbrev pub Puts : ℕ → Key → List ℕ → ℕ → Result ⊤ StoreError → Type 0
 Puts session key row limit (Ok done) = AnswersPut session key row (Ok done)
 Puts session key row limit (Err error) = (fault : Fault) × (error ≡ put_error limit fault) × AnswersPut session key row (Err fault)
 
--- these writes were made so by this session, or one of them was refused
+-- the session made these writes, or one of them was refused
 abbrev pub MakesWrites : ℕ → List (Key × Option (List ℕ)) → ℕ → Result ⊤ StoreError → Type 0
 MakesWrites session writes limit (Ok done) = AnswersWrites session writes (Ok done)
 MakesWrites session writes limit (Err error) = (fault : Fault) × (error ≡ put_error limit fault) × AnswersWrites session writes (Err fault)
 
 -- ---- a number
 
--- there is no row; or there is one, and it is this number; or it is none; or the read was refused
+-- there is no row; or there is one, and it is this number; or there is one that isn't a number; or the read was refused
 abbrev pub AnswersNumber : ℕ → Key → Result (Option ℕ) StoreError → Type 0
 AnswersNumber session key (Ok None) = AnswersStep (Get session key) row_of (Ok None)
 AnswersNumber session key (Ok (Some number)) = (row : List ℕ) × AnswersStep (Get session key) row_of (Ok (Some row)) × (length row ≡ 8) × (number ≡ from_le_bytes w64 row)
@@ -71,7 +70,7 @@ AnswersNumber session key (Err error) =
 
 -- ---- a commit
 
--- a conflict is reported only where the session's draw was refused so, and once what was drawn by then is covered, or given up
+-- a conflict is reported only if the session's draw was refused with it, and only once what was drawn by then is covered, or never will be
 abbrev pub ReportsConflict : ℕ → StoreError → Type 0
 ReportsConflict session error = (key : Key) → error ≡ StoreError.Conflict key → IsPrepared session (Err (Refused (Conflict key))) × MeetsConflictOn session key
 

@@ -1,4 +1,4 @@
--- What a refusal is called here.
+-- The errors of a store for the faults and refusals below it.
 use Rattle.std.specs.Prelude.{ℕ, ◌-◌, nat_lt, if◌then◌else◌}
 use Rattle.base.specs.declared.fault.Fault.{Fault}
 use Rattle.base.specs.declared.fault.Fault.TheVariants.{Device, Failed, SlotsOut, SessionsFull, WriteSetFull, Conflict, OutOfMemory}
@@ -8,7 +8,7 @@ use Rattle.database.specs.declared.error.CommitError.TheVariants.{Refused, Open}
 use Rattle.store.specs.declared.error.StoreError.{StoreError}
 use Rattle.store.specs.declared.error.Part.{Part}
 
--- the places come first, and the slots after them
+-- the places are counted first, and then the slots
 abbrev pub part_of : Layout → ℕ → Part
 part_of layout number = if nat_lt number layout.places then Part.Place number else Part.Slot (number - layout.places)
 
@@ -22,7 +22,7 @@ error_of Device = StoreError.Failed
 error_of Failed = StoreError.Failed
 error_of fault = StoreError.Refused fault
 
--- nothing of the commit is kept; or whether it is, the next opening knows
+-- nothing of the commit is kept; or only the next opening shows whether it is
 abbrev pub commit_error : CommitError → StoreError
 commit_error (Refused fault) = error_of fault
 commit_error (Open fault) = StoreError.Unknown fault

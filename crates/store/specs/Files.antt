@@ -30,7 +30,7 @@ FileDevice =
 abbrev pub HasLost : Error → Type 0
 HasLost cause = (device : FileDevice) × (failure_of device ≡ Some cause)
 
--- The device is at rest, and its image has the layout that was asked for, but for version 1, which is opened as 2
+-- The device is at rest, and its image has the layout that was asked for, except that version 1 is opened as version 2
 pub record IsFoundWith (layout : Layout) (device : Device) : Type 0 where
   pub at_rest : IsAtRest device
   pub found : Layout
@@ -49,30 +49,30 @@ OpensExisting = (layout : Layout) × OpensLayout layout
 abbrev pub HasOtherThan : Layout → Layout → Type 0
 HasOtherThan layout found = (opened_layout found ≢ opened_layout layout) × ((device : Device) × IsAtRest device × IsLaidOut found (image_of device))
 
--- another layout is reported only where a device has it
+-- another layout is reported only if a device has it
 abbrev pub ReportsLayout : Layout → Refusal → Type 0
 ReportsLayout layout (Refusal.OtherLayout found) = HasOtherThan layout found
 ReportsLayout layout _ = Unit {0}
 
--- a device at rest has this layout, and its opening as a database is refused so
+-- a device at rest has this layout, and opening a database over it is refused with this fault
 abbrev pub IsRefusedWith : Layout → Fault → Type 0
 IsRefusedWith layout fault = (device now : Device) × IsFoundWith layout device × IsOpeningRefusal device now fault
 
--- what keeps a device of this layout from being opened: its opening is refused so, or its file has failed
+-- what keeps a device of this layout from being opened: opening is refused with this fault, or a file failed for this cause
 abbrev pub ReportsFound : Layout → Refusal → Type 0
 ReportsFound layout (Refusal.Fault fault) = IsRefusedWith layout fault
 ReportsFound layout (Refusal.Lost cause) = HasLost cause
 ReportsFound layout _ = ⊥
 
--- Why a device at rest isn't opened: it isn't formatted with this layout, for this fault; or its superblock is wrong, so; or it has the layout that
--- was asked for, and its opening as a database is refused so
+-- Why a device at rest isn't opened: formatting it with this layout was refused with this fault, or its superblock has this fault. Or it has the
+-- layout that was asked for, and opening a database over it is refused with this fault
 abbrev pub IsUnopened : Layout → Fault → Type 0
 IsUnopened layout fault =
     ((device now : Device) × IsAtRest device × IsFormatRefusal layout device now fault)
     ⊎ (((device : Device) × IsAtRest device × (layout_damage (image_of device) ≡ Some fault))
     ⊎ IsRefusedWith layout fault)
 
--- a fault is reported only where it is the reason, and a file that failed only where one did
+-- a fault is reported only if it is the reason, and a failure of a file only if one failed for this cause
 abbrev pub ReportsFault : Layout → Refusal → Type 0
 ReportsFault layout (Refusal.Fault fault) = IsUnopened layout fault
 ReportsFault layout (Refusal.Lost cause) = HasLost cause

@@ -1,4 +1,4 @@
--- What is reported of an opening and of a close.
+-- What is reported when a store is opened or closed.
 use Rattle.std.specs.Prelude.{◌≡◌, ◌≢◌, ◌⊎◌, ℕ, List, Option, Some, None}
 use Rattle.std.specs.declared.io.Error.{Error}
 use Rattle.std.specs.String.{string_bytes}
@@ -18,8 +18,8 @@ use Rattle.store.specs.Errors.{part_of}
 abbrev pub IsDamagedAt : Layout → ℕ → Type 0
 IsDamagedAt layout number = (device : Device) × IsFoundWith layout device × (opening_fault (image_of device) ≡ Some (Damaged number))
 
--- The error names this file, and the layout that was asked for, where the file has another one; the part that is damaged, or why else a device
--- isn't opened
+-- The error names this file. It has the layout that was asked for, if a device has another one, the part that is damaged, or the other reason why
+-- a device isn't opened
 abbrev pub IsOpeningError : List ℕ → Layout → StoreError → Type 0
 IsOpeningError file layout (StoreError.File name cause) = string_bytes name ≡ file
 IsOpeningError file layout (StoreError.OtherLayout name found asked) = (string_bytes name ≡ file) × (asked.geometry ≡ layout) × HasOtherThan layout found.geometry
@@ -29,7 +29,7 @@ IsOpeningError file layout (StoreError.Lost name cause) = (string_bytes name ≡
 IsOpeningError file layout StoreError.OutOfMemory = Unit {0}
 IsOpeningError file layout _ = ⊥
 
--- The error names this file. The part that is damaged is that of the layout that a device has, and so is why else such a device isn't opened
+-- The error names this file. The damaged part is counted in the layout that a device has, and the other reasons are about such a device too
 abbrev pub IsFindingError : List ℕ → StoreError → Type 0
 IsFindingError file (StoreError.Missing name) = string_bytes name ≡ file
 IsFindingError file (StoreError.File name cause) = string_bytes name ≡ file
@@ -39,16 +39,16 @@ IsFindingError file (StoreError.Lost name cause) = (string_bytes name ≡ file) 
 IsFindingError file StoreError.OutOfMemory = Unit {0}
 IsFindingError file _ = ⊥
 
--- all that was covered and drawn since the opening of a device is covered on it
+-- all that was covered and drawn since a device was opened is covered on it
 abbrev pub IsCovered : Type 0
 IsCovered = (device : Device) × ∥ ClosesRun device (IsClosed device) ∥₁
 
--- the close of a device that was opened is refused so, and so its file has failed, where it has
+-- closing a device that was opened is refused with this fault, and its file has this failure, if it has failed
 abbrev pub IsUnclosed : Option Error → Fault → Type 0
 IsUnclosed failure fault = (device : FileDevice) × (failure_of device ≡ failure) × ∥ ClosesRun (state_of device) (IsClosingRefused (state_of device) fault) ∥₁
 
--- The error names this file. A write or a sync of it failed for the cause, and the close of its device is refused; or all is covered, and the file's
--- own close failed. Or no write or sync did, and this is why the close of its device is refused
+-- The error names this file. A write or a sync of it failed for the cause, and closing its device is refused; or all is covered, and closing the
+-- file failed. Or no write or sync failed, and this is why closing its device is refused
 abbrev pub IsClosingError : List ℕ → StoreError → Type 0
 IsClosingError file (StoreError.Lost name cause) = (string_bytes name ≡ file) × (IsCovered ⊎ ((fault : Fault) × IsUnclosed (Some cause) fault))
 IsClosingError file (StoreError.NotClosed name fault) = (string_bytes name ≡ file) × IsUnclosed None fault

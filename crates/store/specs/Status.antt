@@ -1,4 +1,4 @@
--- What a status says of a state.
+-- What a status says about a state.
 use Rattle.std.specs.Prelude.{◌≡◌, ◌+◌, ◌-◌, ◌*◌, ◌^◌, ℕ, length, min}
 use Rattle.base.specs.Layout.{row_limit}
 use Rattle.machine.specs.Machine.{State}

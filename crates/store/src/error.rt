@@ -1,3 +1,7 @@
+//! Callers match on an error to decide what to do, so each cause with its own remedy is a variant, and its message names the
+//! remedy. Every other fault is `Refused`, or `NotOpened` when a store is opened. Errors of opening and closing name the file,
+//! since a program may use several.
+
 use anyhow;
 use base::fault::Fault;
 use base::geometry::Geometry;
@@ -8,7 +12,7 @@ use std::alloc::AllocError;
 use std::{fmt, io};
 use thiserror::Error;
 
-/// Why a store isn't opened, a step isn't made, a commit isn't acknowledged or a store isn't closed.
+/// Why a call failed: opening a store, a step, a commit, or closing.
 #[derive(Debug, Drop, Error)]
 pub enum StoreError {
     /// No store has this name: there is no such file, or it is empty.
@@ -16,85 +20,85 @@ pub enum StoreError {
     Missing {
         name: String,
     },
-    /// The file isn't one that a store may be opened over.
+    /// No store can be opened over this file.
     #[error("{name}: {cause}")]
     File {
         name: String,
         cause: OpenError,
     },
-    /// The file holds a store of another layout. It is left as it is.
+    /// The file holds a store with another layout, and is left as it is.
     #[error("{name} has {found}, and {asked} are asked for: open it as it is by `Store::open_existing`, or copy its rows into a new one")]
     OtherLayout {
         name: String,
         found: Layout,
         asked: Layout,
     },
-    /// What the file holds isn't what a store wrote.
+    /// The contents of the file aren't what a store wrote.
     #[error("{name} is damaged at {part}: take a copy of it from before")]
     Damaged {
         name: String,
         part: Part,
     },
-    /// The opening is refused for another reason.
+    /// The store wasn't opened for another reason.
     #[error("{name}: {fault}")]
     NotOpened {
         name: String,
         fault: Fault,
     },
-    /// A write or a sync of the file failed, and why.
+    /// A write or a sync of the file failed, with this cause.
     #[error("{name}: {cause}: what was committed is kept; open it again")]
     Lost {
         name: String,
         cause: io::Error,
     },
-    /// The store isn't closed. What was acknowledged is kept.
+    /// The store wasn't closed. All acknowledged commits are kept.
     #[error("{name} isn't closed: {fault}: what was committed is kept; open it again")]
     NotClosed {
         name: String,
         fault: Fault,
     },
-    /// Another commit wrote the key since the transaction began, and came first. It is covered now.
+    /// Another commit has written the key since the transaction began, and came first. It is covered now.
     #[error("another commit has written table and key {0}: begin again")]
     Conflict(Key),
-    /// Each try that was allowed met a conflict, the last one on this key.
+    /// All tries that were allowed ended in a conflict, the last one on this key.
     #[error("given up after {tries} tries, since others wrote table and key {key} each time: try again later")]
     GivenUp {
         tries: u64,
         key: Key,
     },
-    /// A put found no slot. A row takes one, and so does each row from before a change while an open transaction may read it.
+    /// A put found no free slot. Each row takes a slot, and so does each older version that an open transaction may still read.
     #[error("no slot is free, since rows fill the store or an open transaction keeps old ones: end that transaction, or delete rows; one of fewer than 65,536 slots can be copied into a larger one")]
     Full,
-    /// The row is none that `put_number` writes.
+    /// The row isn't a number as `put_number` writes it.
     #[error("the row under table and key {0} isn't a number, which has 8 bytes: read it as a row")]
     NotANumber(Key),
-    /// The row has more bytes than a slot, 32 or 96 by the layout.
+    /// The row has more bytes than fit into a slot: 32 or 96, depending on the layout.
     #[error("the row has more than {0} bytes: shorten it (a store of `Geometry::wide` takes up to 96)")]
     RowTooLong(usize),
-    /// A put or a deletion of another key than the 32 that the transaction has written.
+    /// The transaction has written 32 keys already, and the put or delete is for another one.
     #[error("the transaction has written 32 keys, the most that it may: write others in another transaction")]
     TooManyKeys,
-    /// As many transactions and snapshots are open as there may be.
+    /// The maximum number of transactions and snapshots is open.
     #[error("62 transactions are open: end one first")]
     TooManyTransactions,
     /// The allocator refused memory. The step changed nothing.
     #[error("memory was refused: free some, then ask again")]
     OutOfMemory,
-    /// A write or a sync of the file failed before. The close says why.
+    /// A write or a sync of the file failed earlier. Closing the store reports the cause.
     #[error("the file failed, and the close tells why: what was committed is kept; open the store again")]
     Failed,
-    /// The commit is kept whole or not at all, and which of both isn't known yet.
+    /// The commit is kept as a whole or not at all, and it isn't known yet which.
     #[error("whether the commit is kept is known when the store is opened again: {0}")]
     Unknown(Fault),
-    /// Another refusal.
+    /// The step was refused for another reason.
     #[error("{0}")]
     Refused(Fault),
-    /// Why the caller's own changes are given up, in its words.
+    /// The caller's own error, for which its changes were rolled back.
     #[error("{0}")]
     Own(#[from] anyhow::Error),
 }
 
-/// A layout, printed as a person asks for it.
+/// A layout, printed in the terms in which a user asks for one.
 #[derive(Clone, Copy, Debug)]
 pub struct Layout {
     pub geometry: Geometry,
@@ -113,12 +117,12 @@ impl fmt::Display for Layout {
     }
 }
 
-/// Where a file is damaged.
+/// The part of a file that is damaged.
 #[derive(Clone, Copy, Debug, PartialEq, Eq)]
 pub enum Part {
-    /// A place for a record, from 0.
+    /// A place for a record, counted from 0.
     Place(u64),
-    /// A slot, from 0.
+    /// A slot, counted from 0.
     Slot(u64),
 }
 
@@ -135,7 +139,7 @@ impl Part {
     ghost use Rattle.std.specs.Prelude.{◌≡◌};
     ghost use Rattle.store.specs.Errors.{part_of};
 
-    /// The part that a fault names by this number: the places come first, and the slots after them.
+    /// The part that a fault names by this number: the places are counted first, and then the slots.
     pub fn of(geometry: &Geometry, number: u64) -> Part
         ensures { result ≡ part_of geometry.now number }
     {

@@ -1,3 +1,7 @@
+//! A file's layout is known only once the file is open. It is compared with the one that was asked for before a database is
+//! opened over the file, since that writes to it. If the file itself failed, its own error is reported, since the fault says
+//! less.
+
 ghost use Rattle.std.specs.Prelude.{◌≡◌, ◌↔◌, None, IfOk, IfErr, IfSome, IfNone, OnOk, IsTrue};
 ghost use Rattle.base.specs.Images.{opening_fault};
 ghost use Rattle.base.specs.Layout.{Layout, opened_layout};
@@ -33,7 +37,8 @@ pub enum Refusal {
     Fault(Fault),
 }
 
-/// Opens the file, which is made and formatted where it is missing or empty. Its layout is then the one that is asked for.
+/// Opens the file, which is created and formatted if it is missing or empty. The layout of an opened file is the one that was asked
+/// for.
 pub fn open_file<R: Files<File = File>>(
     rt: &R,
     alloc: Global,
@@ -64,7 +69,7 @@ pub fn open_file<R: Files<File = File>>(
     Ok(device)
 }
 
-/// Opens the file with the layout that its image has, which is handed out too. None is made, and none is formatted.
+/// Opens an existing file with the layout that its image has, and returns that layout too. It creates no file and formats none.
 pub fn find_file<R: Files<File = File>>(
     rt: &R,
     alloc: Global,
@@ -87,7 +92,7 @@ pub fn find_file<R: Files<File = File>>(
     }
 }
 
-// The device of the file, which is made and formatted where it is missing or empty.
+// The device of the file, which is created and formatted if it is missing or empty.
 fn open_formatted<R: Files<File = File>>(
     rt: &R,
     alloc: Global,
@@ -108,7 +113,7 @@ fn open_formatted<R: Files<File = File>>(
     }
 }
 
-// Whether both are one layout.
+// Whether both layouts are the same.
 fn is_same(one: &Geometry, other: &Geometry) -> bool
     ensures { IsTrue result ↔ (one.now ≡ other.now) }
 {
@@ -118,7 +123,7 @@ fn is_same(one: &Geometry, other: &Geometry) -> bool
         && one.window() == other.window()
 }
 
-// The same, in one fact.
+// The same as `open_file`, with all that is known about the device in one fact.
 fn open_found<R: Files<File = File>>(
     rt: &R,
     alloc: Global,
@@ -135,7 +140,7 @@ fn open_found<R: Files<File = File>>(
     }
 }
 
-/// The database over the file, which is made with this layout where it is missing or empty.
+/// Opens a database over the file, which is created with this layout if it is missing or empty.
 pub fn open_database<R: Files<File = File> + Threads + Wait + Copy + Drop + Send + Sync + 'static>(
     rt: &R,
     alloc: Global,
@@ -155,7 +160,7 @@ pub fn open_database<R: Files<File = File> + Threads + Wait + Copy + Drop + Send
     }
 }
 
-/// The database over this device.
+/// Opens a database over this device.
 pub fn open_over<R: Threads + Wait + Copy + Drop + Send + Sync + 'static>(
     rt: &R,
     alloc: Global,
@@ -173,7 +178,7 @@ pub fn open_over<R: Threads + Wait + Copy + Drop + Send + Sync + 'static>(
     }
 }
 
-// Why the file failed, where a write or a sync of it did; else why it is refused, and then it is closed.
+// If a write or a sync of the file failed, the cause. Otherwise the fault with which opening was refused; then the file is closed.
 fn refusal_of(device: Device, fault: Fault) -> Refusal
     ensures layout { (layout : Layout) → ReportsLayout layout result }
     ensures lost { IfSome (failure_of device) (λ cause. result ≡ Refusal.Lost cause) }

@@ -1,4 +1,4 @@
-//! A store of rows in a file: opened in one call, shared by threads, and transactions that are begun again after a conflict.
+//! A store of rows in a file. One call opens it, threads share it, and after a conflict a transaction is tried again.
 #![tactic(auto)]
 
 mod error;

@@ -1,3 +1,6 @@
+//! Transactions read through a snapshot of their own, so each read is written only here. A scan has no limit, so the calls that
+//! return only a part of a range, or its length, read all of it.
+
 use crate::error::StoreError;
 use crate::files::Device;
 use crate::ranges::ends_of;
@@ -10,8 +13,9 @@ use std::alloc::Global;
 use std::ops::RangeBounds;
 use std::sync::Wait;
 
-/// The rows as they were committed when it was made, and in a transaction what this has written. It takes one of 62 sessions
-/// up to its drop. A read waits for a step of another thread, which may be a sync of the file, and for no commit.
+/// The rows that were committed when the snapshot was created; within a transaction also what that transaction has written. It takes
+/// one of 62 sessions until it is dropped. A read may wait for a step of another thread, even for a sync of the file, but never for
+/// a commit.
 #[derive(Drop)]
 pub struct Snapshot<'a, R: Wait + Drop> {
     pub(crate) alloc: Global,
@@ -25,14 +29,14 @@ impl<R: Wait + Drop> Snapshot<'_, R> {
     ghost use Rattle.database.specs.Replies.{row_of, rows_of};
     ghost use Rattle.store.specs.Answers.{Answers, Scans, ScanRefused, OfScanned, AnswersNumber, last_key_of};
 
-    /// The row under the key, or `None` where there is none.
+    /// The row under the key, or `None` if there is none.
     pub fn get(&self, key: Key) -> Result<Option<Row>, StoreError>
         ensures { Answers (Get self.now.reads.session key) row_of result }
     {
         Ok(self.reads.get(key)?)
     }
 
-    /// The number under the key, or `None` where there is no row. `NotANumber` where there is one of other than 8 bytes.
+    /// The number under the key, or `None` if there is no row. If the row doesn't have 8 bytes, the error is `NotANumber`.
     pub fn number(&self, key: Key) -> Result<Option<u64>, StoreError>
         ensures { AnswersNumber self.now.reads.session key result }
     {
@@ -46,8 +50,8 @@ impl<R: Wait + Drop> Snapshot<'_, R> {
         }
     }
 
-    /// The rows of the table at the keys of the range, by rising key. All are read in one step, and take memory, so
-    /// `OutOfMemory` may be answered.
+    /// The rows of the table whose keys are in the range, in ascending order. All are read in one step and take memory, so the error
+    /// may be `OutOfMemory`.
     pub fn scan<B: RangeBounds<u64>>(
         &self,
         table: u16,
@@ -62,7 +66,7 @@ impl<R: Wait + Drop> Snapshot<'_, R> {
         }
     }
 
-    // The rows of the table at the keys from the least to the greatest.
+    // The rows of the table whose keys are between these two, or are one of them.
     fn scan_between(
         &self,
         table: u16,
@@ -74,8 +78,7 @@ impl<R: Wait + Drop> Snapshot<'_, R> {
         Ok(self.reads.scan(table, least, greatest)?)
     }
 
-    /// The rows of the table at the keys of the range, from the least key on, at most `limit` of them. All rows of the range are
-    /// read, as by `scan`.
+    /// The first rows of the range in ascending order, at most `limit` of them. All rows of the range are read, as by `scan`.
     pub fn first<B: RangeBounds<u64>>(
         &self,
         table: u16,
@@ -90,7 +93,7 @@ impl<R: Wait + Drop> Snapshot<'_, R> {
         Ok(rows)
     }
 
-    /// The same from the greatest key on: at most `limit` rows, by falling key.
+    /// The last rows of the range in descending order, at most `limit` of them. All rows of the range are read, as by `scan`.
     pub fn last<B: RangeBounds<u64>>(
         &self,
         table: u16,
@@ -105,7 +108,7 @@ impl<R: Wait + Drop> Snapshot<'_, R> {
         Ok(rows)
     }
 
-    /// The greatest number under which the table has a row, or `None` where it has no row. All its rows are read, as by `scan`.
+    /// The greatest key in the table, or `None` if the table has no rows. All its rows are read, as by `scan`.
     pub fn last_key(&self, table: u16) -> Result<Option<u64>, StoreError>
         ensures ok { IfOk result (λ number. OfScanned self.now.reads.session table 0 (2 ^ 64) (λ all. number ≡ last_key_of all)) }
         ensures err { IfErr result (λ error. ScanRefused self.now.reads.session table 0 (2 ^ 64) error) }
@@ -114,7 +117,7 @@ impl<R: Wait + Drop> Snapshot<'_, R> {
         Ok(rows.last().map(|(key, _)| key.key))
     }
 
-    /// How many rows the table has at the keys of the range. They are read, as by `scan`.
+    /// How many rows of the table have keys in the range. They are all read, as by `scan`.
     pub fn count<B: RangeBounds<u64>>(&self, table: u16, range: B) -> Result<usize, StoreError>
         ensures ok { B.has_bounds range → IfOk result (λ count. OfScanned self.now.reads.session table (start_index (B.start_bound range)) (end_index (B.end_bound range) (2 ^ 64)) (λ all. count ≡ length all)) }
         ensures err { B.has_bounds range → IfErr result (λ error. ScanRefused self.now.reads.session table (start_index (B.start_bound range)) (end_index (B.end_bound range) (2 ^ 64)) error) }

@@ -1,3 +1,6 @@
+//! To the crates below, a row is bytes. What numbers and texts look like as bytes is decided only here, by a trait, since `Row`
+//! belongs to `base`.
+
 ghost use Rattle.std.specs.Prelude.{◌≡◌};
 
 use crate::error::StoreError;
@@ -13,18 +16,18 @@ pub fn key(table: u16, key: u64) -> Key
     Key { table, key }
 }
 
-/// Rows that are numbers, and rows that are texts.
+/// Numbers and texts as rows.
 pub trait RowExt {
-    /// The number, in 8 bytes, the lowest first.
+    /// The number in 8 bytes, the lowest byte first.
     fn of_u64(number: u64) -> Row;
 
-    /// The bytes of the text: up to 96, else `RowTooLong`.
+    /// The bytes of the text, or `RowTooLong` if there are more than 96.
     fn of_text(text: &str) -> Result<Row, StoreError>;
 
-    /// The number, or `None` where the row hasn't 8 bytes.
+    /// The number, or `None` if the row doesn't have 8 bytes.
     fn as_u64(&self) -> Option<u64>;
 
-    /// The text, or `None` where the row isn't UTF-8.
+    /// The text, or `None` if the row isn't UTF-8.
     fn as_text(&self) -> Option<&str>;
 }
 

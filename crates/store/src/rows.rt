@@ -1,16 +1,19 @@
+//! These functions are separate from the reads that call them, so that their contracts are about lists alone, without sessions and
+//! steps.
+
 ghost use Rattle.std.specs.Prelude.{◌≡◌, take, reverse};
 
 use base::key::Key;
 use base::row::Row;
 
-/// Keeps the first `limit` rows, or all where there are fewer.
+/// Keeps the first `limit` rows, or all if there are fewer.
 pub fn first_rows(rows: &mut Vec<(Key, Row)>, limit: usize)
     ensures { rows.new.items ≡ take limit rows.old.items }
 {
     rows.truncate(limit);
 }
 
-/// Keeps the last `limit` rows, or all where there are fewer, the last one first.
+/// Keeps the last `limit` rows, or all if there are fewer, in reverse order.
 pub fn last_rows(rows: &mut Vec<(Key, Row)>, limit: usize)
     ensures { rows.new.items ≡ take limit (reverse rows.old.items) }
 {

@@ -1,3 +1,6 @@
+//! The room reports its ruling record with lists of timestamps. A store's status has plain numbers instead, so that it can be
+//! copied, compared and printed.
+
 ghost use Rattle.std.specs.Prelude.{◌≡◌, ◌≤◌, min};
 ghost use Rattle.store.specs.Status.{draws_left, records_left};
 
@@ -6,35 +9,35 @@ use base::{NUMBER_LIMIT, Ts};
 use room;
 use room::Usage;
 
-/// How a store is laid out, and how far it has come.
+/// The layout of a store, how far it has come, and how full it is.
 #[derive(Clone, Copy, Debug, PartialEq, Eq)]
 pub struct Status {
-    /// Of the format: 2, or 3 where a slot has two lines.
+    /// The version of the format: 2, or 3 if a slot has two lines.
     pub version: u64,
     /// How many versions of rows it has room for.
     pub slots: u64,
-    /// How many records have a place.
+    /// How many places for records it has.
     pub places: u64,
     /// How many timestamps are reserved at a time.
     pub window: u64,
     /// The greatest length of a row, in bytes.
     pub row_limit: usize,
-    /// The number of the record that rules.
+    /// The number of the ruling record.
     pub record: u64,
-    /// Each commit up to this timestamp is covered, but for the long ones.
+    /// Each commit up to this timestamp is covered, except for those that `longs` counts.
     pub persisted: Ts,
-    /// How many commits up to it aren't covered yet.
+    /// How many commits up to `persisted` aren't covered yet.
     pub longs: usize,
-    /// How many ranges of timestamps that never counted are left to be swept.
+    /// How many ranges of timestamps that never counted are still to be swept.
     pub gaps: usize,
-    /// How many commits may still be made: as many timestamps may be drawn, and as many records may follow. A record may cover
-    /// more commits than one.
+    /// How many commits can still be made: there are at least this many timestamps to draw, and at least this many records can follow. A
+    /// record may cover more than one commit.
     pub left: u64,
-    /// How many rows are committed, of all tables.
+    /// How many rows are committed, in all tables.
     pub rows: usize,
-    /// How many slots hold a version: of these rows, of rows before a change, and of what open transactions have written.
+    /// How many slots hold a version: one of these rows, an older version of a row, or what an open transaction has written.
     pub versions: u64,
-    /// How many slots hold none.
+    /// How many slots hold no version.
     pub free: u64,
 }
 
@@ -69,7 +72,7 @@ impl Status {
     }
 }
 
-// How many commits may still be made, by their timestamps and by the numbers of their records.
+// How many commits can still be made before their timestamps, or the numbers of their records, run out.
 fn commits_left(window: u64, next: Ts, gate: u64) -> u64
     requires { window ≤ 1024 }
     ensures { result ≡ min (draws_left window next) (records_left gate) }

@@ -1,3 +1,6 @@
+//! Conflicts are normal if threads share a store, so `transact` tries again by itself, and callers don't need a loop each.
+//! Transactions borrow the store, and closing takes it by value, so by the types none is open then.
+
 ghost use Rattle.std.specs.Prelude.{◌≡◌, ℕ, IfSome, IfNone};
 ghost use Rattle.std.specs.String.{string_bytes};
 ghost use Rattle.base.specs.declared.fault.Fault.TheVariants.{Damaged};
@@ -25,14 +28,14 @@ use std::rt::Files;
 use std::sync::Wait;
 use std::thread::Threads;
 
-// How often `transact` begins a transaction.
+// The most transactions that one `transact` begins.
 const TRIES: u64 = 1_000;
 
-// What a try comes to where nothing else is refused.
+// How a try ends, unless it fails with an error other than a conflict.
 #[derive(Drop)]
 enum Attempt<T> {
     Committed(T, Option<Ts>),
-    // Another commit came first, on this key.
+    // Another commit of this key came first.
     Conflict(Key),
 }
 
@@ -50,9 +53,10 @@ impl<R: Files<File = File> + Threads + Wait + Copy + Drop + Send + Sync + 'stati
     ghost use Rattle.store.specs.Files.{OpensExisting, OpensLayout};
     ghost use Rattle.store.specs.Opening.{IsFindingError, IsOpeningError};
 
-    /// Opens the file, which is made with this layout where it is missing or empty. One that holds a store of another layout is
-    /// left as it is, and the error says both: `open_existing` opens it. It reads the whole file, and waits for its syncs, but not for another process:
-    /// that is `File`, as is a file that is no store. `Damaged`, `NotOpened`, `Lost` and `OutOfMemory` are its other errors.
+    /// Opens the file, which is created with this layout if it is missing or empty. A file that holds a store with another layout is left
+    /// as it is, and the error has both layouts: `open_existing` opens that file. It reads the whole file and waits for its syncs, but not
+    /// for another process. If one has the file open, or the file isn't a store, the error is `File`. Its other errors are `Damaged`,
+    /// `NotOpened`, `Lost` and `OutOfMemory`.
     pub fn open(
         rt: R,
         alloc: Global,
@@ -74,9 +78,8 @@ impl<R: Files<File = File> + Threads + Wait + Copy + Drop + Send + Sync + 'stati
         }
     }
 
-    /// Opens the store that the file holds, with the layout that it has: `status` says which. No file is made: where there is
-    /// none, or an empty one, that is `Missing`. Its other errors are those of `open` but for `OtherLayout`, and it waits as
-    /// `open` does.
+    /// Opens the store that the file holds, with the layout that it has: `status` says which. It creates no file: if there is none, or it
+    /// is empty, the error is `Missing`. Its other errors are those of `open` except `OtherLayout`, and it waits as `open` does.
     pub fn open_existing(rt: R, alloc: Global, name: &str) -> Result<Store<R>, StoreError>
         ensures ok { OnOk result OpensExisting }
         ensures name { IfOk result (λ store. string_bytes store.name ≡ name.now) }
@@ -99,7 +102,7 @@ impl<R: Files<File = File> + Threads + Wait + Copy + Drop + Send + Sync + 'stati
     }
 }
 
-// The error that names the file, and the layout that was asked for or found.
+// The error, with the name of the file and the layout that was asked for or found.
 fn not_opened(name: String, geometry: Geometry, refusal: Refusal) -> StoreError
     requires layout { ReportsLayout geometry refusal }
     requires fault { ReportsFault geometry refusal }
@@ -118,7 +121,7 @@ fn not_opened(name: String, geometry: Geometry, refusal: Refusal) -> StoreError
     }
 }
 
-// What is damaged, or why else the opening is refused.
+// The part that is damaged, or the other reason why opening is refused.
 fn refused(name: String, geometry: Geometry, fault: Fault) -> StoreError
     requires why { IsUnopened geometry fault }
     ensures names { IsOpeningError (string_bytes name) geometry result }
@@ -146,10 +149,10 @@ impl<R: Wait + Drop> Store<R> {
     ghost use Rattle.store.specs.Trying.{CommitsWithin, FailsWithin, Fails, EndsTry};
     ghost use Rattle.store.specs.Status.{ShowsLayout, ShowsNumbers, ShowsFill};
 
-    /// Makes the changes in one transaction and commits it: what they return, and the timestamp, which is `None` where nothing
-    /// was written. After a conflict they are made again, on the rows as the other commit left them, up to a thousand times. At
-    /// any other error, one of the changes' own among them, nothing is kept, but at `Unknown`. It waits for a sync of the file, as
-    /// a commit does.
+    /// Makes the changes in one transaction and commits it. It returns what the changes return, and the timestamp, or `None` if nothing was
+    /// written. After a conflict it tries again, on the rows as the other commit left them, with at most a thousand tries in all. After
+    /// any other error, including the changes' own, nothing is kept, unless the error is `Unknown`. It waits for a sync of the file, as a
+    /// commit does.
     pub fn transact<T: Drop, F: Drop + FnMut(&mut Transaction<'_, R>) -> Result<T, StoreError>>(
         &self,
         changes: F,
@@ -161,7 +164,7 @@ impl<R: Wait + Drop> Store<R> {
         self.transact_within(TRIES, changes)
     }
 
-    /// The same with at most this many tries in place of a thousand, and with one where the number is 0.
+    /// The same with at most this many tries instead of a thousand. If the number is 0, it tries once.
     pub fn transact_within<
         T: Drop,
         F: Drop + FnMut(&mut Transaction<'_, R>) -> Result<T, StoreError>,
@@ -184,7 +187,7 @@ impl<R: Wait + Drop> Store<R> {
         }
     }
 
-    // One try: the changes on a transaction of their own, and its commit.
+    // One try: makes the changes in a transaction of their own, and commits it.
     fn attempt<T: Drop, F: Drop + FnMut(&mut Transaction<'_, R>) -> Result<T, StoreError>>(
         &self,
         changes: &mut F,
@@ -210,8 +213,8 @@ impl<R: Wait + Drop> Store<R> {
         }
     }
 
-    /// Begins a transaction, which reads the rows that are committed now, and what it writes. 62 may be open, snapshots among
-    /// them: a further one is refused with `TooManyTransactions`. It waits as a read does.
+    /// Begins a transaction, which reads the rows that are committed now, and what it writes itself. At most 62 transactions and snapshots
+    /// can be open: another one is refused with `TooManyTransactions`. It waits as a read does.
     pub fn begin(&self) -> Result<Transaction<'_, R>, StoreError>
         ensures ok { IfOk result (λ transaction. Answers Begin began_of (Ok transaction.snapshot.reads.session)) }
         ensures limit { IfOk result (λ transaction. ComesTo (λ q. transaction.row_limit ≡ row_limit q.layout.version)) }
@@ -223,7 +226,8 @@ impl<R: Wait + Drop> Store<R> {
         })
     }
 
-    /// The rows that are committed now, to be read as long as the snapshot is kept. The same 62 count, and it waits as a read does.
+    /// A snapshot of the rows that are committed now, which can be read until it is dropped. It counts among the 62 too. It waits as a
+    /// read does.
     pub fn read(&self) -> Result<Snapshot<'_, R>, StoreError>
         ensures ok { IfOk result (λ snapshot. Answers Begin began_of (Ok snapshot.reads.session)) }
         ensures err { IfErr result (λ error. Answers Begin began_of (Err error)) }
@@ -234,8 +238,8 @@ impl<R: Wait + Drop> Store<R> {
         })
     }
 
-    /// How it is laid out, how far it has come, and how full it is. It looks at each key and each slot, while others wait. Its
-    /// numbers are read one after the other, and others may commit in between.
+    /// The layout of the store, how far it has come, and how full it is. It looks at each key and each slot while other threads wait. Its
+    /// numbers are read one after the other, and other threads may commit in between.
     pub fn status(&self) -> Status
         ensures layout { ComesTo (λ q. ShowsLayout q result) }
         ensures numbers { ComesTo (λ q. ShowsNumbers q result) }
@@ -247,15 +251,15 @@ impl<R: Wait + Drop> Store<R> {
         Status::of(&self.database.geometry(), &numbers, &usage)
     }
 
-    /// The name of its file.
+    /// The name of the store's file.
     pub fn name(&self) -> &str
         ensures { result.now ≡ string_bytes self.now.name }
     {
         self.name.as_str()
     }
 
-    /// Covers all that was committed, and closes the file. It waits for the store's two threads to end, and for the last syncs.
-    /// `Lost` and `NotClosed` are its errors. No transaction is open: each borrows from it.
+    /// Covers all that was committed, and closes the file. It waits for the store's two threads to end, and for the last syncs. Its errors
+    /// are `Lost` and `NotClosed`. No transaction is open, since each borrows the store.
     pub fn close(self) -> Result<(), StoreError>
         ensures ok { OnOk result IsCovered }
         ensures err { IfErr result (IsClosingError (string_bytes self.name)) }
@@ -271,7 +275,7 @@ impl<R: Wait + Drop> Store<R> {
     }
 }
 
-// Why the file failed, where a write or a sync of it did; else why the close is refused, and then the file is closed.
+// If a write or a sync of the file failed, the cause. Otherwise the fault with which closing was refused; then the file is closed.
 fn not_closed(name: String, device: Device, fault: Fault) -> StoreError
     requires refused { ∥ ClosesRun (state_of device) (IsClosingRefused (state_of device) fault) ∥₁ }
     ensures names { IsClosingError (string_bytes name) result }

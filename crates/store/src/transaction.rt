@@ -1,3 +1,6 @@
+//! A commit and an abort take the transaction by value, so it can't be used after its end. It has the row limit of its store, so
+//! that the error of a put that is too long can say what fits.
+
 ghost use Rattle.std.specs.Prelude.{◌≡◌};
 ghost use Rattle.store.specs.Answers.{put_error};
 
@@ -11,16 +14,16 @@ use base::row::Row;
 use std::ops::Deref;
 use std::sync::Wait;
 
-/// Reads of a snapshot, and writes of up to 32 keys that are kept together or not at all. It takes one of 62 sessions up to its
-/// end, and a drop gives it up. A step that is refused changes nothing, and the transaction stays open.
+/// Reads a snapshot, and writes up to 32 keys, which are kept together or not at all. It takes one of 62 sessions until it ends, and
+/// a drop rolls it back. A step that is refused changes nothing, and the transaction stays open.
 #[derive(Drop)]
 pub struct Transaction<'a, R: Wait + Drop> {
     pub(crate) snapshot: Snapshot<'a, R>,
-    // The greatest length of a row.
+    // The greatest length of a row, in bytes.
     pub(crate) row_limit: usize,
 }
 
-// It reads as a snapshot does.
+// A transaction reads as a snapshot does.
 impl<'a, R: Wait + Drop> Deref for Transaction<'a, R> {
     ghost use Rattle.std.specs.Prelude.{◌≡◌};
 
@@ -41,8 +44,8 @@ impl<R: Wait + Drop> Transaction<'_, R> {
     ghost use Rattle.database.specs.Committing.{ReportsCommit};
     ghost use Rattle.store.specs.Answers.{Answers, Puts, MakesWrites, IsCommitRefusal};
 
-    /// Writes the row under the key. `RowTooLong`, `TooManyKeys` and `Full` refuse it. It waits as a read does, and where no slot
-    /// is free looks for those that nobody needs first.
+    /// Writes the row under the key. It may be refused with `RowTooLong`, `TooManyKeys` or `Full`. It waits as a read does, and if no slot
+    /// is free, it first looks for slots that nobody needs.
     pub fn put(&mut self, key: Key, row: Row) -> Result<(), StoreError>
         ensures made { Puts self.old.snapshot.reads.session key row self.old.row_limit result }
         ensures same { self.new ≡ self.old }
@@ -61,7 +64,7 @@ impl<R: Wait + Drop> Transaction<'_, R> {
         self.put(key, Row::of_u64(number))
     }
 
-    /// Deletes the row under the key, if there is one. `TooManyKeys` refuses it.
+    /// Deletes the row under the key, if there is one. It may be refused with `TooManyKeys`.
     pub fn delete(&mut self, key: Key) -> Result<(), StoreError>
         ensures made { Answers (Delete self.old.snapshot.reads.session key) done_of result }
         ensures same { self.new ≡ self.old }
@@ -69,8 +72,8 @@ impl<R: Wait + Drop> Transaction<'_, R> {
         Ok(self.snapshot.reads.delete(key)?)
     }
 
-    /// Makes these writes in their order, as `put` and, where there is no row, `delete` do, up to the first that is refused. They wait
-    /// once, and no step of another thread comes in between.
+    /// Makes these writes in their order, up to the first that is refused: each as `put` does, or as `delete` does if it has no row. It
+    /// waits once for all, and no step of another thread comes in between.
     pub fn write(&mut self, writes: &[(Key, Option<Row>)]) -> Result<(), StoreError>
         ensures made { MakesWrites self.old.snapshot.reads.session writes.now self.old.row_limit result }
         ensures same { self.new ≡ self.old }
@@ -81,9 +84,9 @@ impl<R: Wait + Drop> Transaction<'_, R> {
         }
     }
 
-    /// Commits, and returns once that is durable: its timestamp, or `None` where nothing was written. It waits for a sync of the
-    /// file, which commits of other threads share. At an error nothing of it is kept, but at `Unknown`. `Conflict` is answered once
-    /// the commit that was in the way is covered.
+    /// Commits, and returns once the commit is durable: its timestamp, or `None` if nothing was written. It waits for a sync of the file,
+    /// which commits of other threads share. After an error nothing of it is kept, unless the error is `Unknown`. `Conflict` is returned
+    /// only once the commit that was in the way is covered.
     pub fn commit(self) -> Result<Option<Ts>, StoreError>
         ensures ok { IfOk result (ReportsCommit self.entry.snapshot.reads.session) }
         ensures err { IfErr result (IsCommitRefusal self.entry.snapshot.reads.session) }
@@ -96,7 +99,7 @@ impl<R: Wait + Drop> Transaction<'_, R> {
         }
     }
 
-    /// Gives it up, as a drop does, and fails where the file has failed.
+    /// Rolls the transaction back, as a drop does, and fails if the file has failed.
     pub fn abort(self) -> Result<(), StoreError>
         ensures { Answers (Abort self.entry.snapshot.reads.session) done_of result }
     {
@@ -106,7 +109,7 @@ impl<R: Wait + Drop> Transaction<'_, R> {
     }
 }
 
-// What a refusal of a put is called, where rows have at most so many bytes.
+// The error for a refused put, if rows have at most `limit` bytes.
 fn put_error(limit: usize, fault: Fault) -> StoreError
     ensures { result ≡ put_error limit fault }
 {

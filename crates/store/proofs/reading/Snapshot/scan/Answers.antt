@@ -9,7 +9,7 @@ use Rattle.database.specs.Replies.{rows_of}
 use Rattle.database.specs.Obeys.{AnswersStep}
 use Rattle.store.proofs.reading.Snapshot.scan.Goals as goal
 
--- the same scan, by where the range begins and where it ends
+-- the same scan, in terms of where the range begins and ends
 scanned : (session table least greatest start end : ℕ) (told : Result (List (Key × List ℕ)) Fault) → least ≡ start → greatest + 1 ≡ end → least ≤ greatest
     → AnswersStep (Scan session table least greatest) rows_of told → (start < end) × AnswersStep (Scan session table start (end - 1)) rows_of told
 scanned session table least greatest start end told first last below answers =
