@@ -10,10 +10,10 @@ use std::alloc::Global;
 use std::io;
 use std::io::Write;
 
-// So many answers of one short line are held at most.
+// The most answers of one short line that are held.
 const MOST_HELD: usize = 16;
 
-// As many bytes as they may have.
+// How many bytes the answers that are held may have.
 const ROOM: usize = 512;
 
 /// Which ends of the program are terminals.
@@ -24,21 +24,21 @@ pub struct Terminals {
     pub error: bool,
 }
 
-/// For whom answers are printed.
+/// How the answers are printed, depending on who reads them.
 #[derive(Clone, Copy)]
 pub struct Manner {
-    /// A person types the lines and reads the answers: there is a prompt.
+    /// A person types the lines and reads what is printed: there is a prompt.
     pub is_prompted: bool,
-    /// A person reads the answers: rows are a table.
+    /// A person reads what is printed: rows are a table.
     pub is_table: bool,
-    /// Rows that are text are printed as that.
+    /// Rows that are text are printed as text.
     pub is_text: bool,
     /// A person reads standard error.
     pub is_watched: bool,
 }
 
 impl Manner {
-    /// As it suits those that are at the ends.
+    /// The manner that suits who is at each end, a person or a program.
     pub fn of(terminals: Terminals, reads_lines: bool, wants_text: bool) -> Manner {
         let is_table = terminals.output && (terminals.input || !reads_lines);
         Manner {
@@ -50,12 +50,12 @@ impl Manner {
     }
 }
 
-/// Prints answers. A few short ones are held, so that they are printed together.
+/// Prints the answers to lines. A few short ones are held, so that they are printed together.
 #[derive(Drop)]
 pub struct Printer<'a, R> {
     rt: &'a R,
     pub manner: Manner,
-    // The lines that are held, and how many they are.
+    // The lines that are held, and how many there are.
     held: Vec<u8>,
     count: usize,
 }
@@ -131,7 +131,7 @@ impl<'a, R: Print> Printer<'a, R> {
         self.end_list(Statistics::LINES)
     }
 
-    // Ends a list of this many lines, unless a person sees its end.
+    // Prints the end of a list of this many lines, unless a person reads it and sees its end.
     fn end_list(&self, count: usize) -> io::Result<()> {
         if self.manner.is_table {
             Ok(())
@@ -140,7 +140,7 @@ impl<'a, R: Print> Printer<'a, R> {
         }
     }
 
-    /// Prints that a line is refused, if a program reads what is printed. What is held is printed before it.
+    /// Prints that a line is refused, if a program reads what is printed. What is held is printed first.
     pub fn refuse(&mut self, name: &str, sentence: &Sentence<'_>) -> io::Result<()> {
         self.flush()?;
         if self.manner.is_table {
@@ -204,7 +204,7 @@ impl<'a, R: Print> Printer<'a, R> {
         }
     }
 
-    // Lines that write the rows, in transactions.
+    // Prints lines that put the rows, in transactions.
     fn print_dump(&self, rows: &[(Key, Row)]) -> io::Result<()> {
         let mut puts: u64 = 0;
         for (key, row) in rows {

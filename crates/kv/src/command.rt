@@ -2,20 +2,20 @@ use crate::help::Word;
 use base::key::Key;
 use base::row::Row;
 
-/// What a line, or the words behind the file's name, ask for.
+/// What a line, or the words after the file's name, ask for.
 #[derive(Clone, Copy)]
 pub enum Command {
-    /// Something of the store.
+    /// A request to the store.
     Ask(Request),
-    /// To put the rows of the lines that follow.
+    /// Put the rows of the lines that follow.
     Load,
-    /// To print how long each line takes, or no more.
+    /// Print how long each line takes, or stop printing it.
     Timing(bool),
     Help(Option<Word>),
     Quit,
 }
 
-/// What is asked of a store.
+/// A request to a store.
 #[derive(Clone, Copy)]
 pub enum Request {
     Put { key: Key, row: Row },
@@ -55,7 +55,7 @@ impl Range {
 }
 
 impl Command {
-    /// Why it can't be given behind the file's name, since nothing follows it there.
+    /// Why it can't be given after the file's name, if it can't: nothing follows it there.
     pub fn why_not_alone(&self) -> Option<&'static str> {
         match self {
             Command::Quit => Some(
@@ -73,7 +73,7 @@ impl Command {
         }
     }
 
-    /// Whether it creates a store if there is none: if it puts rows.
+    /// Whether it creates a store if there is none, since it puts rows.
     pub fn creates(&self) -> bool {
         matches!(self, Command::Load | Command::Ask(Request::Put { .. }))
     }

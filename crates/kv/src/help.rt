@@ -18,27 +18,27 @@ pub enum Word {
     Quit,
 }
 
-/// A command, as it is explained.
+/// A command and its explanation.
 #[derive(Clone, Copy)]
 pub struct Topic {
     pub word: Word,
     pub name: &'static str,
-    /// Its words.
+    /// Its name and its arguments.
     pub form: &'static str,
-    /// A few words on it.
+    /// A few words about it.
     pub short: &'static str,
-    /// A sentence on it.
+    /// A sentence about it.
     pub long: &'static str,
-    /// Lines that show it. A new store runs those of all topics, in their order.
+    /// Lines that show it. A new store can run those of all topics, in their order.
     pub example: &'static str,
 }
 
-/// What is said before the commands.
+/// What is printed before the commands.
 pub const ROWS: &str =
     "Each row has a table (0 to 65535) and a key (0 to 18446744073709551615). A row is text in quotation marks, as \"milk\",
 two hexadecimal digits for each byte, as 6d696c6b, or - for no bytes. Commands may be in capital letters too.";
 
-/// What is said after them.
+/// What is printed after them.
 pub const LARGER: &str =
     "help WORD explains one, with an example. A full store accepts no more rows and no updates: delete a row, or copy all into a
 store with more slots,
@@ -173,7 +173,7 @@ ends at the first line that it can't take, and keeps what it has committed until
     },
 ];
 
-/// The command whose first word is this one, in capital letters or not.
+/// The command whose first word is this one, in capital letters or lower case.
 pub fn find_word(name: &str) -> Option<Word> {
     if name.eq_ignore_ascii_case("exit") {
         return Some(Word::Quit);
@@ -187,7 +187,7 @@ pub fn find_word(name: &str) -> Option<Word> {
     }
 }
 
-/// What is said about a command.
+/// The explanation of a command.
 pub fn topic_of(word: Word) -> Option<&'static Topic> {
     TOPICS.iter().find(|topic| topic.word == word)
 }

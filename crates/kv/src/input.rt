@@ -14,11 +14,11 @@ pub enum Line<'a> {
     Text(&'a str),
     NotText(&'a [u8]),
     TooLong(&'a [u8]),
-    /// The input ended within it: the rest may be missing.
+    /// The input ended inside it: the rest may be missing.
     Cut,
 }
 
-/// The lines of an input. They take no more memory than one line may have.
+/// The lines of an input. They take no more memory than the longest line that is allowed.
 #[derive(Drop)]
 pub struct Lines<R: Read + Drop> {
     input: BufReader<R>,
@@ -35,17 +35,17 @@ impl<R: BufRead + Drop> Lines<R> {
         })
     }
 
-    /// The number of the line that was read last, from 1 on.
+    /// The number of the line that was read last, counted from 1.
     pub fn number(&self) -> u64 {
         self.number
     }
 
-    /// Whether a whole line was read ahead, so that the next one isn't waited for.
+    /// Whether a whole line was read ahead, so that reading the next line won't wait.
     pub fn has_line(&self) -> bool {
         self.input.buffer().contains(&LINE_FEED)
     }
 
-    /// Reads the next line, without its line feed. `None` at the end.
+    /// Reads the next line, without its line feed, or returns `None` at the end.
     pub fn next_line(&mut self) -> io::Result<Option<Line<'_>>> {
         self.line.clear();
         let most = MOST_BYTES as u64 + 1;
@@ -66,7 +66,7 @@ impl<R: BufRead + Drop> Lines<R> {
     }
 }
 
-// A whole line.
+// A whole line, from its bytes.
 fn decoded(bytes: &[u8]) -> Line<'_> {
     match str::from_utf8(bytes) {
         Ok(text) => Line::Text(text),

@@ -16,7 +16,7 @@ use std::rt::Clock;
 use std::sync::Wait;
 use store::Device;
 
-/// How many puts a transaction takes.
+/// The most puts in a transaction.
 pub const MOST_PUTS: u64 = 32;
 
 /// Puts the rows of lines, in transactions.
@@ -26,7 +26,7 @@ pub struct Loader<'a, R: Eprint + Clock + Wait + Drop> {
     database: &'a Database<Device, R>,
     progress: Progress<'a, R>,
     open: Option<Transaction<'a, Device, R>>,
-    // A begin was read, and its commit wasn't yet.
+    // A begin was read, but not its commit yet.
     is_begun: bool,
     // How many rows the transaction has.
     puts: u64,
@@ -54,13 +54,13 @@ impl<'a, R: Eprint + Clock + Wait + Drop> Loader<'a, R> {
         }
     }
 
-    /// Ends it. How many rows are committed.
+    /// Ends the load. Returns how many rows are committed.
     pub fn end(self) -> u64 {
         self.progress.end();
         self.kept
     }
 
-    /// Puts the rows of the lines up to the end, or up to one that is refused.
+    /// Puts the rows of the lines up to the end, or up to a line that is refused.
     pub fn load<I: BufRead + Drop>(&mut self, lines: &mut Lines<I>) -> Result<(), Failed> {
         for _ in 0..u64::MAX {
             let Some(line) = lines.next_line().map_err(Stop::Input)? else {
@@ -100,7 +100,7 @@ impl<'a, R: Eprint + Clock + Wait + Drop> Loader<'a, R> {
         self.keep()
     }
 
-    // What is put from here on is kept by the commit alone.
+    // From here on only the commit keeps what is put.
     fn begin(&mut self) -> Result<(), Failed> {
         if self.is_begun {
             return Err(refused("load: begin within begin"));
@@ -119,7 +119,7 @@ impl<'a, R: Eprint + Clock + Wait + Drop> Loader<'a, R> {
         Ok(())
     }
 
-    // A list ends, which had this many rows.
+    // Ends a list that should have this many rows.
     fn end_list(&mut self, rows: u64) -> Result<(), Refusal> {
         let listed = self.listed;
         if listed != rows {
@@ -155,7 +155,7 @@ enum Part {
     Commit,
     /// The end of a list of this many rows.
     End(u64),
-    /// What else dump and wbl check print, or no words.
+    /// Any other line that dump or wbl check prints, or a line without words.
     Other,
 }
 
@@ -180,7 +180,7 @@ fn parse_part(words: &[&str]) -> Result<Part, Refusal> {
     }
 }
 
-// What begins with a table's number, or with a word of wbl's.
+// A line that begins with a table's number, or with a word that wbl prints.
 fn parse_other(name: &str, rest: &[&str]) -> Result<Part, Refusal> {
     match (name, rest) {
         ("ready" | "closed", []) | ("sound", _) => Ok(Part::Other),

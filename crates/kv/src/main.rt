@@ -1,5 +1,5 @@
-//! A key-value store over a file: a command, or lines on standard input, and the answers to them. What is answered `committed`
-//! persists.
+//! A key-value store in a file. It runs a command, or the lines of standard input, and prints what they return. Once `committed` is
+//! printed, a change is durable.
 #![tactic(auto)]
 
 mod answers;

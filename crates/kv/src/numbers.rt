@@ -17,7 +17,7 @@ pub fn parse_table(command: &str, word: &str) -> Result<u16, Error> {
     }
 }
 
-/// A number, which the command calls by this name.
+/// A number, which the messages of the command call by this name.
 pub fn parse_number(command: &str, name: &str, word: &str) -> Result<u64, Error> {
     match word.parse::<u64>() {
         Ok(number) => Ok(number),

@@ -14,11 +14,11 @@ use store::standard_layout;
 pub struct Options<'a> {
     pub file: &'a str,
     pub layout: Layout,
-    /// Rows that are text are printed as that.
+    /// Rows that are text are printed as text.
     pub is_text: bool,
-    /// The first line that is refused ends the run.
+    /// The run ends at the first line that is refused.
     pub bails: bool,
-    /// What alone is run, instead of lines.
+    /// The one command that is run instead of lines, if there is one.
     pub command: Option<Given>,
 }
 
@@ -32,7 +32,7 @@ impl Options<'_> {
     }
 }
 
-/// That of a new store: what is asked for, and else the default.
+/// The layout of a new store: what the options ask for, and the default for the rest.
 #[derive(Clone, Copy)]
 pub struct Layout {
     slots: Option<u64>,
@@ -52,11 +52,11 @@ impl Layout {
     }
 }
 
-/// A command behind the file's name.
+/// A command after the file's name.
 #[derive(Clone, Copy)]
 pub struct Given {
     pub command: Command,
-    /// Its last word is a row of hexadecimal digits that may have been meant as text.
+    /// Whether its last word is a row of hexadecimal digits that may have been meant as text.
     pub is_doubtful: bool,
 }
 
@@ -69,7 +69,7 @@ const AFTER: &str =
 For example:         kv shop.img put 1 5 '\"milk\"'
 To change a layout:  kv old.img dump | kv new.img --slots 65536 load";
 
-/// What the command line takes.
+/// The options and arguments of the command line.
 pub fn command_line<'a>(alloc: Global) -> Result<clap::Command<'a>, AllocError> {
     let command = clap::Command::new(alloc, "kv")
         .about(ABOUT)
@@ -77,7 +77,7 @@ pub fn command_line<'a>(alloc: Global) -> Result<clap::Command<'a>, AllocError> 
     with_layout(alloc, with_words(alloc, command)?)
 }
 
-// What is worked on, and what is done.
+// The arguments that say which file to use, and what to do.
 fn with_words<'a>(
     alloc: Global,
     command: clap::Command<'a>,
@@ -100,7 +100,7 @@ fn with_words<'a>(
     command.arg(file)?.arg(words)?.arg(text)?.arg(bail)
 }
 
-// How a store is created.
+// The options for a new store.
 fn with_layout<'a>(
     alloc: Global,
     command: clap::Command<'a>,
@@ -133,7 +133,7 @@ fn number<'a>(alloc: Global, name: &'a str) -> Arg<'a> {
     Arg::new(alloc, name).long(name).value_name("N")
 }
 
-/// What the words gave.
+/// What the words of the command line ask for.
 pub fn read_options<'a>(matches: &ArgMatches<'a>) -> Result<Options<'a>, Refusal> {
     let Some(file) = matches.get_str("FILE") else {
         return Err(Refusal::Words(anyhow!("no file is named")));
@@ -163,7 +163,7 @@ fn read_layout(matches: &ArgMatches<'_>) -> Result<Layout, Fault> {
     })
 }
 
-// The layout that is asked for: what no option says is that of the standard layout.
+// The layout that is asked for: what no option sets comes from the standard layout.
 fn geometry_of(
     slots: Option<u64>,
     places: Option<u64>,
@@ -181,7 +181,7 @@ fn geometry_of(
     }
 }
 
-// The command that stands behind the file, if one does.
+// The command after the file's name, if there is one.
 fn read_command(words: &[&str]) -> Result<Option<Given>, Refusal> {
     if words.is_empty() {
         return Ok(None);
@@ -196,7 +196,7 @@ fn read_command(words: &[&str]) -> Result<Option<Given>, Refusal> {
     }
 }
 
-// Whether a put has a row of digits that may have been meant as text, whose quotation marks a shell took.
+// Whether a put has a row of digits that may have been meant as text: a shell removes quotation marks.
 fn is_doubtful(command: &Command, words: &[&str]) -> bool {
     match (command, words.last()) {
         (Command::Ask(Request::Put { .. }), Some(row)) => may_be_text(row),

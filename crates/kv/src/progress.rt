@@ -1,16 +1,16 @@
 use std::rt::Clock;
 use std::time::{Duration, Instant};
 
-// After how many rows it is printed again.
+// After how many more rows the progress is printed again.
 const STEP: u64 = 1_024;
 
-/// What is printed on standard error while rows are put.
+/// The progress that is printed on standard error while rows are put.
 #[derive(Drop)]
 pub struct Progress<'a, R> {
     rt: &'a R,
-    // Since when it lasts, if it is printed at all.
+    // When it began, if it is printed at all.
     start: Option<Instant>,
-    // How many rows were printed last.
+    // The number of rows that was printed last.
     printed: u64,
 }
 
@@ -29,7 +29,7 @@ impl<'a, R: Eprint + Clock> Progress<'a, R> {
         }
     }
 
-    /// Prints that so many rows are put, if that is due.
+    /// Prints that this many rows are put, if enough were put since the last time.
     pub fn show(&mut self, rows: u64) {
         if rows.saturating_sub(self.printed) < STEP {
             return;
@@ -41,7 +41,7 @@ impl<'a, R: Eprint + Clock> Progress<'a, R> {
         }
     }
 
-    /// Ends the line, if one was begun.
+    /// Ends the line of the progress, if one was begun.
     pub fn end(&self) {
         if self.start.is_some() && 0 < self.printed {
             let _ = eprintln!(self.rt; "");
@@ -53,7 +53,7 @@ impl<'a, R: Eprint + Clock> Progress<'a, R> {
     }
 }
 
-// How many rows a second.
+// How many rows per second.
 fn rate(rows: u64, elapsed: Duration) -> u128 {
     let thousand = u128::from(rows).saturating_mul(1_000);
     thousand.checked_div(elapsed.as_millis()).unwrap_or(0)

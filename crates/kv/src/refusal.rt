@@ -5,16 +5,16 @@ use pmem_file::OpenError;
 use std::{fmt, io};
 use thiserror::Error;
 
-/// Why a line isn't run. The next one may be.
+/// Why a line isn't run. The next one may still be.
 #[derive(Debug, Drop, Error)]
 pub enum Refusal {
-    /// Its first word is not a command's.
+    /// Its first word isn't the name of a command.
     #[error("{0}")]
     Unknown(anyhow::Error),
-    /// Its words are not those of its command.
+    /// Its command doesn't take these words.
     #[error("{0}")]
     Words(#[from] anyhow::Error),
-    /// Its row is neither digits nor text.
+    /// Its row is neither in hexadecimal digits nor text.
     #[error("{0}: bytes are two hexadecimal digits each, and text needs quotation marks, which a shell takes away: '\"text\"'")]
     Row(anyhow::Error),
     #[error("{0}")]
@@ -38,7 +38,7 @@ pub enum Refusal {
 }
 
 impl Refusal {
-    /// By which programs know it: of a fault its own name.
+    /// The name by which programs recognize it: for a fault its own name.
     pub fn name(&self) -> &'static str {
         match self {
             Refusal::Unknown(_) => "UnknownCommand",
@@ -70,7 +70,7 @@ impl Refusal {
     }
 }
 
-/// A refusal by a store of this layout, as a sentence that says what can be done there.
+/// A refusal by a store with this layout, as a sentence that says what the user can do.
 #[derive(Clone, Copy)]
 pub struct Sentence<'a> {
     pub refusal: &'a Refusal,
@@ -117,7 +117,7 @@ fn write_too_long<W: fmt::Write>(f: &mut fmt::Formatter<W>, geometry: &Geometry)
     Ok(())
 }
 
-/// Why no further line is run.
+/// Why no more lines are run.
 #[derive(Debug, Drop, Error)]
 pub enum Stop {
     #[error("standard input: {0}")]
@@ -127,15 +127,15 @@ pub enum Stop {
     /// The device failed.
     #[error("nothing more is read or written before the file is opened again; what was committed is kept")]
     Device,
-    /// It failed while a commit was in hand.
+    /// The device failed during a commit.
     #[error("whether the last commit is kept is known when the file is opened again; those before it are")]
     InCommit,
-    /// It failed after all lines.
+    /// The device failed after all lines.
     #[error("what was committed is kept, and the file isn't closed")]
     AtClose,
 }
 
-/// Why a device is refused.
+/// Why a device wasn't opened or closed.
 #[derive(Debug, Drop, Error)]
 pub enum Reason {
     #[error("{0}")]
@@ -169,7 +169,7 @@ pub enum Failure {
     },
     #[error("the file was removed while it was open, and what it held is gone")]
     Unlinked,
-    /// A line was refused for the same reason, and it was printed.
+    /// A line was refused for the same reason, which was printed then.
     #[error("the file isn't closed")]
     Told,
     #[error("{0}")]

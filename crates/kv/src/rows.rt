@@ -6,7 +6,7 @@ use std::{fmt, str};
 
 const LIMITS: &str = "at most 32 are allowed, or 96 in a store that is created with --wide";
 
-/// Whether a row in hexadecimal digits may have been meant as a word, as `beef`: it has letters alone, and more than two.
+/// Whether a row in hexadecimal digits may have been meant as a word, like `beef`: it has only letters, and more than two.
 pub fn may_be_text(word: &str) -> bool {
     2 < word.len() && word.bytes().all(|byte| byte.is_ascii_alphabetic())
 }
@@ -32,7 +32,7 @@ fn parse_digits(command: &str, word: &str) -> Result<Row, Refusal> {
     }
 }
 
-// The row of what stands behind the first quotation mark.
+// The row that is spelled by the text after the first quotation mark.
 fn parse_text(command: &str, text: &str) -> Result<Row, Error> {
     let Some(text) = text.trim_end().strip_suffix('"') else {
         bail!("{command}: ROW has no quotation mark at its end");
@@ -53,7 +53,7 @@ fn parse_text(command: &str, text: &str) -> Result<Row, Error> {
     bytes.row()
 }
 
-// What a byte of the text gives.
+// What a byte of the text means.
 #[derive(Clone, Copy)]
 enum Read {
     Byte(u8),
@@ -61,7 +61,7 @@ enum Read {
     Wrong(&'static str),
 }
 
-// A backslash stands before a quotation mark, a backslash, and n for a line feed.
+// The escapes are a backslash before a quotation mark, before a backslash, and before n for a line feed.
 fn read_escaped(is_escaped: bool, byte: u8) -> Read {
     match (is_escaped, byte) {
         (false, b'\\') => Read::Escape,
@@ -119,11 +119,11 @@ impl Bytes {
     }
 }
 
-/// A row as `put` takes it back.
+/// A row, printed so that `put` can read it.
 #[derive(Clone, Copy)]
 pub struct Shown<'a> {
     pub row: &'a Row,
-    /// Text where the row is text that can be read; else digits alone.
+    /// Print text, if the row is readable text, and otherwise digits.
     pub as_text: bool,
 }
 
@@ -136,7 +136,7 @@ impl fmt::Display for Shown<'_> {
     }
 }
 
-// The text that the row is, if it has characters, and no other control characters than line feeds.
+// The row as text, if it has any characters, and no control characters except line feeds.
 fn text_of(row: &Row) -> Option<&str> {
     match str::from_utf8(row.as_bytes()) {
         Ok(text) if !text.is_empty() && text.chars().all(is_shown) => Some(text),

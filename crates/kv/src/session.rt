@@ -10,27 +10,27 @@ use std::alloc::Global;
 use std::sync::Wait;
 use store::Device;
 
-/// What the store answers.
+/// What the store returns.
 #[derive(Drop)]
 pub enum Answer {
     Begun,
     Written,
     Aborted,
-    /// What was written persists.
+    /// What was written is durable.
     Committed(Ts),
     /// Nothing was written.
     Done,
     Row(Option<Row>),
     Rows(Vec<(Key, Row)>),
     Count(usize),
-    /// The rows of all tables, to be counted.
+    /// The rows of all tables, to be counted for each table.
     Tables(Vec<(Key, Row)>),
-    /// The same, as lines that write them.
+    /// The rows of all tables, to be printed as lines that put them.
     Dump(Vec<(Key, Row)>),
     Status(Statistics),
 }
 
-/// A line that isn't run: it is refused, or no further one can be run either.
+/// Why a line isn't run: it is refused, or no more lines can be run at all.
 #[derive(Drop)]
 pub enum Failed {
     Refused(Refusal),
@@ -64,7 +64,7 @@ pub struct Session<'a, R: Wait + Drop> {
     alloc: Global,
     database: &'a Database<Device, R>,
     open: Option<Transaction<'a, Device, R>>,
-    // The line of the transaction that was refused: it is aborted, and isn't ended yet.
+    // The number of the line that was refused in a transaction. The transaction is aborted, but its end hasn't been read yet.
     broken: Option<u64>,
 }
 
@@ -78,12 +78,13 @@ impl<'a, R: Wait + Drop> Session<'a, R> {
         }
     }
 
-    /// Whether a transaction was begun and isn't ended.
+    /// Whether a transaction was begun and hasn't ended.
     pub fn is_open(&self) -> bool {
         self.open.is_some() || self.broken.is_some()
     }
 
-    /// Aborts the transaction that is open, or that this line was to begin, since the line was refused. Its commit is refused then.
+    /// Aborts the transaction that is open, or that this line should have begun, since the line was refused. The commit of that transaction
+    /// is then refused too.
     pub fn break_off(&mut self, line: u64, begins: bool) {
         if self.open.is_some() || begins && self.broken.is_none() {
             self.open = None;
@@ -91,7 +92,7 @@ impl<'a, R: Wait + Drop> Session<'a, R> {
         }
     }
 
-    /// Does what is asked. Outside a transaction it is one by itself.
+    /// Runs a request. Outside a transaction it is a transaction by itself.
     pub fn answer(&mut self, request: &Request) -> Result<Answer, Failed> {
         match request {
             Request::Begin => self.begin(),
@@ -189,7 +190,7 @@ impl<'a, R: Wait + Drop> Session<'a, R> {
         Ok(Answer::Status(statistics))
     }
 
-    // The rows of all tables, of one snapshot.
+    // The rows of all tables in one snapshot.
     fn all(&mut self) -> Result<Vec<(Key, Row)>, Failed> {
         self.test_whole()?;
         if let Some(transaction) = &self.open {
@@ -232,12 +233,12 @@ fn write<R: Wait + Drop>(
     }
 }
 
-/// Commits what was written, and answers once that persists.
+/// Commits what was written, and returns once that is durable.
 pub fn commit<R: Wait + Drop>(transaction: Transaction<'_, Device, R>) -> Result<Answer, Failed> {
     answer_of(transaction.commit())
 }
 
-// What is said of a commit.
+// What is printed about a commit.
 fn answer_of(committed: Result<Option<Ts>, CommitError>) -> Result<Answer, Failed> {
     match committed {
         Ok(Some(timestamp)) => Ok(Answer::Committed(timestamp)),

@@ -16,12 +16,12 @@ use std::sync::Wait;
 use std::time::Instant;
 use store::Device;
 
-/// What came of the lines.
+/// How the lines ended.
 #[derive(Clone, Copy)]
 pub struct Outcome {
     /// A line was refused.
     pub was_refused: bool,
-    /// One was refused because no timestamps or record numbers are left.
+    /// A line was refused because no timestamps or record numbers are left.
     pub is_spent: bool,
 }
 
@@ -35,8 +35,8 @@ impl Outcome {
     }
 }
 
-/// Replies to each line of the input. A transaction that is open at the end is rolled back. With `bails` it ends at the first line that
-/// is refused.
+/// Runs each line of the input, and prints what it returns. A transaction that is open at the end is rolled back. With `bails` it ends
+/// at the first line that is refused.
 pub fn answer_lines<'a, R: Input + Print + Eprint + Clock + Wait + Drop>(
     rt: &'a R,
     alloc: Global,
@@ -72,7 +72,7 @@ pub fn answer_command<'a, R: Input + Print + Eprint + Clock + Wait + Drop>(
     Ok(shell.outcome)
 }
 
-// What goes on between a store and whoever asks.
+// The conversation between a store and a person or a program.
 #[derive(Drop)]
 struct Shell<'a, R: Eprint + Clock + Wait + Drop> {
     alloc: Global,
@@ -114,7 +114,7 @@ impl<'a, R: Print + Eprint + Clock + Wait + Drop> Shell<'a, R> {
         self.printer.prompt(is_open).map_err(Stop::Output)
     }
 
-    // Answers each line. Where it waits for one, no answer is held.
+    // Runs each line. Before it waits for a line, it prints what is held.
     fn answer_each<I: BufRead + Drop>(&mut self, lines: &mut Lines<I>) -> Result<(), Stop> {
         for _ in 0..u64::MAX {
             if !lines.has_line() {
@@ -128,7 +128,7 @@ impl<'a, R: Print + Eprint + Clock + Wait + Drop> Shell<'a, R> {
         Ok(())
     }
 
-    // Answers the next line. Whether there may be another one.
+    // Runs the next line. Returns whether another one may follow.
     fn answer_line<I: BufRead + Drop>(&mut self, lines: &mut Lines<I>) -> Result<bool, Stop> {
         let Some(line) = lines.next_line().map_err(Stop::Input)? else {
             return Ok(false);
@@ -142,12 +142,12 @@ impl<'a, R: Print + Eprint + Clock + Wait + Drop> Shell<'a, R> {
         Ok(!self.has_bailed())
     }
 
-    // Whether no further line is read, since one was refused.
+    // Whether reading ends here, since a line was refused.
     fn has_bailed(&self) -> bool {
         self.bails && self.outcome.was_refused
     }
 
-    // Runs a command, and prints the answer.
+    // Runs a command, and prints what it returns.
     fn run<I: BufRead + Drop>(
         &mut self,
         lines: &mut Lines<I>,
@@ -193,7 +193,7 @@ impl<'a, R: Print + Eprint + Clock + Wait + Drop> Shell<'a, R> {
         Ok(())
     }
 
-    // Puts the rows of the lines that are left, up to one that is refused. How many are kept ends the answer.
+    // Puts the rows of the remaining lines, up to one that is refused. At the end it prints how many are kept.
     fn load<I: BufRead + Drop>(&mut self, lines: &mut Lines<I>) -> Result<(), Failed> {
         if self.session.is_open() {
             return Err(Failed::Refused(Refusal::Open));
@@ -218,7 +218,7 @@ impl<'a, R: Print + Eprint + Clock + Wait + Drop> Shell<'a, R> {
         }
     }
 
-    // Says that a line is refused and why, and breaks off the transaction that it belongs to. A person may type another one.
+    // Says that a line is refused and why, and breaks off the transaction that it belongs to. A person may type another line.
     fn refuse(&mut self, line: u64, begins: bool, refusal: &Refusal) -> Result<(), Stop> {
         self.note(refusal);
         let geometry = self.database.geometry();
@@ -245,7 +245,7 @@ impl<'a, R: Print + Eprint + Clock + Wait + Drop> Shell<'a, R> {
         }
     }
 
-    // Says of a transaction that is open at the end of the input that it is rolled back.
+    // If a transaction is open at the end of the input, says that it is rolled back.
     fn leave(&mut self) -> Outcome {
         if self.session.is_open() && !self.has_bailed() {
             self.outcome.was_refused = true;
@@ -256,7 +256,7 @@ impl<'a, R: Print + Eprint + Clock + Wait + Drop> Shell<'a, R> {
         self.outcome
     }
 
-    // When a command begins, if its time is to be printed.
+    // When a command begins, if its time will be printed.
     fn start(&self) -> Option<Instant> {
         if self.is_timed {
             Instant::now(self.rt).ok()

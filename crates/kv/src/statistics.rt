@@ -3,7 +3,7 @@ use base::geometry::Geometry;
 use room::{Status, Usage};
 use std::fmt;
 
-/// How a store is laid out, and how full it is: a name and a number on each line.
+/// The layout of a store, and how full it is: a name and a number on each line.
 #[derive(Clone, Copy)]
 pub struct Statistics {
     geometry: Geometry,
@@ -16,7 +16,7 @@ pub struct Statistics {
 }
 
 impl Statistics {
-    /// How many lines it has.
+    /// How many lines it takes.
     pub const LINES: usize = 11;
 
     pub fn of(geometry: &Geometry, status: &Status, usage: &Usage) -> Statistics {
@@ -32,7 +32,7 @@ impl Statistics {
     }
 }
 
-// How many commits may still be made. No timestamp of the last two windows is drawn, and each record has a number.
+// How many commits can still be made. The timestamps of the last two windows are never drawn, and each record needs a number.
 fn commits_left(geometry: &Geometry, status: &Status) -> u64 {
     let reserved = geometry.window().saturating_mul(2);
     let draws = NUMBER_LIMIT.saturating_sub(status.next.saturating_add(reserved));

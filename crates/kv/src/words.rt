@@ -19,11 +19,11 @@ const MOST_EDITS: usize = 2;
 #[derive(Drop)]
 pub struct Unread {
     pub refusal: Refusal,
-    /// Its first word is `begin`, or can't be told to be another word.
+    /// Its first word is `begin`, or may be a misspelling of it.
     pub may_begin: bool,
 }
 
-/// The words of a line. What stands from the first quotation mark on is one word, the last.
+/// The words of a line. Everything from the first quotation mark on is one word, the last.
 pub fn split_line<'a>(alloc: Global, line: &'a str) -> Result<Vec<&'a str>, AllocError> {
     let Some((start, _)) = line.split_once('"') else {
         return line.split_whitespace().collect(alloc);
@@ -57,7 +57,7 @@ fn parse_text(alloc: Global, line: Line<'_>) -> Result<Option<Command>, Refusal>
     Ok(Some(parse_words(words.as_slice())?))
 }
 
-// Whether the word is `begin` in any case, or a misspelling of it, as far as can be told.
+// Whether the word is `begin` in any case, or may be a misspelling of it.
 fn may_begin(alloc: Global, word: &[u8]) -> bool {
     match str::from_utf8(word) {
         Ok(word) => is_near_begin(alloc, word).unwrap_or(true),
@@ -70,7 +70,7 @@ fn is_near_begin(alloc: Global, word: &str) -> Result<bool, AllocError> {
     Ok(osa_distance(alloc, word.as_str(), "begin")? <= MOST_EDITS)
 }
 
-/// The command that some words spell.
+/// The command that these words spell.
 pub fn parse_words(words: &[&str]) -> Result<Command, Refusal> {
     let Some((name, arguments)) = words.split_first() else {
         return Err(Refusal::Words(anyhow!("no command: help lists the commands")));
@@ -81,7 +81,7 @@ pub fn parse_words(words: &[&str]) -> Result<Command, Refusal> {
     }
 }
 
-// What is said about a first word that is not a command's.
+// What is printed about a first word that isn't the name of a command.
 fn unknown_word(name: &str) -> Error {
     if name.eq_ignore_ascii_case("check") {
         anyhow!(
@@ -192,10 +192,10 @@ fn wrong_words(word: Word) -> Error {
     }
 }
 
-// The words of a scan, which come in any order but for the numbers.
+// The words of a scan, which can come in any order, except for the numbers.
 #[derive(Clone, Copy)]
 struct ScanWords<'a> {
-    // TABLE, LO and HI, and how many of them have come.
+    // TABLE, LO and HI, and how many of them were read.
     numbers: [Option<&'a str>; 3],
     count: usize,
     limit: u64,
@@ -259,7 +259,7 @@ impl<'a> ScanWords<'a> {
     }
 }
 
-// The first or the last key, or this one if none is named.
+// The first or the last key of a scan, or the default if the word is missing.
 fn parse_end(name: &str, word: Option<&str>, default: u64) -> Result<u64, Error> {
     match word {
         Some(word) => parse_number("scan", name, word),

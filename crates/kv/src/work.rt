@@ -25,7 +25,7 @@ const BAD_WORDS: u8 = 2;
 
 const REFUSED: u8 = 3;
 
-/// Does what the words of the command line say. The status.
+/// Does what the words of the command line say. Returns the exit status.
 pub fn obey_words<
     R: Input
         + Print
@@ -68,7 +68,7 @@ pub fn obey_words<
     }
 }
 
-/// Says that the words can't be read. The status.
+/// Says that the words can't be read. Returns the exit status.
 pub fn report_failed(rt: &impl Eprint, error: &io::Error) -> u8 {
     let _ = eprintln!(rt; "kv: {error}");
     FAILED
@@ -79,7 +79,7 @@ fn report_bad_words(rt: &impl Eprint, error: &Refusal) -> u8 {
     BAD_WORDS
 }
 
-// Says how the row was read, which is the last word, since it may have been meant otherwise.
+// Says how the row, which is the last word, was read, since it may have been meant differently.
 fn warn_of_row(rt: &impl Eprint, words: &[String]) {
     if let Some(row) = words.last() {
         let _ = eprintln!(rt;
@@ -88,7 +88,7 @@ fn warn_of_row(rt: &impl Eprint, words: &[String]) {
     }
 }
 
-// Says what is wrong with the words of the command line, or what they may be. The status.
+// Says what is wrong with the words of the command line, or prints the help. Returns the exit status.
 fn refuse_words(rt: &(impl Print + Eprint), error: &clap::Error) -> u8 {
     if error.kind() == ErrorKind::OutOfMemory {
         let _ = eprintln!(rt; "kv: out of memory");
@@ -98,7 +98,7 @@ fn refuse_words(rt: &(impl Print + Eprint), error: &clap::Error) -> u8 {
     if error.use_stderr() { BAD_WORDS } else { DONE }
 }
 
-// Explains a command, or lists them. The status.
+// Explains a command, or lists them. Returns the exit status.
 fn explain(rt: &(impl Print + Eprint), alloc: Global, manner: Manner, word: Option<Word>) -> u8 {
     match print_help(rt, alloc, manner, word) {
         Ok(()) => DONE,
@@ -116,7 +116,7 @@ fn print_help(
     printer.help(word)
 }
 
-// Says why the store couldn't be used to the end. The status.
+// Says why the store couldn't be used to the end. Returns the exit status.
 fn fail(rt: &impl Eprint, name: &str, failure: &Failure) -> u8 {
     if matches!(failure, Failure::Told) {
         return FAILED;
@@ -132,7 +132,7 @@ fn fail(rt: &impl Eprint, name: &str, failure: &Failure) -> u8 {
     }
 }
 
-// Opens the file, answers the command or each line of input, and closes the file. Whether a line was refused.
+// Opens the file, runs the command or each line of the input, and closes the file. Returns whether a line was refused.
 fn serve<
     R: Input
         + Print
@@ -159,7 +159,7 @@ fn serve<
     Ok(was_refused)
 }
 
-// Opens the file, which a command may create if it puts rows.
+// Opens the file. Lines, and a command that puts rows, create it if it is missing.
 fn open_database<
     R: Eprint + Clock + Files<File = File> + Threads + Wait + Copy + Drop + Send + Sync + 'static,
 >(rt: &R, alloc: Global, options: &Options<'_>) -> Result<Database<Device, R>, Failure> {
@@ -170,7 +170,7 @@ fn open_database<
     }
 }
 
-// Closes the store, and says what its use came to.
+// Closes the store. Returns whether a line was refused, or why the store couldn't be used to the end.
 fn close<R: Wait + Drop>(
     database: Database<Device, R>,
     answered: Result<Outcome, Stop>,
