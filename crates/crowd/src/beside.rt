@@ -11,13 +11,14 @@ use std::thread::{Threads, join, map_indices};
 use std::time::{Duration, Instant};
 use store::{RowExt, Store, StoreError};
 
-// How many keys have rows, and are read.
+// How many keys have rows. These are read.
 const KEYS: u64 = 1_024;
 
-// From one key to the next that a thread reads, so that each comes in turn.
+// The step from one key that a thread reads to the next one. All keys come in turn.
 const STRIDE: u64 = 367;
 
-/// So many threads read while one more commits: each reads so many rows of a store of so many slots, each row in a snapshot of its own.
+/// How many slots the store has, how many threads read while one more commits, and how many rows each of them reads. Each row is read in
+/// a snapshot of its own.
 #[derive(Clone, Copy)]
 pub struct Readers {
     pub slots: u64,
@@ -25,15 +26,15 @@ pub struct Readers {
     pub reads: u64,
 }
 
-/// How long all reads took, and how many commits were made beside them.
+/// How long all reads took, and how many commits were made meanwhile.
 #[derive(Clone, Copy)]
 pub struct Beside {
     pub reads: Duration,
     pub commits: u64,
 }
 
-/// Opens the store in the file of this name, puts a row under each key, and times the reads beside a thread that commits until the last of
-/// them is done.
+/// Opens the store in the file of this name, puts a row under each key, and times the reads while another thread commits until all reads
+/// are done.
 pub fn time_readers<
     H: Files<File = File> + Clock + Threads + Wait + Copy + Drop + Send + Sync + 'static,
 >(rt: &H, alloc: Global, name: &str, readers: &Readers) -> Result<Beside, Error> {
@@ -97,7 +98,7 @@ fn time_reads<H: Clock + Threads + Wait + Drop + Send + Sync>(
     Ok(start.elapsed(rt)?)
 }
 
-// Reads so many rows, each in a snapshot of its own. How many were there.
+// Reads a row for each of these numbers, in a snapshot of its own. Returns how many rows there were.
 fn read_each<R: Wait + Drop>(store: &Store<R>, reads: Range<u64>) -> Result<u64, StoreError> {
     let mut found = 0;
     for number in reads {
@@ -109,7 +110,7 @@ fn read_each<R: Wait + Drop>(store: &Store<R>, reads: Range<u64>) -> Result<u64,
     Ok(found)
 }
 
-// Commits a row, again and again while this is not 0. How many commits there were.
+// Commits a row again and again until `reading` is 0. Returns how many commits there were.
 fn commit_while<R: Wait + Drop>(store: &Store<R>, reading: &AtomicU64) -> Result<u64, StoreError> {
     let mut commits: u64 = 0;
     for number in 0..u64::MAX {

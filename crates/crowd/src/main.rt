@@ -1,8 +1,8 @@
-//! Commits of threads at once over one store in a file, each of which waits for its sync, and how many there are a second:
-//! `crowd NAME SLOTS THREADS COMMITS [ROWS [read]]` makes or opens the store in the file of this name, and each of so many threads makes
-//! so many commits, of one row or of so many. With `read` one more thread reads meanwhile, a row a transaction, and the time that this
-//! takes is printed. `crowd NAME SLOTS readers THREADS READS` times so many reads of each of so many threads beside one that commits
-//! without a pause. Without words it says that.
+//! Measures how many commits per second several threads make in one store in a file, if each commit waits for its sync.
+//! `crowd NAME SLOTS THREADS COMMITS [ROWS [read]]` creates or opens the store in the file NAME. Each of THREADS threads makes COMMITS
+//! commits, of one row or of ROWS rows. With `read`, one more thread reads meanwhile, one row in each transaction, and the time that the
+//! reads take is printed. `crowd NAME SLOTS readers THREADS READS` times READS reads in each of THREADS threads, while another thread
+//! commits without a pause. Without arguments it prints these two forms.
 #![tactic(auto)]
 
 mod beside;
@@ -30,14 +30,14 @@ use store::{Device, Refusal, open_database};
 const WORDS: &str =
     "crowd NAME SLOTS THREADS COMMITS [ROWS [read]], or crowd NAME SLOTS readers THREADS READS";
 
-// Each thread updates so many keys of its own at least, one after the other.
+// The least number of keys that each thread updates, one after the other. No other thread updates them.
 const KEYS: u64 = 8;
 
-// So many keys a transaction writes at most.
+// The most keys that a transaction writes.
 const TOGETHER: u64 = 32;
 
-// How many slots a store has, how many threads commit at once, how many commits each makes, of how many rows, and whether one more thread
-// reads.
+// How many slots the store has, how many threads commit at once, how many commits each makes and of how many rows, and whether one more
+// thread reads.
 #[derive(Clone, Copy)]
 struct Crowd {
     slots: u64,
@@ -54,7 +54,7 @@ impl Crowd {
     }
 }
 
-// How long the commits took, and the reads beside them.
+// How long the commits took, and the reads meanwhile.
 #[derive(Clone, Copy)]
 struct Took {
     commits: Duration,
@@ -106,7 +106,7 @@ fn rows_of(words: &[&str]) -> Result<u64, Error> {
     Ok(rows)
 }
 
-// Prints how many commits and rows there were, how many a second, and what the reads took.
+// Prints how many commits and rows there were, how many per second, and how long the reads took.
 fn measure<
     H: Print + Files<File = File> + Clock + Threads + Wait + Copy + Drop + Send + Sync + 'static,
 >(rt: &H, alloc: Global, name: &str, crowd: &Crowd) -> Result<(), Error> {
@@ -129,7 +129,7 @@ fn measure<
     Ok(())
 }
 
-// Prints how many reads there were, how many a second, and how many commits beside them.
+// Prints how many reads there were, how many per second, and how many commits meanwhile.
 fn measure_readers<
     H: Print + Files<File = File> + Clock + Threads + Wait + Copy + Drop + Send + Sync + 'static,
 >(rt: &H, alloc: Global, name: &str, readers: &Readers) -> Result<(), Error> {
@@ -150,8 +150,8 @@ fn print_rate<H: Print>(rt: &H, what: &str, count: u64, took: Duration) -> Resul
     Ok(())
 }
 
-// Opens the store in the file of this name, which is made where it is missing. Its slots are used, and then each thread commits, each
-// time a transaction that updates some keys. How long these commits took.
+// Opens the store in the file of this name, which is created if it is missing, and uses its slots. Then each thread commits
+// transactions, each of which updates some keys. Returns how long these commits took, and the reads.
 fn time_commits<
     H: Files<File = File> + Clock + Threads + Wait + Copy + Drop + Send + Sync + 'static,
 >(rt: &H, alloc: Global, name: &str, crowd: &Crowd) -> Result<Took, Error> {
@@ -213,7 +213,7 @@ fn error_of(refusal: Refusal) -> Error {
     }
 }
 
-// Updates keys as often as there are slots, so that the commits that are timed take slots that were used before.
+// Updates keys as often as there are slots, so that the commits that are timed reuse slots.
 fn use_slots<R: Wait + Drop>(
     alloc: Global,
     database: &Database<Device, R>,
@@ -236,7 +236,7 @@ pub fn key_of(key: u64) -> Key {
     Key { table: 1, key }
 }
 
-// Updates as many keys as there are updates, of so many in turn behind a first one.
+// Lists writes for these updates, to `keys` keys in turn, from `first` on.
 fn update(
     writes: &mut Vec<(Key, Option<Row>)>,
     updates: Range<u64>,
@@ -272,7 +272,7 @@ fn commit_by_threads<R: Threads + Wait + Drop + Send + Sync>(
     Ok(())
 }
 
-// Makes the commits of this thread, each of which updates the next of its keys.
+// Makes the commits of this thread, each of which updates the next ones of its keys.
 fn commit_in_turn<R: Wait + Drop>(
     alloc: Global,
     database: &Database<Device, R>,

@@ -8,13 +8,13 @@ use std::thread::sleep;
 use std::time::{Duration, Instant};
 use store::Device;
 
-// So many keys are read, one after the other.
+// How many keys are read, one after the other.
 const KEYS: u64 = 8;
 
-// So many microseconds lie between two reads, so that they don't keep the commits from the processors.
+// The pause between two reads, in microseconds, so that the reads don't keep the commits from the processors.
 const PAUSE: u64 = 100;
 
-/// How many transactions read a row, how many nanoseconds that took, all of them and the longest, and how many took more than a millisecond.
+/// How many transactions read a row, how many nanoseconds all of them and the longest one took, and how many took more than a millisecond.
 #[derive(Clone, Copy)]
 pub struct Reads {
     pub count: u64,
@@ -33,7 +33,7 @@ impl Reads {
         }
     }
 
-    /// How many nanoseconds one took, in the mean.
+    /// How many nanoseconds a read took on average.
     pub fn mean(&self) -> u64 {
         self.total / self.count.max(1)
     }
@@ -49,7 +49,7 @@ impl Reads {
     }
 }
 
-/// Begins a transaction, reads a row and ends it, again and again while this is not 0.
+/// Begins a transaction, reads a row and ends the transaction, again and again until `committing` is 0.
 pub fn read_while<R: Clock + Wait + Drop>(
     rt: &R,
     database: &Database<Device, R>,
