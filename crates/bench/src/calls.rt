@@ -8,7 +8,7 @@ use room::{Room, Tick};
 use std::rt::Clock;
 use std::time::Instant;
 
-/// So many commits are stamped before each cycle.
+/// How many commits are stamped before each cycle.
 pub const TOGETHER: u8 = 32;
 
 /// How many cycles and how many reads of a kind are timed.
@@ -19,13 +19,13 @@ pub const READS_OF_A_KIND: u64 = 1_000_000;
 // The number of the first session.
 const FIRST: u8 = 2;
 
-// So many newer versions of its key an old one has.
+// How many newer versions of its key an old version has.
 const NEWER: u64 = 8;
 
 // How many keys have old versions.
 const OLD_KEYS: u64 = 8;
 
-/// What the calls of each kind took together, in nanoseconds, and how often the committer ticked.
+/// How long all calls of each kind took, in nanoseconds, and how often the committer ticked.
 #[derive(Clone, Copy)]
 pub struct Spent {
     pub puts: u128,
@@ -36,7 +36,7 @@ pub struct Spent {
     pub ticked: u64,
 }
 
-/// What reads of each kind took together, in nanoseconds.
+/// How long all reads of each kind took, in nanoseconds.
 #[derive(Clone, Copy)]
 pub struct Reading {
     pub present: u128,
@@ -44,11 +44,11 @@ pub struct Reading {
     pub old: u128,
 }
 
-// What is asked of each session in turn.
+// The step that each session makes in turn.
 #[derive(Clone, Copy)]
 enum Asked {
     Begin,
-    /// One of so many keys, counted from this number on.
+    /// Puts one of `keys` keys, counted from `first` on.
     Put { first: u64, keys: u64 },
     Draw,
     Stamp,
@@ -81,7 +81,7 @@ impl Asked {
     }
 }
 
-/// Makes so many cycles, in each of which each session updates a key of its own.
+/// Makes this many cycles. In each of them, each session updates a key of its own.
 pub fn time_steps<H: Clock, D: Pmem + Drop>(
     rt: &H,
     room: &mut Room<D>,
@@ -105,7 +105,7 @@ pub fn time_steps<H: Clock, D: Pmem + Drop>(
 }
 
 impl Spent {
-    // Lets each session put, draw and stamp.
+    // Each session puts, draws and stamps.
     fn write<H: Clock, D: Pmem + Drop>(
         &mut self,
         rt: &H,
@@ -121,7 +121,7 @@ impl Spent {
         Ok(())
     }
 
-    // Lets each session poll, covers the batch, and ends the sessions. The collector makes a visit for each tick.
+    // Each session polls, the batch is covered, and the sessions are ended. The collector makes a visit for each tick.
     fn cover<H: Clock, D: Pmem + Drop>(&mut self, rt: &H, room: &mut Room<D>) -> Result<(), Error> {
         self.polls = self.polls.saturating_add(ask_each(rt, room, Asked::Poll)?);
         let start = Instant::now(rt)?;
@@ -135,7 +135,7 @@ impl Spent {
     }
 }
 
-// How long a step in each session takes.
+// Makes a step in each session. Returns how long all of them took.
 fn ask_each<H: Clock, D: Pmem + Drop>(
     rt: &H,
     room: &mut Room<D>,
@@ -148,7 +148,7 @@ fn ask_each<H: Clock, D: Pmem + Drop>(
     Ok(start.elapsed(rt)?.as_nanos())
 }
 
-// Ticks the committer until it has covered a batch, or has nothing to do. How often.
+// Ticks the committer until it has covered a batch, or has nothing to do. Returns how often it ticked.
 fn tick<D: Pmem + Drop>(room: &mut Room<D>) -> Result<u64, Fault> {
     for ticks in 1..u64::MAX {
         if !matches!(room.advance()?, Tick::Reached(_)) {
@@ -165,8 +165,8 @@ fn collect<D: Pmem + Drop>(room: &mut Room<D>, visits: u64) -> Result<(), Fault>
     Ok(())
 }
 
-/// Makes so many reads of each kind, in one session: of keys that have rows, of keys that have none, and of keys that have
-/// newer versions than the session sees.
+/// Makes this many reads of each kind in one session: of keys that have rows, of keys that have none, and of keys that have newer
+/// versions than the session sees.
 pub fn time_reads<H: Clock, D: Pmem + Drop>(
     rt: &H,
     room: &mut Room<D>,
@@ -187,7 +187,7 @@ pub fn time_reads<H: Clock, D: Pmem + Drop>(
     })
 }
 
-// How long it takes to read so many times, of so many keys of the table in turn.
+// Reads `reads` times, from `keys` keys of the table in turn. Returns how long that takes.
 fn read_in_turn<H: Clock, D: Pmem + Drop>(
     rt: &H,
     room: &mut Room<D>,

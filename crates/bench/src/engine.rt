@@ -19,8 +19,8 @@ use std::rt::{Clock, Files};
 use std::thread::Threads;
 use std::time::{Duration, Instant};
 
-/// How many slots there are, how many keys have rows, how many commits update one each, how many of those stand stamped
-/// before each cycle, and how many rows are read then.
+/// How many slots there are, how many keys have rows, and how many commits update one key each. `batch` of these commits are stamped
+/// before each cycle, and `reads` rows are read at the end.
 #[derive(Clone, Copy)]
 pub struct Load {
     pub slots: u64,
@@ -30,7 +30,7 @@ pub struct Load {
     pub reads: u64,
 }
 
-/// What a run came to.
+/// What a run did, and how long it took.
 #[derive(Clone, Copy)]
 pub struct Made {
     pub cycles: u64,
@@ -40,7 +40,8 @@ pub struct Made {
     pub reading: Duration,
 }
 
-/// What the load came to on the modelled device, and what that did from its opening on. Each key has a row before.
+/// Runs the load on the modelled device. Returns what it did, and which operations the device made since it was opened. Each key has a
+/// row before.
 pub fn run_modelled<H: Clock + Threads + Sync>(
     rt: &H,
     alloc: Global,
@@ -61,7 +62,7 @@ fn run_image<H: Clock + Threads + Sync>(
     Ok((made, device.operations()))
 }
 
-// The load in a room over the device, and the device after it.
+// Runs the load in a room over the device. Returns what it did, and the device.
 fn run_opened<H: Clock + Threads + Sync, D: Pmem + Drop + Send + Sync>(
     rt: &H,
     alloc: Global,
@@ -77,7 +78,7 @@ fn run_opened<H: Clock + Threads + Sync, D: Pmem + Drop + Send + Sync>(
     }
 }
 
-/// The words that a close leaves of a room in whose tables each key has a row.
+/// The words of the image of a room that was closed once each key had a row.
 pub fn image_of_keys<H: Threads + Sync>(
     rt: &H,
     alloc: Global,
@@ -88,7 +89,7 @@ pub fn image_of_keys<H: Threads + Sync>(
     Ok(closed(rt, alloc, device, load)?.image()?)
 }
 
-// The device after the close of a room in whose tables each key has a row.
+// The device of a room that was closed once each key had a row.
 fn closed<H: Threads + Sync, D: Pmem + Drop + Send + Sync>(
     rt: &H,
     alloc: Global,
@@ -109,13 +110,13 @@ fn close<D: Pmem + Drop>(room: Room<D>) -> Result<D, Fault> {
     }
 }
 
-/// A device for the load that keeps neither its history nor its image.
+/// A device for the load, which keeps neither its history nor its image.
 pub fn plain_device(alloc: Global, load: &Load) -> Result<JournaledPmem<Nowhere>, Error> {
     let words = zeros(alloc, geometry_of(load)?)?;
     Ok(plain(alloc, words)?)
 }
 
-/// A device for the load whose image is kept in the file of this name.
+/// A device for the load, whose image is kept in the file of this name.
 pub fn file_device<H: Files<File = File>>(
     rt: &H,
     alloc: Global,
@@ -125,7 +126,7 @@ pub fn file_device<H: Files<File = File>>(
     Ok(FileDevice::open(rt, alloc, name, geometry_of(load)?)?)
 }
 
-// The layout of an image with so many slots.
+// The layout of an image with the slots of the load.
 fn geometry_of(load: &Load) -> Result<Geometry, Fault> {
     Geometry::new(load.slots, Geometry::LEAST_PLACES, Geometry::MOST_WINDOW)
 }
@@ -145,7 +146,7 @@ pub fn plain(alloc: Global, words: Vec<u64>) -> Result<JournaledPmem<Nowhere>, F
     }
 }
 
-/// A room over the device, which is formatted.
+/// A room over the device, which it formats.
 pub fn new_room<H: Threads + Sync, D: Pmem + Drop + Send + Sync>(
     rt: &H,
     alloc: Global,
@@ -156,7 +157,7 @@ pub fn new_room<H: Threads + Sync, D: Pmem + Drop + Send + Sync>(
     open(rt, alloc, device)
 }
 
-// The device, of an empty image.
+// The device, formatted with an empty image.
 fn formatted<D: Pmem + Drop>(device: D, load: &Load) -> Result<D, Fault>
     ensures { IfOk result (λ device. IsAtRest (D.state device)) }
 {
@@ -187,7 +188,7 @@ fn open<H: Threads + Sync, D: Pmem + Drop + Send + Sync>(
     }
 }
 
-/// Gives each key a row, by batches of 32.
+/// Gives each key a row, in batches of 32.
 pub fn put_each_key<D: Pmem + Drop>(room: &mut Room<D>, load: &Load) -> Result<(), Fault> {
     let each = Load {
         commits: load.keys,
@@ -200,8 +201,8 @@ pub fn put_each_key<D: Pmem + Drop>(room: &mut Room<D>, load: &Load) -> Result<(
     Ok(())
 }
 
-/// Makes all updates, each in a session of its own, and then all reads. The collector makes a round as often as a database
-/// lets it, once a fourth of the slots was written.
+/// Makes all updates, each in a session of its own, and then all reads. The collector makes rounds as in a database: one whenever a
+/// fourth of the slots was written.
 pub fn run_load<H: Clock, D: Pmem + Drop>(
     rt: &H,
     room: &mut Room<D>,
@@ -218,7 +219,7 @@ pub fn run_load<H: Clock, D: Pmem + Drop>(
     })
 }
 
-// How many ticks the updates took, and how long.
+// How many ticks the updates took, and how much time.
 fn time_commits<H: Clock, D: Pmem + Drop>(
     rt: &H,
     room: &mut Room<D>,
@@ -249,7 +250,7 @@ fn time_reads<H: Clock, D: Pmem + Drop>(
     Ok((rows, start.elapsed(rt)?))
 }
 
-/// Makes the round that sweeps, and then so many rounds more, of a room whose slots are free.
+/// Makes the round that sweeps, and then this many more rounds, in a room whose slots are free.
 pub fn visit_free<D: Pmem + Drop>(room: &mut Room<D>, rounds: u64) -> Result<(), Fault> {
     let slots = room.geometry().slots();
     collect(room, slots)?;
@@ -259,7 +260,7 @@ pub fn visit_free<D: Pmem + Drop>(room: &mut Room<D>, rounds: u64) -> Result<(),
     Ok(())
 }
 
-/// Makes all updates, those of a batch in one transaction.
+/// Makes all updates. Those of a batch are in one transaction.
 pub fn run_together<H: Clock, D: Pmem + Drop>(
     rt: &H,
     room: &mut Room<D>,
@@ -282,13 +283,13 @@ fn cycles(load: &Load) -> u64 {
     load.commits.div_ceil(load.batch.max(1))
 }
 
-// From which number on the updates of a batch are, and up to which.
+// The number of the first update in a batch, and the one after its last.
 fn numbers_in(load: &Load, cycle: u64) -> (u64, u64) {
     let first = cycle.saturating_mul(load.batch);
     (first, first.saturating_add(load.batch).min(load.commits))
 }
 
-// A round of the collector, where a fourth of the slots was written since the last one.
+// Makes a round of the collector, if a fourth of the slots was written since the last one.
 fn collect_if_due<D: Pmem + Drop>(
     room: &mut Room<D>,
     load: &Load,
@@ -302,7 +303,7 @@ fn collect_if_due<D: Pmem + Drop>(
     Ok(())
 }
 
-// Updates one key in each session of a batch, and covers them by one record. How many ticks that took.
+// Updates one key in each session of a batch, and covers all of them with one record. Returns how many ticks that took.
 fn commit_batch<D: Pmem + Drop>(room: &mut Room<D>, load: &Load, cycle: u64) -> Result<u64, Fault> {
     let (first, end) = numbers_in(load, cycle);
     for number in first..end {
@@ -318,7 +319,7 @@ fn commit_batch<D: Pmem + Drop>(room: &mut Room<D>, load: &Load, cycle: u64) -> 
     Ok(ticks)
 }
 
-// Updates the keys of a batch in one session, and covers them.
+// Updates the keys of a batch in one session, and covers that.
 fn commit_together<D: Pmem + Drop>(
     room: &mut Room<D>,
     load: &Load,
@@ -341,7 +342,7 @@ fn key_of(number: u64, load: &Load) -> Key {
     key_in(1, number, load.keys)
 }
 
-/// Of so many keys of the table the one whose turn it is.
+/// The key whose turn it is, out of `keys` keys of the table.
 pub fn key_in(table: u16, number: u64, keys: u64) -> Key {
     Key {
         table,
@@ -349,7 +350,7 @@ pub fn key_in(table: u16, number: u64, keys: u64) -> Key {
     }
 }
 
-// Reads in one session. How many rows it found.
+// Makes the reads in one session. Returns how many rows it found.
 fn read_rows<D: Pmem + Drop>(room: &mut Room<D>, load: &Load) -> Result<u64, Fault> {
     let mut rows: u64 = 0;
     let session = begin(room)?;

@@ -6,12 +6,12 @@ use base::step::Stage;
 use pmem::Pmem;
 use room::{CommitStatus, Room, Tick};
 
-// Each kind of call has a function of its own, which isn't inlined: its instructions are counted by its name.
+// Each kind of call has a function of its own, which isn't inlined, since its instructions are counted by its name.
 
 // How many words a record's body stores.
 const WORDS: u64 = 31;
 
-/// Begins a session. Its number.
+/// Begins a session. Returns its number.
 #[inline(never)]
 pub fn begin<D: Pmem + Drop>(room: &mut Room<D>) -> Result<u8, Fault> {
     room.begin()
@@ -48,7 +48,7 @@ pub fn end<D: Pmem + Drop>(room: &mut Room<D>, session: u8) -> Result<(), Fault>
     room.end(session)
 }
 
-/// Reads the row of the key. Whether there is one.
+/// Reads the row of the key. Returns whether there is one.
 #[inline(never)]
 pub fn get<D: Pmem + Drop>(room: &Room<D>, session: u8, key: Key) -> Result<bool, Fault> {
     match &room.get(session, key) {
@@ -57,14 +57,14 @@ pub fn get<D: Pmem + Drop>(room: &Room<D>, session: u8, key: Key) -> Result<bool
     }
 }
 
-/// Lets the collector make a visit.
+/// The collector makes a visit.
 #[inline(never)]
 pub fn visit<D: Pmem + Drop>(room: &mut Room<D>) -> Result<(), Fault> {
     room.collect()?;
     Ok(())
 }
 
-/// A round of the collector: a visit of each slot, and of the closing place.
+/// A round of the collector: a visit to each slot, and to the closing place.
 pub fn collect<D: Pmem + Drop>(room: &mut Room<D>, slots: u64) -> Result<(), Fault> {
     for _ in 0..slots {
         visit(room)?;
@@ -79,19 +79,19 @@ fn store_word<D: Pmem + Drop>(room: &mut Room<D>) -> Result<(), Fault> {
     Ok(())
 }
 
-// A tick that flushes a line of the batch. Whether it was one: the tick after the last fences them.
+// A tick that flushes a line of the batch. Returns whether it did: the tick after the last line fences them.
 #[inline(never)]
 fn flush_line<D: Pmem + Drop>(room: &mut Room<D>) -> Result<bool, Fault> {
     Ok(matches!(room.advance()?, Tick::Reached(Stage::LineFlushed(_))))
 }
 
-// Another tick. Whether a batch is in hand after it.
+// Another tick. Returns whether a batch is being written after it.
 #[inline(never)]
 fn tick<D: Pmem + Drop>(room: &mut Room<D>) -> Result<bool, Fault> {
     Ok(matches!(room.advance()?, Tick::Reached(_)))
 }
 
-// Flushes the lines of the batch in hand, and fences them. How many ticks that takes.
+// Flushes the lines of the batch that is being written, and fences them. Returns how many ticks that takes.
 fn flush_lines<D: Pmem + Drop>(room: &mut Room<D>) -> Result<u64, Fault> {
     for ticks in 1..u64::MAX {
         if !flush_line(room)? {
@@ -101,7 +101,7 @@ fn flush_lines<D: Pmem + Drop>(room: &mut Room<D>) -> Result<u64, Fault> {
     Ok(u64::MAX)
 }
 
-// Ticks until nothing is in hand. How often.
+// Ticks until no batch is being written. Returns how often.
 fn finish<D: Pmem + Drop>(room: &mut Room<D>) -> Result<u64, Fault> {
     for ticks in 1..u64::MAX {
         if !tick(room)? {
@@ -111,7 +111,7 @@ fn finish<D: Pmem + Drop>(room: &mut Room<D>) -> Result<u64, Fault> {
     Ok(u64::MAX)
 }
 
-/// Ticks the committer until it has covered a batch, or has nothing to do. How often.
+/// Ticks the committer until it has covered a batch, or has nothing to do. Returns how often it ticked.
 pub fn cover<D: Pmem + Drop>(room: &mut Room<D>) -> Result<u64, Fault> {
     if !tick(room)? {
         return Ok(1);

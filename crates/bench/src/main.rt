@@ -1,11 +1,14 @@
-//! Counts of what the modelled device, the engine and the board do, and with the word `time` first how fast: rounds of
-//! stores on the device; commits and reads of the engine; reads on a board beside a writer that publishes.
-//! `engine SLOTS KEYS COMMITS BATCH READS` runs the engine alone, `plain` with the same words the engine over a device that keeps
-//! no history, `together` with them too, with the updates of a batch in one transaction, `file NAME` with them the engine over a
-//! device whose image is kept in that file, and `readers N` the reads of N readers, each in a thread of its own. `open SLOTS` times the
-//! opening of an image that is full, `openings SLOTS TIMES` opens it so often, `visits SLOTS ROUNDS` makes so many rounds of the
-//! collector over slots that are free, `steps SLOTS` times each kind of call by itself, and `reads SLOTS` reads of keys that have
-//! rows, of keys that have none, and of old versions.
+//! Counts what the modelled device, the engine and the board do: rounds of stores on the device, commits and reads of the engine, and
+//! reads on a board while a writer publishes. With `time` as the first word it also measures how fast they are.
+//! - `engine SLOTS KEYS COMMITS BATCH READS` runs only the engine.
+//! - `plain` takes the same numbers and runs the engine over a device that keeps no history.
+//! - `together` does so too, with the updates of a batch in one transaction.
+//! - `file NAME` takes them too, and runs the engine over a device whose image is kept in that file.
+//! - `readers N` makes the reads of N readers, each in a thread of its own.
+//! - `open SLOTS` times opening a full image, and `openings SLOTS TIMES` opens it TIMES times.
+//! - `visits SLOTS ROUNDS` makes ROUNDS rounds of the collector over free slots.
+//! - `steps SLOTS` times each kind of call by itself.
+//! - `reads SLOTS` times reads of keys that have rows, of keys that have none, and of old versions.
 #![tactic(auto)]
 
 ghost use Rattle.std.specs.Prelude.{◌<◌, ◌≤◌, IfOk};
@@ -43,7 +46,7 @@ use work::{load_in, measure_work};
 
 const ROUNDS: u64 = 1_000;
 
-// So many commits take each slot a hundred times.
+// The commits take each slot a hundred times.
 const SMALL: Load = Load {
     slots: 16,
     keys: 8,
@@ -54,7 +57,7 @@ const SMALL: Load = Load {
 
 const FEW_READERS: usize = 2;
 
-// What each reader reads, and what it reads where it is timed.
+// How many rows each reader reads, and how many if the reads are timed.
 const READS: u64 = 100_000;
 
 const TIMED_READS: u64 = 10_000_000;
@@ -69,7 +72,7 @@ fn main(rt: HostRuntime) -> Result<(), Error> {
     }
 }
 
-// The words of the command line behind the program's name.
+// The words of the command line after the program's name.
 fn words_of(rt: &(impl Env + AllocGlobal), alloc: Global) -> io::Result<Vec<String>> {
     Ok(env::args(rt)?.skip(1).collect(alloc)?)
 }
@@ -110,7 +113,7 @@ fn measure_a_little<H: Print + Clock + Threads + Wait + Sync>(
     measure_readers(rt, alloc, FEW_READERS, timed)
 }
 
-// On the device of an image of this layout.
+// Rounds on a device that has the words of an image with this layout.
 fn measure_rounds<H: Print + Clock>(
     rt: &H,
     alloc: Global,
@@ -167,7 +170,7 @@ fn measure_engine<H: Print + Clock + Threads + Sync>(
     Ok(())
 }
 
-// The same over a device whose image is kept in a file. A file of that name is formatted.
+// The same over a device whose image is kept in the file of this name, which is formatted.
 fn measure_file<H: Print + Files<File = File> + Clock + Threads + Sync>(
     rt: &H,
     alloc: Global,
@@ -179,7 +182,7 @@ fn measure_file<H: Print + Files<File = File> + Clock + Threads + Sync>(
     measure_work(rt, alloc, device, Work::Run(*load), timed)
 }
 
-// Over a device that keeps neither its history nor its lines, and counts nothing.
+// The same over a device that keeps neither its history nor its lines, and counts nothing.
 fn measure_plain<H: Print + Clock + Threads + Sync>(
     rt: &H,
     alloc: Global,
@@ -190,7 +193,7 @@ fn measure_plain<H: Print + Clock + Threads + Sync>(
     measure_work(rt, alloc, device, work, timed)
 }
 
-// Each slot holds the row of a key.
+// Opens an image in which each slot holds the row of a key.
 fn measure_opening<H: Print + Clock + Threads + Sync>(
     rt: &H,
     alloc: Global,
@@ -209,7 +212,7 @@ fn run_opening<H: Clock + Threads + Sync>(
     time_opening(rt, alloc, words.as_slice())
 }
 
-// The same image.
+// Opens the same image, this many times.
 fn open_full<H: Threads + Sync>(
     rt: &H,
     alloc: Global,

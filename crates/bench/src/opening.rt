@@ -39,7 +39,7 @@ fn nanoseconds_since<H: Clock>(rt: &H, start: Instant) -> Result<u128, Error> {
     Ok(start.elapsed(rt)?.as_nanos())
 }
 
-/// Opens the image so often, each time on a device that keeps neither its history nor its image.
+/// Opens the image this many times, each time on a device that keeps neither its history nor its image.
 pub fn open_often<H: Threads + Sync>(
     rt: &H,
     alloc: Global,

@@ -4,7 +4,7 @@ use pmem_model::Operations;
 use std::io;
 use std::time::Duration;
 
-/// The load, and what its run came to.
+/// The load, and what its run did.
 pub fn print_run<H: Print>(rt: &H, load: &Load, made: &Made) -> io::Result<()> {
     println!(rt;
         "slots {} keys {} commits {} batch {} reads {}",
@@ -30,7 +30,7 @@ pub fn print_operations<H: Print>(rt: &H, made: Operations) -> io::Result<()> {
     )
 }
 
-/// How many commits of the load were covered beside one that was drawn before them.
+/// How many commits of the load were covered while a commit that was drawn before them wasn't stamped.
 pub fn print_covered<H: Print>(rt: &H, covered: u64, load: &Load) -> io::Result<()> {
     println!(rt;
         "covered {covered} of {} beside one that never stamps",
@@ -61,7 +61,7 @@ pub fn print_each<H: Print>(rt: &H, name: &str, count: u64, took: u128) -> io::R
     println!(rt; "{name} {each} ns")
 }
 
-/// How many of these there were, and how many a second.
+/// How many of these there were, and how many per second.
 pub fn print_rate<H: Print>(rt: &H, name: &str, count: u64, took: Duration) -> io::Result<()> {
     let rate = count as u128 * 1_000_000_000 / took.as_nanos().max(1);
     println!(rt;

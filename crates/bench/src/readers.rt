@@ -1,4 +1,4 @@
-//! Reads on a board, beside a writer that publishes until the last reader is done.
+//! Reads on a board, while a writer publishes until the last reader is done.
 ghost use Rattle.std.specs.Prelude.{◌≡◌, ◌<◌, ◌≤◌};
 
 use base::batch::{Batch, Commit};
@@ -17,13 +17,13 @@ use std::thread::{Threads, join, map_vec};
 // The keys that have a row from the start.
 const KEYS: u64 = 1_024;
 
-// From one key to the next that is read, so that each comes in turn.
+// The step from one key that is read to the next one. All keys come in turn.
 const STRIDE: u64 = 367;
 
-// The stamps that stay readable besides the last.
+// How many stamps stay readable besides the last one.
 const KEPT: u64 = 15;
 
-// The writer ends after so many batches also where the readers aren't done.
+// The writer ends after this many batches even if the readers aren't done.
 const MOST_BATCHES: u64 = 20_000_000;
 
 /// What the readers and the writer did.
@@ -34,7 +34,7 @@ pub struct Done {
     pub batches: u64,
 }
 
-/// Lets so many readers read so many rows each, in a thread of its own, beside a writer that publishes.
+/// Each of `readers` readers makes `reads` reads in a thread of its own, while a writer publishes.
 pub fn read_beside_a_writer<R: Threads + Wait + Sync>(
     rt: &R,
     alloc: Global,
@@ -99,7 +99,7 @@ fn first_rows(alloc: Global) -> Result<Vec<(Key, Row)>, Fault> {
     Ok(rows)
 }
 
-// Publishes batches until so many readers are done.
+// Publishes batches until this many readers are done.
 fn publish_many<J: Naming, R: Wait + Drop>(
     alloc: Global,
     board: Board<J, R>,
@@ -143,7 +143,7 @@ fn publish_one<J: Naming, R: Wait + Drop>(
     board.prune(last.saturating_sub(KEPT))
 }
 
-// A commit that updates one row, each in turn.
+// A commit that updates one row. All rows come in turn.
 fn update(alloc: Global, timestamp: u64, row: Row) -> Result<Vec<Commit>, AllocError> {
     let key = Key {
         table: 1,
@@ -153,7 +153,7 @@ fn update(alloc: Global, timestamp: u64, row: Row) -> Result<Vec<Commit>, AllocE
     Ok(Vec::from_array(alloc, [Commit::new(timestamp, writes)])?)
 }
 
-// Reads so many rows, and gives how many there were.
+// Makes this many reads. Returns how many rows were found.
 fn read_many<J: Naming>(reader: Reader<J>, reads: u64, done: &AtomicU64) -> u64
     ensures { result ≤ reads }
 {
@@ -173,7 +173,7 @@ fn read_many<J: Naming>(reader: Reader<J>, reads: u64, done: &AtomicU64) -> u64
     answered
 }
 
-// Reads the row at the stamp, or at the last stamp where that was pruned.
+// Reads the row at the stamp, or at the last stamp if that one was pruned.
 fn read_row<J: Naming>(
     reader: &mut Reader<J>,
     stamp: &mut u64,

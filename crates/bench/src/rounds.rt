@@ -8,7 +8,7 @@ use pmem_model::SimPmem;
 
 pub const STORES_IN_A_ROUND: u64 = 10;
 
-/// Makes so many rounds, each in the line after that of the one before; after the last line comes the first.
+/// Makes this many rounds, each in the next line of the device. After the last line comes the first.
 pub fn make_rounds(device: &mut SimPmem, rounds: u64) -> Result<(), Fault>
     requires { 8 ≤ (device_of device.old).words }
 {

@@ -7,8 +7,8 @@ use room::{CommitStatus, Room};
 // The key that the slow transaction inserts.
 const SLOW: Key = Key { table: 2, key: 0 };
 
-/// Makes so many commits, one after the other, beside a transaction that has drawn its timestamp before them and never
-/// stamps. How many were covered until one waits.
+/// Makes this many commits, one after the other, while a transaction that has drawn its timestamp before them never stamps. Returns how
+/// many were covered before one had to wait.
 pub fn covered_beside_a_slow_one<D: Pmem + Drop>(
     room: &mut Room<D>,
     commits: u64,
@@ -26,7 +26,7 @@ pub fn covered_beside_a_slow_one<D: Pmem + Drop>(
     Ok(commits)
 }
 
-/// Updates one of eight keys, and lets the committer cover what it can. Whether it has.
+/// Updates one of eight keys, and ticks the committer until it has covered what it can. Returns whether the update is covered.
 pub fn is_covered<D: Pmem + Drop>(room: &mut Room<D>, number: u64) -> Result<bool, Fault> {
     let session = begin(room)?;
     let key = Key {

@@ -24,16 +24,16 @@ pub enum Work {
     Run(Load),
     /// The updates of a batch in one transaction. Nothing is read.
     Together(Load),
-    /// One commit after the other beside one that was drawn before them and is never stamped.
+    /// One commit after the other, while a commit that was drawn before them is never stamped.
     Slow(Load),
-    /// So many rounds of the collector over slots that are free.
+    /// This many rounds of the collector over free slots.
     Visits { slots: u64, rounds: u64 },
     /// Sessions that update a key each.
     Steps(u64),
     Reads(u64),
 }
 
-/// What the words name.
+/// What the words ask for.
 pub fn measure_of<'a>(words: &[&'a str]) -> Result<Measure<'a>, Error> {
     match words {
         ["engine", load @ ..] => Ok(Measure::Engine(load_of(load)?)),
@@ -69,7 +69,7 @@ fn parse_load(
     })
 }
 
-// Readers, openings and each kind of call, or a little of everything.
+// Readers, opening images and each kind of call, or a little of everything.
 fn calls_of<'a>(words: &[&'a str]) -> Result<Measure<'a>, ParseIntError> {
     match words {
         ["readers", readers] => Ok(Measure::Readers(readers.parse::<usize>()?)),

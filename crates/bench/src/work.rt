@@ -10,13 +10,13 @@ use std::alloc::Global;
 use std::rt::Clock;
 use std::thread::Threads;
 
-// How many keys are updated, and how many slots are left for newer versions of the keys that are read.
+// How many keys are updated, and how many slots are kept for newer versions of the keys that are read.
 const UPDATED_KEYS: u64 = 256;
 
 const LEFT_SLOTS: u64 = 128;
 
 impl Work {
-    /// What the room is made for.
+    /// The load for which the room is created.
     pub fn load(&self) -> Load {
         match self {
             Work::Run(load) | Work::Together(load) | Work::Slow(load) => *load,
@@ -27,7 +27,7 @@ impl Work {
     }
 }
 
-/// So many slots, and so many keys that have rows.
+/// A load with this many slots, and with rows under this many keys.
 pub fn load_in(slots: u64, keys: u64) -> Load {
     Load {
         slots,
@@ -38,7 +38,7 @@ pub fn load_in(slots: u64, keys: u64) -> Load {
     }
 }
 
-/// Works in a room over the device, which is formatted. Each key has a row before.
+/// Does the work in a room over the device, which it formats. Each key has a row before.
 pub fn measure_work<H: Print + Clock + Threads + Sync, D: Pmem + Drop + Send + Sync>(
     rt: &H,
     alloc: Global,
@@ -67,7 +67,7 @@ fn work_in<H: Print + Clock, D: Pmem + Drop>(
     }
 }
 
-// Prints what the load came to.
+// Runs the load, and prints what it did.
 fn measure_run<H: Print + Clock, D: Pmem + Drop>(
     rt: &H,
     room: &mut Room<D>,
