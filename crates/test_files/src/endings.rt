@@ -1,4 +1,4 @@
-//! What a commit answers where it isn't covered, and that each does answer.
+//! What a commit returns if it isn't covered, and that each commit returns.
 use crate::transactions::{Device, KEY, device_in, found, fresh, get, opened, row};
 use base::fault::Fault;
 use database::{CommitError, Database};
@@ -13,7 +13,7 @@ use std::thread::Threads;
 // The greatest number of a record is one less than 2^62.
 const LAST_RECORD: u64 = 4_611_686_018_427_387_903;
 
-// A file whose ruling record is the last but one, so that the opening writes the last one. Its place is the first one.
+// A file whose ruling record is the last but one, so that opening it writes the last one. The ruling record is in the first place.
 fn at_its_end(alloc: Global) -> Result<Vec<u64>, Fault> {
     let words = fresh(alloc, 8)?;
     let file = extent_of(words.as_slice()).ok_or(Fault::BadGeometry)?;
@@ -47,7 +47,7 @@ fn commits_after_the_last_record_are_refused(rt: HostRuntime) -> Result<(), Faul
     Ok(())
 }
 
-// One more in the row under the key, if no other commit came first.
+// Adds one to the row under the key. Returns whether that was committed, or another commit came first.
 fn add_once<R: Wait + Drop>(database: &Database<Device, R>) -> Result<bool, Fault> {
     let mut transaction = database.begin()?;
     let before = match transaction.get(KEY)? {
@@ -62,7 +62,7 @@ fn add_once<R: Wait + Drop>(database: &Database<Device, R>) -> Result<bool, Faul
     }
 }
 
-// Adds one, in a hundred tries at most. Whether that was enough.
+// Adds one, with at most a hundred tries. Returns whether they were enough.
 fn add_one<R: Wait + Drop>(database: &Database<Device, R>) -> Result<bool, Fault> {
     for _ in 0..100 {
         if add_once(database)? {
@@ -72,7 +72,7 @@ fn add_one<R: Wait + Drop>(database: &Database<Device, R>) -> Result<bool, Fault
     Ok(false)
 }
 
-// Adds so often. Whether no more than a hundred tries were wanted for one.
+// Adds one this many times. Returns whether a hundred tries were always enough.
 fn add<R: Wait + Drop>(database: &Database<Device, R>, times: u8) -> Result<bool, Fault> {
     for _ in 0..times {
         if !add_one(database)? {
@@ -82,8 +82,8 @@ fn add<R: Wait + Drop>(database: &Database<Device, R>, times: u8) -> Result<bool
     Ok(true)
 }
 
-// Each of the 40 commits may leave a version that the other thread's snapshot still reads, however long that thread is kept from
-// running, so there is a slot for each of them, and for the two that are being written.
+// Each of the 40 commits may leave a version that the other thread's snapshot still reads, if that thread doesn't run for long. So
+// there is a slot for each of them, and for the two that are being written.
 #[test]
 fn whoever_begins_again_after_a_conflict_commits(rt: HostRuntime) -> Result<(), Fault> {
     let alloc = rt.alloc();
@@ -115,7 +115,7 @@ fn commit_row<R: Wait + Drop>(database: &Database<Device, R>) -> Result<(), Comm
     }
 }
 
-// A life of which this write or sync and each after it fails: the answer to its commit, and what is found in the words.
+// A life in which this write or sync and all later ones fail. Returns what its commit returned, and the words that are found then.
 fn live<R: Threads + Wait + Copy + Drop + Send + Sync + 'static>(
     rt: &R,
     alloc: Global,
@@ -140,7 +140,7 @@ fn live<R: Threads + Wait + Copy + Drop + Send + Sync + 'static>(
     }
 }
 
-// The writes and syncs of an opening, which brings the file to rest.
+// How many writes and syncs it takes to open the file, which brings it to rest.
 const OPENING: usize = 8;
 
 #[test]

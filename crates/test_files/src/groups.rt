@@ -1,4 +1,4 @@
-//! Commits of many threads at once, which form groups, beside a transaction that stays open.
+//! Commits of many threads at once, which form groups, while a transaction stays open.
 use crate::transactions::{Device, device_in, fresh, get, opened, row};
 use base::fault::Fault;
 use base::key::Key;
@@ -17,7 +17,7 @@ fn key_of(thread: usize) -> Key {
     }
 }
 
-// Commits one number after another under the thread's key. Whether the timestamps rose.
+// Commits one number after another under the thread's key. Returns whether the timestamps rose.
 fn count<R: Wait + Drop>(database: &Database<Device, R>, thread: usize) -> Result<bool, Fault> {
     let mut last = 0;
     let mut rose = true;
@@ -34,7 +34,7 @@ fn count<R: Wait + Drop>(database: &Database<Device, R>, thread: usize) -> Resul
 #[test]
 fn each_of_many_threads_is_answered(rt: HostRuntime) -> Result<(), Fault> {
     let alloc = rt.alloc();
-    // The reader's snapshot keeps each version that is made meanwhile.
+    // The reader's snapshot keeps each version that is created meanwhile.
     let database = opened(&rt, alloc, fresh(alloc, 256)?)?;
     let reader = database.begin()?;
     let counted = map_indices(&rt, alloc, THREADS, &|thread| count(&database, thread));

@@ -1,4 +1,4 @@
-//! Lives over the words of a file with a journal, each of whose writes and syncs fails in turn.
+//! Lives over the words of a file with a journal: for each write and sync, lives in which it is the first to fail.
 ghost use Rattle.std.specs.Prelude.{IfOk};
 ghost use Rattle.pmem.specs.Words.{IsAtRest};
 ghost use Rattle.pmem_file.specs.Traces.{device_of};
@@ -22,13 +22,13 @@ use sync_ahead::SyncAhead;
 
 type Device = JournaledPmem<JournaledImages<MemoryStorage>>;
 
-// Of an image of four slots and two places.
+// The number of words in an image with four slots and two places.
 const WORDS: usize = 104;
 
-// An entry of all its thirteen lines fits, and of those of two commits.
+// An entry with all thirteen lines of the image fits, or with the lines of two commits.
 const ROOM: usize = 136;
 
-// No life makes so many writes and syncs.
+// More writes and syncs than any life makes.
 const CALLS: usize = 160;
 
 const COMMITS: u8 = 6;
@@ -37,7 +37,7 @@ const KEY: Key = Key { table: 1, key: 7 };
 
 const OTHER: Key = Key { table: 1, key: 8 };
 
-// Of each eight words of a write that fails none is written, or each other one, or all.
+// Of each eight words of a write that fails, none are written, or every other one, or all.
 const TORN: [Part; 4] = [
     Part::Words(0),
     Part::Words(0b0101_0101),
@@ -45,14 +45,14 @@ const TORN: [Part; 4] = [
     Part::All,
 ];
 
-// A life: how far it came, and what is found then.
+// How far a life came, and what is found after it.
 #[derive(Drop)]
 struct Life {
     acknowledged: u8,
     found: Vec<u64>,
 }
 
-// A device at rest with what the storage stands for, or with a new image where nothing is kept in it.
+// A device at rest with the image that the storage stands for, or with a new image if the storage holds none.
 fn opened(
     alloc: Global,
     storage: MemoryStorage,
@@ -70,7 +70,7 @@ fn opened(
     }
 }
 
-// Opens the device, formatted where it is new, and commits the numbers behind this one, up to the first that isn't acknowledged.
+// Opens the device, which is formatted if it is new, and commits the numbers after this one, up to the first that isn't acknowledged.
 fn live<R: Threads + Sync>(
     rt: &R,
     alloc: Global,
@@ -89,7 +89,7 @@ fn live<R: Threads + Sync>(
     Ok(Life::ended(acknowledged, room.into_device().release()))
 }
 
-// A room over the device: in one place, since what an opening promises is long.
+// Opens a room over the device. There is only this one call, since the contract of `Room::open` is long.
 fn open<R: Threads + Sync, D: Pmem + Drop + Send + Sync>(
     rt: &R,
     alloc: Global,
@@ -109,7 +109,7 @@ impl Life {
     }
 }
 
-// Commits the number under the key. Whether that was acknowledged.
+// Commits the number under the key. Returns whether that was acknowledged.
 fn commit(room: &mut Room<Device>, number: u8) -> Result<bool, Fault> {
     let session = 2;
     let row = Row::new(&[number])?;
@@ -138,7 +138,7 @@ fn commit(room: &mut Room<Device>, number: u8) -> Result<bool, Fault> {
     Ok(matches!(polled, Reply::Committed(_)))
 }
 
-// Makes the sync that the next tick would wait for. Meanwhile another session writes, and gives that up.
+// Makes the sync that the next tick would wait for. Meanwhile another session writes, and is rolled back.
 fn sync_ahead(room: &mut Room<Device>) -> Result<(), Fault> {
     let Some(mut pending) = room.begin_sync() else {
         return Ok(());
@@ -166,7 +166,7 @@ fn number_in<D: Pmem + Drop>(room: &Room<D>) -> Result<u8, Fault> {
     }
 }
 
-// Commits so many numbers behind this one, up to the first that isn't acknowledged. The last one that is.
+// Commits `COMMITS` numbers after this one, up to the first that isn't acknowledged. Returns the last one that is.
 fn commit_behind(room: &mut Room<Device>, before: u8) -> Result<u8, Fault> {
     let mut acknowledged = before;
     for _ in 0..COMMITS {
@@ -179,7 +179,7 @@ fn commit_behind(room: &mut Room<Device>, before: u8) -> Result<u8, Fault> {
     Ok(acknowledged)
 }
 
-// The number that an opening of the device finds.
+// The number that is found when the device is opened.
 fn number_on<R: Threads + Sync, D: Pmem + Drop + Send + Sync>(
     rt: &R,
     alloc: Global,
@@ -197,7 +197,7 @@ fn number_of<D: Pmem + Drop>(room: Room<D>) -> Result<u8, Fault> {
     number_in(&room)
 }
 
-// Opens what was found: it has all that was acknowledged, and at most the commit in hand.
+// Opens what was found: it has all that was acknowledged, and at most the one commit after that.
 fn assert_opens<R: Threads + Sync + Abort>(rt: &R, alloc: Global, life: Life) -> Result<(), Fault> {
     let acknowledged = life.acknowledged;
     let storage = MemoryStorage::new(life.found);
@@ -218,7 +218,7 @@ fn zeros(alloc: Global) -> Result<Vec<u64>, Fault> {
     }
 }
 
-// What a life leaves none of whose writes and syncs fails.
+// What is found after a life in which no write or sync fails.
 fn lived<R: Threads + Sync>(rt: &R, alloc: Global) -> Result<Vec<u64>, Fault> {
     Ok(live(rt, alloc, MemoryStorage::new(zeros(alloc)?), 0)?.found)
 }
@@ -255,7 +255,7 @@ fn so_does_each_failing_call_of_a_second_life(rt: HostRuntime) -> Result<(), Fau
     Ok(())
 }
 
-// The number in an image without a journal.
+// The number that is found in an image without a journal.
 fn number_in_image<R: Threads + Sync>(rt: &R, alloc: Global, image: Vec<u64>) -> Result<u8, Fault> {
     match JournaledPmem::new(alloc, image, Nowhere, 2) {
         Ok(device) => number_on(rt, alloc, device),
@@ -301,8 +301,8 @@ fn a_device_says_why_a_call_failed(rt: HostRuntime) -> Result<(), Fault> {
     Ok(())
 }
 
-// A device at rest with the image that these words stand for, of which so many further writes and syncs succeed, and the value of
-// its first word.
+// A device at rest with the image that these words stand for, and the value of its first word. Only the first `calls` writes and syncs
+// succeed.
 fn at_rest(alloc: Global, words: Vec<u64>, calls: usize) -> Result<(Device, u64), Fault> {
     let storage = MemoryStorage::new(words).failing_after(calls, Part::Words(0));
     let Ok(device) = Device::of_storage(alloc, storage, WORDS, ROOM, 2) else {
@@ -318,7 +318,7 @@ fn at_rest(alloc: Global, words: Vec<u64>, calls: usize) -> Result<(Device, u64)
 #[test]
 fn a_sync_ahead_that_fails_is_reported_by_the_fence(rt: HostRuntime) -> Result<(), Fault> {
     let alloc = rt.alloc();
-    // An opening makes eight calls. Then the image is written, and it is synced.
+    // Opening the device makes eight calls. Then the image is written and synced.
     for calls in [8, 9, 10] {
         let (mut device, first) = at_rest(alloc, lived(&rt, alloc)?, calls)?;
         if device.words() > 0 {

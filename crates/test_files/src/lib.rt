@@ -1,4 +1,5 @@
-//! Lives over the words of a file with a journal, each of whose writes and syncs fails in turn; and databases over such words, opened again.
+//! Lives over the words of a file with a journal: for each write and sync, lives in which it is the first to fail. And databases over
+//! such words, which are opened again.
 #![tactic(auto)]
 
 #[cfg(test)]

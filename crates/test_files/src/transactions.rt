@@ -1,4 +1,4 @@
-//! Each call of a database once, over the words of a file with a journal, and what the next opening finds.
+//! Each call of a database over the words of a file with a journal, and what is found when it is opened again.
 ghost use Rattle.std.specs.Prelude.{IfOk};
 ghost use Rattle.pmem.specs.Words.{IsAtRest};
 ghost use Rattle.pmem_file.specs.Traces.{device_of};
@@ -28,14 +28,14 @@ const OTHER: Key = Key { table: 1, key: 8 };
 
 const COMMITS: u8 = 20;
 
-// How often a commit is tried at most.
+// The most tries for one commit.
 const TRIES: u64 = 100_000;
 
 pub fn row(number: u8) -> Result<Row, Fault> {
     Row::new(&[number])
 }
 
-// A device at rest with what was found in the storage.
+// A device at rest, with what was found in the storage.
 pub fn found(alloc: Global, storage: MemoryStorage, file: (usize, usize)) -> Result<Device, Fault>
     ensures { IfOk result (λ device. IsAtRest (device_of device.trace)) }
 {
@@ -101,7 +101,8 @@ pub fn get<R: Wait + Drop>(database: &Database<Device, R>, key: Key) -> Result<O
     row
 }
 
-// Two keys, one of which is deleted then and the other written twice; a transaction that is dropped; one that writes nothing.
+// A commit of two keys; a transaction that is dropped; a commit that deletes one key and writes the other twice; and one that writes
+// nothing.
 fn make_commits<R: Wait + Drop + Abort>(
     rt: &R,
     database: &Database<Device, R>,
@@ -158,8 +159,8 @@ fn the_second_of_two_that_write_a_key_conflicts(rt: HostRuntime) -> Result<(), F
     Ok(())
 }
 
-// Commits the row under the key. Where no slot is free the other thread's snapshot may need all versions, however long that thread is
-// kept from running, so it is tried again.
+// Commits the row under the key. If no slot is free, it tries again, since the other thread's snapshot may need all versions until that
+// thread runs.
 fn commit_once_free<R: Wait + Drop>(
     database: &Database<Device, R>,
     key: Key,

@@ -27,7 +27,8 @@ pub fn make_each<R: Print + Wait + Drop>(rt: &R, store: &Store<R>) -> Result<(),
     show_numbers(rt, store)
 }
 
-// The layout, and how far it has come. Commits are left up to two windows before 2^62: timestamp 1 is drawn, so 2^62 - 2 - 2 * 64.
+// The layout, and how far the store has come. Timestamps can be drawn up to two windows before 2^62. Timestamp 1 is drawn, so
+// 2^62 - 2 - 2 * 64 commits are left.
 fn show_numbers<R: Print + Wait + Drop>(rt: &R, store: &Store<R>) -> Result<(), Error> {
     let status = store.status();
     println!(rt;
@@ -45,7 +46,7 @@ fn show_numbers<R: Print + Wait + Drop>(rt: &R, store: &Store<R>) -> Result<(), 
     Ok(())
 }
 
-/// What the next opening finds.
+/// What is found when the store is opened again.
 pub fn find_all<R: Print + Wait + Drop>(rt: &R, store: &Store<R>) -> Result<(), Error> {
     for (key, row) in store.read()?.scan(1, ..)? {
         println!(rt; "found {key}: {row}")?;

@@ -8,7 +8,7 @@ const SUM: Key = Key { table: 3, key: 1 };
 
 const TIMES: u64 = 50;
 
-/// Two threads that add to one number, a conflict by itself, and one in each try.
+/// Two threads that add to one number, a single conflict, and a conflict in each try.
 pub fn meet_each<R: Print + Threads + Wait + Drop + Sync>(
     rt: &R,
     store: &Store<R>,
@@ -28,7 +28,7 @@ pub fn meet_each<R: Print + Threads + Wait + Drop + Sync>(
     give_up(rt, store)
 }
 
-// Adds 1 so many times.
+// Adds 1 `TIMES` times.
 fn add<R: Wait + Drop>(store: &Store<R>) -> Result<(), StoreError> {
     for _ in 0..TIMES {
         store.transact(|t| {
@@ -39,7 +39,7 @@ fn add<R: Wait + Drop>(store: &Store<R>) -> Result<(), StoreError> {
     Ok(())
 }
 
-// In each try another commit comes first, and in the last try of another call none does.
+// Another commit comes first in each try of the first call, and in all tries but the last one of the second call.
 fn give_up<R: Print + Wait + Drop>(rt: &R, store: &Store<R>) -> Result<(), Error> {
     let tried = store.transact_within(3, |t| {
         store.transact(|other| other.put(SUM, Row::of_u64(3)))?;

@@ -7,12 +7,12 @@ const SLOTS: u64 = 4;
 
 const WORDS: u64 = 104;
 
-// Where the places and the slots begin.
+// The first word of the places, and of the slots.
 const PLACES: usize = 8;
 
 const FIRST_SLOT: usize = 72;
 
-/// An image of four slots, two places and a window of 64, in words: its superblock and the record of this number, which
+/// The words of an image with four slots, two places and a window of 64. It has a superblock and the record of this number, which
 /// persists the timestamps below `dirty`.
 pub fn image(alloc: Global, gate: u64, dirty: u64) -> Result<Vec<u64>, AllocError> {
     let mut words = vec![in alloc; 0; 104]?;
@@ -29,7 +29,7 @@ pub fn image(alloc: Global, gate: u64, dirty: u64) -> Result<Vec<u64>, AllocErro
     Ok(words)
 }
 
-/// Makes the begin of the slot this timestamp.
+/// Sets the begin of the slot to this timestamp.
 pub fn set_begin(words: &mut Vec<u64>, slot: usize, begin: u64) {
     set(
         words,

@@ -1,4 +1,4 @@
-//! Each call of a store, two threads in conflict, and each error that a store over a working file reports.
+//! Each call of a store, conflicts between two threads, and each error that a store reports if its file doesn't fail.
 #![tactic(auto)]
 
 mod calls;

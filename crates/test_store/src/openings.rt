@@ -8,7 +8,7 @@ use std::sync::Wait;
 use std::thread::Threads;
 use store::{Geometry, Row, RowExt, Store, StoreError, key};
 
-/// Files that no store is opened over, and what is said of each.
+/// Files over which no store can be opened, and the error for each.
 pub fn refuse_each<
     R: Print
         + AllocGlobal
@@ -45,7 +45,7 @@ pub fn refuse_each<
     print_opened(rt, Store::open(*rt, alloc, "numbers.img", geometry))
 }
 
-// What is said of a store that isn't opened.
+// Prints the name of a store that was opened, or else the error.
 fn print_opened<R: Wait + Drop + Print>(
     rt: &R,
     opened: Result<Store<R>, StoreError>,
@@ -60,7 +60,7 @@ fn print_opened<R: Wait + Drop + Print>(
     Ok(())
 }
 
-// Writes a file of these words.
+// Writes a file that holds these words.
 fn write<R: Files<File = File>>(
     rt: &R,
     alloc: Global,
@@ -71,7 +71,7 @@ fn write<R: Files<File = File>>(
     Ok(())
 }
 
-// Takes the four slots, and asks for a fifth; a deletion makes room.
+// Takes the four slots, and asks for a fifth. Then a deletion frees one.
 fn fill<R: Print + Wait + Drop>(rt: &R, store: &Store<R>) -> Result<(), Error> {
     for number in 1..=5 {
         let put = store.transact(|t| t.put(key(1, number), Row::of_u64(number)));
@@ -85,7 +85,7 @@ fn fill<R: Print + Wait + Drop>(rt: &R, store: &Store<R>) -> Result<(), Error> {
     keep_old(rt, store)
 }
 
-// Two rows take two slots, and two more while a snapshot keeps them as they were.
+// Two rows take two slots, and two more while a snapshot keeps their older versions.
 fn keep_old<R: Print + Wait + Drop>(rt: &R, store: &Store<R>) -> Result<(), Error> {
     store.transact(|t| t.delete(key(1, 2)))?;
     store.transact(|t| t.delete(key(1, 3)))?;
@@ -102,7 +102,7 @@ fn keep_old<R: Print + Wait + Drop>(rt: &R, store: &Store<R>) -> Result<(), Erro
     Ok(())
 }
 
-/// What `open_existing` finds: no store, which it doesn't create, and one of whatever layout, which was dropped without a close.
+/// What `open_existing` finds: no store, which it doesn't create, and a store of any layout, which was dropped and not closed.
 pub fn find_each<
     R: Print
         + AllocGlobal
@@ -128,7 +128,7 @@ pub fn find_each<
     store.transact(|t| t.put(key(7, 1), Row::of_u64(1)))?;
     store.transact(|t| t.put(key(7, 2), Row::of_text("kept")?))?;
     drop(store);
-    // 8 slots of two lines and three places take 8 * (1 + 4 * 3 + 2 * 8) words, and the journal is behind them.
+    // 8 slots of two lines and three places take 8 * (1 + 4 * 3 + 2 * 8) words, and the journal follows them.
     let image = 8 * 8 * (1 + 4 * 3 + 2 * 8);
     let is_longer = image < fs::metadata(rt, "wide.img")?.len();
     println!(rt; "dropped, with a journal behind the image: {is_longer}")?;
@@ -147,7 +147,7 @@ pub fn find_each<
     Ok(())
 }
 
-/// The opening and one commit write the last two records that have numbers. A further commit is refused, and the close.
+/// Opening the store and one commit write the last two records that have numbers. Another commit is refused, and so is closing.
 pub fn end_numbers<
     R: Print
         + AllocGlobal

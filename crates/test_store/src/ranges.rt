@@ -3,7 +3,7 @@ use std::ops::{Bound, RangeBounds};
 use std::sync::Wait;
 use store::{Key, Row, Snapshot, Store};
 
-/// Ranges of each form over the keys 5, 6 and 9 of a table.
+/// A range of each form over a table that has the keys 5, 6 and 9.
 pub fn read_each<R: Print + Wait + Drop>(rt: &R, store: &Store<R>) -> Result<(), Error> {
     let snapshot = store.read()?;
     show(rt, &snapshot, "..", ..)?;

@@ -4,7 +4,7 @@ use store::{Row, RowExt, Snapshot, Store, StoreError, Transaction, key};
 
 const LONG: &str = "a text that has more than thirty-two bytes";
 
-/// What a step is refused for, and that the transaction stays open.
+/// Why steps are refused, and that the transaction stays open.
 pub fn meet_each<R: Print + AllocGlobal + Wait + Drop>(
     rt: &R,
     store: &Store<R>,
@@ -39,13 +39,13 @@ fn print_refused(rt: &impl Print, step: Result<(), StoreError>) -> Result<(), Er
     Ok(())
 }
 
-// Writes, and gives that up.
+// Writes, and then returns an error of its own.
 fn give_up<R: Wait + Drop>(t: &mut Transaction<'_, R>) -> Result<(), StoreError> {
     t.delete(key(4, 1))?;
     Err(StoreError::Own(anyhow!("the caller's own reason")))
 }
 
-// As many snapshots at once as there may be, and one more.
+// Opens as many snapshots at once as are allowed, and one more.
 fn open_many<R: Print + AllocGlobal + Wait + Drop>(rt: &R, store: &Store<R>) -> Result<(), Error> {
     let mut open: Vec<Snapshot<'_, R>> = Vec::new(rt.alloc());
     for number in 1..=63 {
