@@ -1,0 +1,53 @@
+-- What a word of a file may be, by the calls that were made on the file.
+use Rattle.std.specs.Prelude.{◌≡◌, ◌⊎◌, ℕ, ◌+◌, ◌-◌, ◌*◌, ◌<◌, ◌≤◌, ⊤, Bool, true, false, List, [], ◌∷◌, drop}
+use Rattle.std.proofs.Common.{inl, inr}
+use Rattle.byteorder.specs.Endian.{little_number}
+
+-- A call. Writing: from a word on, a number of words, which are the first of these bytes; whether it succeeded. Syncing: whether it
+-- succeeded. Sizing: how many words the file is to have.
+pub data Call : Type 0 where
+  Writing : ℕ → ℕ → List ℕ → Bool → Call
+  Syncing : Bool → Call
+  Sizing : ℕ → Call
+
+-- a word as it was written last, or as it may be found once all has stopped
+pub data View : Type 0 where
+  Shown : View
+  Held : View
+
+-- of a file of which nothing is known, a word may be anything
+abbrev pub Anything : ℕ → ℕ → Type 0
+Anything word x = ⊤
+
+-- the word is one of the `count` words from `start` on, and the bytes have x there
+abbrev pub IsPut : ℕ → ℕ → List ℕ → ℕ → ℕ → Type 0
+IsPut start count bytes word x = (start ≤ word) × (word < start + count) × (x ≡ little_number 8 (drop (8 * (word - start)) bytes))
+
+-- the word is before or behind these
+abbrev pub IsOutside : ℕ → ℕ → ℕ → Type 0
+IsOutside start count word = (word < start) ⊎ (start + count ≤ word)
+
+-- What a word may be after these calls, the last one first, if `before` says what it might be when the file was opened. A write
+-- that failed may have written any of its words. After a sync that failed each word may still be as it might be found before, and also
+-- when it is read: the system may take for written what the disk does not have. A change of the length leaves each word before the new
+-- end as it was; behind it a word may be anything.
+abbrev pub HasAfter : (ℕ → ℕ → Type 0) → View → List Call → ℕ → ℕ → Type 0
+HasAfter before view [] word x = before word x
+HasAfter before Shown (Writing start count bytes true ∷ calls) word x = IsPut start count bytes word x ⊎ (IsOutside start count word × HasAfter before Shown calls word x)
+HasAfter before Shown (Writing start count bytes false ∷ calls) word x = HasAfter before Shown calls word x ⊎ IsPut start count bytes word x
+HasAfter before Held (Writing start count bytes ok ∷ calls) word x = HasAfter before Held calls word x ⊎ IsPut start count bytes word x
+HasAfter before view (Syncing true ∷ calls) word x = HasAfter before Shown calls word x
+HasAfter before view (Syncing false ∷ calls) word x = HasAfter before Held calls word x
+HasAfter before view (Sizing count ∷ calls) word x = (count ≤ word) ⊎ HasAfter before view calls word x
+
+-- what was written last may be found. (A law of an impl may cite lemmas of specs/ alone.)
+pub shown_is_held : (before : ℕ → ℕ → Type 0) (calls : List Call) (word x : ℕ) → HasAfter before Shown calls word x → HasAfter before Held calls word x
+shown_is_held before [] word x shown = shown
+shown_is_held before (Writing start count bytes true ∷ calls) word x (inl put) = inr put
+shown_is_held before (Writing start count bytes true ∷ calls) word x (inr shown) = inl (shown_is_held before calls word x shown.1)
+shown_is_held before (Writing start count bytes false ∷ calls) word x (inl shown) = inl (shown_is_held before calls word x shown)
+shown_is_held before (Writing start count bytes false ∷ calls) word x (inr put) = inr put
+shown_is_held before (Syncing true ∷ calls) word x shown = shown
+shown_is_held before (Syncing false ∷ calls) word x held = held
+shown_is_held before (Sizing count ∷ calls) word x (inl behind) = inl behind
+shown_is_held before (Sizing count ∷ calls) word x (inr shown) = inr (shown_is_held before calls word x shown)

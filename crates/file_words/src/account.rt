@@ -1,0 +1,57 @@
+ghost use Rattle.std.specs.Prelude.{◌≡◌, [], ◌∷◌};
+ghost use Rattle.file_words.specs.Accounts.{Sizing, Syncing, Writing};
+ghost use Rattle.file_words.specs.Calls.{calls_of};
+
+use std::snapshot::Snapshot;
+
+/// The calls that wrote to a file, synced it or changed its length, since it was opened. It takes one byte, since clauses alone read
+/// the rest.
+#[derive(Drop)]
+pub enum Account {
+    Begun,
+    /// The first word, how many words were written, the bytes that begin with them, and whether the write succeeded.
+    Wrote(Snapshot<Account>, Snapshot<usize>, Snapshot<usize>, Snapshot<Vec<u8>>, Snapshot<bool>),
+    /// Whether the sync succeeded.
+    Synced(Snapshot<Account>, Snapshot<bool>),
+    /// How many words the file was to have.
+    Sized(Snapshot<Account>, Snapshot<usize>),
+}
+
+impl Account {
+    /// Of a file on which no call was made.
+    pub(crate) fn begun() -> Account
+        ensures { calls_of result ≡ [] }
+    {
+        Account::Begun
+    }
+
+    /// Adds a write of `count` words, which are the first of these bytes.
+    pub(crate) fn note_write(&mut self, start: usize, count: usize, bytes: &Vec<u8>, is_ok: bool)
+        ensures { calls_of self.new ≡ Writing start count bytes.now.items is_ok ∷ calls_of self.old }
+    {
+        let before = Snapshot::of(&*self);
+        *self = Account::Wrote(
+            before,
+            Snapshot::of(&start),
+            Snapshot::of(&count),
+            Snapshot::of(bytes),
+            Snapshot::of(&is_ok),
+        );
+    }
+
+    /// Adds a sync.
+    pub(crate) fn note_sync(&mut self, is_ok: bool)
+        ensures { calls_of self.new ≡ Syncing is_ok ∷ calls_of self.old }
+    {
+        let before = Snapshot::of(&*self);
+        *self = Account::Synced(before, Snapshot::of(&is_ok));
+    }
+
+    /// Adds a change of the length to this number of words.
+    pub(crate) fn note_size(&mut self, count: usize)
+        ensures { calls_of self.new ≡ Sizing count ∷ calls_of self.old }
+    {
+        let before = Snapshot::of(&*self);
+        *self = Account::Sized(before, Snapshot::of(&count));
+    }
+}

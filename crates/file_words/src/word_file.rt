@@ -1,0 +1,204 @@
+ghost use Rattle.std.specs.Prelude.{◌≡◌, ◌*◌, ◌≤◌, length};
+ghost use Rattle.byteorder.specs.Endian.{IsRead, little_number};
+
+use crate::account::Account;
+use byteorder::{ByteOrder, LittleEndian};
+use std::alloc::Global;
+use std::fs::File;
+use std::io;
+use std::os::unix::fs::{FileExt, MetadataExt};
+
+// The words that one write takes. A put of fewer is one write.
+const MOST_WORDS: usize = 8_192;
+
+const WORD_BYTES: usize = 8;
+
+/// A file that holds words in order, 8 bytes each, the lowest byte first. No other process has it open so. It is trusted of the
+/// system that a word that is found is one that the account allows.
+#[derive(Drop)]
+pub struct WordFile {
+    file: File,
+
+    // The bytes of a write.
+    bytes: Vec<u8>,
+    account: Account,
+}
+
+impl WordFile {
+    ghost use Rattle.std.specs.Prelude.{◌≡◌, ◌⊎◌, ℕ, ◌+◌, ◌-◌, ◌*◌, ◌<◌, ◌≤◌, [], ◌∷◌, length, slice_index, is_ok, IfOk, OnOk};
+    ghost use Rattle.journal.specs.Files.{IsInRun};
+    ghost use Rattle.file_words.specs.Accounts.{Sizing, Syncing, Writing};
+    ghost use Rattle.file_words.specs.Calls.{account_of, calls_of, held_by, shown_by};
+
+    /// A file of which nothing is known.
+    pub fn new(alloc: Global, file: File) -> io::Result<WordFile>
+        ensures { IfOk result (λ made. calls_of (account_of made) ≡ []) }
+    {
+        let bytes = Vec::from_elem(alloc, 0, MOST_WORDS * WORD_BYTES)?;
+        Ok(WordFile {
+            file,
+            bytes,
+            account: Account::begun(),
+        })
+    }
+
+    /// Writes these words, the first as this one.
+    pub fn write(&mut self, start: usize, words: &[u64]) -> io::Result<()>
+        ensures found { (word x : ℕ) → held_by (account_of self.new) word x → held_by (account_of self.old) word x ⊎ IsInRun start words.now word x }
+        ensures others { (word x : ℕ) → shown_by (account_of self.new) word x → shown_by (account_of self.old) word x ⊎ IsInRun start words.now word x }
+        ensures written { OnOk result ((word x : ℕ) → start ≤ word → word < start + length words.now → shown_by (account_of self.new) word x → x ≡ slice_index words.now (word - start)) }
+    {
+        if start.checked_add(words.len()).is_none() {
+            return Err(io::Error::from(io::ErrorKind::InvalidInput));
+        }
+        let mut at = 0;
+        while at < words.len() {
+            let end = words.len().min(at.saturating_add(MOST_WORDS));
+            self.write_part(start + at, &words[at..end])?;
+            at = end;
+        }
+        Ok(())
+    }
+
+    // Writes no more words than one write takes.
+    fn write_part(&mut self, start: usize, words: &[u64]) -> io::Result<()>
+        ensures found { (word x : ℕ) → held_by self.new.account word x → held_by self.old.account word x ⊎ IsInRun start words.now word x }
+        ensures others { (word x : ℕ) → shown_by self.new.account word x → shown_by self.old.account word x ⊎ IsInRun start words.now word x }
+        ensures written { OnOk result ((word x : ℕ) → start ≤ word → word < start + length words.now → shown_by self.new.account word x → x ≡ slice_index words.now (word - start)) }
+    {
+        let size = words.len().saturating_mul(WORD_BYTES);
+        if size > self.bytes.len() {
+            return Err(io::Error::from(io::ErrorKind::InvalidInput));
+        }
+        put_bytes(words, self.bytes.as_mut_slice());
+        self.write_bytes(start, words.len())
+    }
+
+    // Writes the first bytes, which are `count` words, the first as this one. It is trusted that `write_all_at`
+    // writes them there and nothing elsewhere, and, if it fails, that each word is as before or as it was to be.
+    fn write_bytes(&mut self, start: usize, count: usize) -> io::Result<()>
+        requires { 8 * count ≤ length self.old.bytes.items }
+        ensures { calls_of self.new.account ≡ Writing start count self.old.bytes.items (is_ok result) ∷ calls_of self.old.account }
+    {
+        let done = write_at(
+            &self.file,
+            start,
+            &self.bytes.as_slice()[..count * WORD_BYTES],
+        );
+        self.account
+            .note_write(start, count, &self.bytes, done.is_ok());
+        done
+    }
+
+    /// Waits until what was written persists. It is trusted of `sync_data` that it does so before it succeeds.
+    pub fn sync(&mut self) -> io::Result<()>
+        ensures noted { calls_of (account_of self.new) ≡ Syncing (is_ok result) ∷ calls_of (account_of self.old) }
+        ensures found { (word x : ℕ) → held_by (account_of self.new) word x → held_by (account_of self.old) word x }
+        ensures synced { OnOk result ((word x : ℕ) → held_by (account_of self.new) word x → shown_by (account_of self.old) word x) }
+    {
+        let done = self.file.sync_data();
+        self.account.note_sync(done.is_ok());
+        done
+    }
+
+    /// Notes what came of a sync that was made by a copy of the descriptor. It is trusted of the caller that it is one of this file,
+    /// and that nothing was written since it began.
+    pub fn note(&mut self, ended: io::Result<()>) -> io::Result<()>
+        ensures result { result ≡ ended }
+        ensures noted { calls_of (account_of self.new) ≡ Syncing (is_ok ended) ∷ calls_of (account_of self.old) }
+        ensures found { (word x : ℕ) → held_by (account_of self.new) word x → held_by (account_of self.old) word x }
+        ensures synced { OnOk result ((word x : ℕ) → held_by (account_of self.new) word x → shown_by (account_of self.old) word x) }
+    {
+        self.account.note_sync(ended.is_ok());
+        ended
+    }
+
+    /// Makes it `to` words long, with zeros behind those that it has, which are `from`. If these have no room on the disk, it stays
+    /// as long as it was.
+    pub fn grow(&mut self, alloc: Global, from: usize, to: usize) -> io::Result<()>
+        ensures found { (word x : ℕ) → word < from → held_by (account_of self.new) word x → held_by (account_of self.old) word x }
+        ensures others { (word x : ℕ) → word < from → shown_by (account_of self.new) word x → shown_by (account_of self.old) word x }
+        ensures zeros { OnOk result ((word x : ℕ) → from ≤ word → word < to → shown_by (account_of self.new) word x → x ≡ 0) }
+    {
+        if from >= to {
+            return Ok(());
+        }
+        let filled = self.fill(alloc, from, to);
+        if filled.is_err() {
+            let _ = self.resize(from);
+        }
+        filled
+    }
+
+    // Writes zeros from this word on up to that one, which is to be the end.
+    fn fill(&mut self, alloc: Global, from: usize, to: usize) -> io::Result<()>
+        requires { from < to }
+        ensures found { (word x : ℕ) → word < from → held_by self.new.account word x → held_by self.old.account word x }
+        ensures others { (word x : ℕ) → word < from → shown_by self.new.account word x → shown_by self.old.account word x }
+        ensures zeros { OnOk result ((word x : ℕ) → from ≤ word → word < to → shown_by self.new.account word x → x ≡ 0) }
+    {
+        let zeros = Vec::from_elem(alloc, 0, MOST_WORDS)?;
+        self.resize(to)?;
+        let mut at = from;
+        while at < to {
+            let count = (to - at).min(MOST_WORDS);
+            self.write_part(at, &zeros.as_slice()[..count])?;
+            at += count;
+        }
+        Ok(())
+    }
+
+    /// Cuts off what is behind the first `words` words, and waits until that persists, and what was written before.
+    pub fn cut(&mut self, words: usize) -> io::Result<()>
+        ensures found { (word x : ℕ) → word < words → held_by (account_of self.new) word x → held_by (account_of self.old) word x }
+        ensures synced { OnOk result ((word x : ℕ) → word < words → held_by (account_of self.new) word x → shown_by (account_of self.old) word x) }
+    {
+        self.resize(words)?;
+        self.sync_all()
+    }
+
+    // Gives it `words` words. It is trusted that `set_len` changes none of these that it has already.
+    fn resize(&mut self, words: usize) -> io::Result<()>
+        ensures { calls_of self.new.account ≡ Sizing words ∷ calls_of self.old.account }
+    {
+        let done = match byte_of(words) {
+            Ok(size) => self.file.set_len(size),
+            Err(error) => Err(error),
+        };
+        self.account.note_size(words);
+        done
+    }
+
+    // Waits until what was written persists, and the length. It is trusted of `sync_all` that it does so before it succeeds.
+    fn sync_all(&mut self) -> io::Result<()>
+        ensures { calls_of self.new.account ≡ Syncing (is_ok result) ∷ calls_of self.old.account }
+    {
+        let done = self.file.sync_all();
+        self.account.note_sync(done.is_ok());
+        done
+    }
+
+    /// Whether a name leads to the file.
+    pub fn is_named(&self) -> io::Result<bool> {
+        Ok(self.file.metadata()?.nlink() > 0)
+    }
+}
+
+fn write_at(file: &File, start: usize, bytes: &[u8]) -> io::Result<()> {
+    file.write_all_at(bytes, byte_of(start)?)
+}
+
+// The byte at which the word begins.
+fn byte_of(word: usize) -> io::Result<u64> {
+    let byte = (word as u64).checked_mul(WORD_BYTES as u64);
+    byte.ok_or(io::Error::from(io::ErrorKind::InvalidInput))
+}
+
+// The words as bytes, the first ones of these.
+fn put_bytes(words: &[u64], bytes: &mut [u8])
+    requires { 8 * length words.now ≤ length bytes.old }
+    ensures { IsRead little_number 8 bytes.new words.now }
+{
+    let size = words.len() * WORD_BYTES;
+    LittleEndian::write_u64_into(words, &mut bytes[..size]);
+}
