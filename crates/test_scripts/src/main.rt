@@ -61,12 +61,18 @@ fn play_lives<H: Print + Threads + Wait + Copy + Drop + Send + Sync + 'static>(
 }
 
 // Runs a command with its input.
-fn obey<H: Files<File = File> + Print + Threads + Wait + Copy + Drop + Send + Sync + 'static>(
-    rt: &H,
-    alloc: Global,
-    part: &str,
-    file: &mut Vec<u8>,
-) -> Result<(), Error> {
+fn obey<
+    H: AllocGlobal
+        + Files<File = File>
+        + Print
+        + Threads
+        + Wait
+        + Copy
+        + Drop
+        + Send
+        + Sync
+        + 'static,
+>(rt: &H, alloc: Global, part: &str, file: &mut Vec<u8>) -> Result<(), Error> {
     let (command, input) = part.split_once('\n').unwrap_or((part, ""));
     let words: Vec<&str> = command
         .split(' ')
@@ -79,6 +85,7 @@ fn obey<H: Files<File = File> + Print + Threads + Wait + Copy + Drop + Send + Sy
         ["text"] => Ok(*file = Vec::from_slice(alloc, input.as_bytes())?),
         ["more", times] => add_text(file, input, times),
         ["save", name] => Ok(fs::write(rt, *name, file.as_slice())?),
+        ["load", name] => Ok(*file = fs::read(rt, *name)?),
         ["program", words @ ..] => run_program(rt, alloc, words, input),
         ["beside", held, "program", words @ ..] => run_beside(rt, alloc, held, words, input),
         ["ask", words @ ..] => ask_program(rt, alloc, words, input),
