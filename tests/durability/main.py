@@ -1,8 +1,8 @@
 """Kills kv, takes the power from it and fails its writes, and looks for each row that it acknowledged; and tries what people
 do to it: closed streams, a failing output, a full disk, files of others, wrong lines. The same of FILE of wbl.
 
-It takes minutes, wants the programs that ./build makes, and strace for power failures and failing writes. It prints a line for
-each test, LOST where a row that was acknowledged isn't found, and last `N passed, N failed`; where one failed it ends with 1.
+It takes minutes, and needs the programs that ./build makes, and strace for power failures and failing writes. It prints a line for
+each test, LOST if a row that was acknowledged isn't found, and last `N passed, N failed`; if one failed it ends with 1.
 """
 import argparse
 import os

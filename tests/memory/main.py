@@ -4,8 +4,8 @@ It runs `wbl lives` over the scripts of lives in crates/test_scripts/data; the c
 there name; `wbl threads`; the lives and the board of test_lives, with memory for all stores of the device and without; and
 kv over a new and over an old file. Of each it refuses the first request, then the second alone, and so on to the last; then, of
 wbl and kv, the first and all later ones, and so on. It fails at a crash, a run that doesn't end, a row that was never put, a first line
-that differs and isn't OutOfMemory, a file that changed where the status isn't 0 or that isn't sound, a refusal of what takes no
-memory, and a call that is still refused when it is asked again. It takes minutes, and wants the programs that `rt run` makes in
+that differs and isn't OutOfMemory, a file that changed when the status isn't 0 or that isn't sound, a refusal of what takes no
+memory, and a call that is still refused when it is asked again. It takes minutes, and needs the programs that `rt run` makes in
 their crates' folders.
 """
 import argparse

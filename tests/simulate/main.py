@@ -17,12 +17,12 @@ A seed is a game, and the same seed is the same game. There are five kinds:
               crates/test_lives, which the gate runs on 30 seeds
     memory    a script of lives one of whose requests for memory is refused, where the program takes its memory from the C library
     file      `bin/kv` over a file of version 1, 2 or 3: its system calls are traced, and the power fails before any of them, with
-              each word that no sync followed old or new; wants strace
+              each word that no sync followed old or new; it needs strace
 
 What each prints is compared with what the engine in Python says, to the letter (`room` with a model of its own). It prints how much was
-played, and of a difference its seed and the least script that it found for it, and ends with 1. Where it can't go on, since the disk is
-full or it fails itself, it says so and ends with 2: that is no difference. It wants `bin/wbl` and `bin/kv`, which `./build` makes, and for
-`room` the program that `rt run` in crates/test_lives makes. The controls want nothing, since `rt try` builds their programs without
+played, and of a difference its seed and the least script that it found for it, and ends with 1. If it can't go on, since the disk is
+full or it fails itself, it says so and ends with 2: that is no difference. It needs `bin/wbl` and `bin/kv`, which `./build` makes, and for
+`room` the program that `rt run` in crates/test_lives makes. The controls need nothing, since `rt try` builds their programs without
 proofs.
 """
 import argparse
