@@ -215,7 +215,7 @@ ConflictsAt session key last = EndsRunIn (IsPreparation session (Err (Refused (C
 abbrev pub IsSettledUpTo : ℕ → Type 0
 IsSettledUpTo t = ComesTo (λ q. t ≤ q.ruling.persisted) ⊎ (((fault : Fault) × HasEnded fault) ⊎ HasLackedMemory)
 
--- the session's draw met the conflict, and all that was drawn by then is settled: a commit that was in the way is covered, or never will be
+-- the session's draw met the conflict, and all that was drawn by then is settled: a commit that was in the way is covered, or nobody waits for it any longer
 abbrev pub MeetsConflictOn : ℕ → Key → Type 0
 MeetsConflictOn session key = (last : ℕ) × ConflictsAt session key last × IsSettledUpTo last
 

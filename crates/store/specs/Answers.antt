@@ -70,7 +70,7 @@ AnswersNumber session key (Err error) =
 
 -- ---- a commit
 
--- a conflict is reported only if the session's draw was refused with it, and only once what was drawn by then is covered, or never will be
+-- a conflict is reported only if the session's draw was refused with it, and only once what was drawn by then is covered, or nobody waits for it any longer
 abbrev pub ReportsConflict : ℕ → StoreError → Type 0
 ReportsConflict session error = (key : Key) → error ≡ StoreError.Conflict key → IsPrepared session (Err (Refused (Conflict key))) × MeetsConflictOn session key
 

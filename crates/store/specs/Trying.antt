@@ -20,7 +20,7 @@ pub record CallsOn {F X A : Type 0} (step : F → X → A → X → F → Type 0
   pub leaves : session_of left ≡ session
 
 -- A try in vain: the changes returned Ok, and the draw of their transaction was refused for a conflict on this key. What was drawn by then is
--- covered, or never will be
+-- covered, or nobody waits for it any longer
 pub record MeetsConflict {F X T : Type 0} (step : F → X → Result T StoreError → X → F → Type 0) (session_of : X → ℕ) (old : F) (key : Key) (new : F) : Type 0 where
   pub value : T
   pub session : ℕ

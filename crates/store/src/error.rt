@@ -57,7 +57,8 @@ pub enum StoreError {
         name: String,
         fault: Fault,
     },
-    /// Another commit has written the key since the transaction began, and came first. It is covered now.
+    /// Another commit has written the key since the transaction began, and came first. It is covered now, unless the committer has ended
+    /// or lacks memory.
     #[error("another commit has written table and key {0}: begin again")]
     Conflict(Key),
     /// All tries that were allowed ended in a conflict, the last one on this key.
