@@ -1,4 +1,4 @@
--- The bytes of heads, requests and answers.
+-- The bytes of heads, requests and replies.
 use Rattle.std.specs.Prelude.{◌≡◌, ◌≢◌, ◌⊎◌, ◌<◌, ℕ, List, [], ◌∷◌, ◌++◌, length, flat_map, Bool, true, false, Option, Some, None}
 use Rattle.std.specs.Io.KnownBytes.{Appends, Consumes, IsAtEnd}
 use Rattle.std.specs.String.{string_bytes}
@@ -27,7 +27,7 @@ Fills false old new buffer = (rest : List ℕ) × Consumes old new rest × (leng
 
 -- ---- requests
 
--- what stands in the head
+-- what is in the head
 abbrev pub request_head : Request → Head
 request_head request.Begin = record { length = 0; code = 1; table = 0; number = 0 }
 request_head (request.Get key) = record { length = 0; code = 2; table = key.table; number = key.key }
@@ -59,7 +59,7 @@ IsRequestOf head payload None = (request : Request) → request_head request ≡
 abbrev pub IsRangeCode : ℕ → Type 0
 IsRangeCode code = (code ≡ 7) ⊎ (code ≡ 8)
 
--- the codes of requests that are no put and name no range
+-- the codes of requests that neither put a row nor name a range
 abbrev pub IsNoLongCode : ℕ → Type 0
 IsNoLongCode code = (code ≢ 3) × (code ≢ 7) × (code ≢ 8)
 
@@ -68,7 +68,7 @@ abbrev pub IsPlainRequest : ℕ → Option Request → Type 0
 IsPlainRequest code (Some request) = (request_head request ≡ record { length = 0; code = code; table = 0; number = 0 }) × (request_payload request ≡ [])
 IsPlainRequest code None = (code ≢ 1) × (code ≢ 5) × (code ≢ 6) × (code ≢ 9)
 
--- A frame was taken off the input, and it is this request; or one that is no request; or the input has ended, in less than a frame
+-- A frame was taken off the input, and it is this request; or it isn't a request; or the input has ended, in less than a frame
 abbrev pub ReceivesAfter : Head → Option (List ℕ) → Option (List ℕ) → Received → Type 0
 ReceivesAfter head old new (received.Request request) = (payload : List ℕ) × Consumes old new payload × (length payload ≡ head.length) × IsRequestOf head payload (Some request)
 ReceivesAfter head old new received.Other = (payload : List ℕ) × Consumes old new payload × (length payload ≡ head.length) × IsRequestOf head payload None
@@ -79,9 +79,9 @@ Receives old new (received.Request request) = Consumes old new (request_bytes re
 Receives old new received.Other = (head : Head) × (payload : List ℕ) × Consumes old new (head_bytes head ++ payload) × (length payload ≡ head.length) × IsRequestOf head payload None
 Receives old new received.End = (rest : List ℕ) × Consumes old new rest × (length rest < 112) × IsAtEnd new
 
--- ---- answers
+-- ---- replies
 
--- the frame of an answer: its status, a number, and bytes
+-- the frame of a reply: its status, a number, and bytes
 abbrev pub frame_bytes : Status → ℕ → List ℕ → List ℕ
 frame_bytes status number payload = head_bytes (record { length = length payload; code = status_code status; table = 0; number = number }) ++ payload
 
@@ -89,7 +89,7 @@ frame_bytes status number payload = head_bytes (record { length = length payload
 abbrev pub row_bytes : Key × List ℕ → List ℕ
 row_bytes row = (little_bytes 8 row.0.key ++ little_bytes 4 (length row.1)) ++ row.1
 
--- the frame of each answer
+-- the frame of each reply
 abbrev pub answer_bytes : Answer → List ℕ
 answer_bytes answer.Done = frame_bytes status.Done 0 []
 answer_bytes (answer.Committed None) = frame_bytes status.Done 0 []
@@ -101,12 +101,12 @@ answer_bytes (answer.Numbers numbers) = frame_bytes status.Done (length numbers)
 answer_bytes answer.Misuse = frame_bytes status.Misuse 0 []
 answer_bytes (answer.Refused reason text) = frame_bytes reason 0 (string_bytes text)
 
--- an answer whose bytes take memory: rows or numbers
+-- a reply whose bytes take memory: rows or numbers
 abbrev pub IsLong : Answer → Type 0
 IsLong (answer.Rows rows) = Unit {0}
 IsLong (answer.Numbers numbers) = Unit {0}
 IsLong _ = ⊥
 
--- the answer was sent, and nothing else; or it takes memory, and what was sent is that there is none
+-- the reply was sent, and nothing else; or it takes memory, and what was sent says that there is none
 abbrev pub Sends : Option (List ℕ) → Option (List ℕ) → Answer → Type 0
 Sends old new answer = Appends old new (answer_bytes answer) ⊎ (IsLong answer × Appends old new (frame_bytes status.OutOfMemory 0 []))

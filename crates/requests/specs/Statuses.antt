@@ -1,7 +1,7 @@
--- The number that stands for a status in an answer.
+-- The number that stands for a status in a reply.
 use Rattle.std.specs.Prelude.{ℕ}
 use Rattle.requests.specs.declared.status.Status.{Status}
-use Rattle.requests.specs.declared.status.Status.TheVariants.{Done, Missing, Misuse, File, OtherLayout, Damaged, NotOpened, Lost, NotClosed, Conflict, Full, RowTooLong, TooManyKeys, TooManyTransactions, OutOfMemory, Failed, Unknown, Refused}
+use Rattle.requests.specs.declared.status.Status.TheVariants.{Done, Missing, Misuse, File, OtherLayout, Damaged, NotOpened, Lost, NotClosed, NoStore, Conflict, Full, RowTooLong, TooManyKeys, TooManyTransactions, OutOfMemory, Failed, Unknown, Refused}
 
 abbrev pub status_code : Status → ℕ
 status_code Done = 0
@@ -13,6 +13,7 @@ status_code Damaged = 12
 status_code NotOpened = 13
 status_code Lost = 14
 status_code NotClosed = 15
+status_code NoStore = 16
 status_code Conflict = 20
 status_code Full = 22
 status_code RowTooLong = 24

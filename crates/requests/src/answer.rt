@@ -3,7 +3,7 @@ use base::Ts;
 use base::key::Key;
 use base::row::Row;
 
-/// What a store answers to a request.
+/// The reply to a request.
 #[derive(Debug, Drop)]
 pub enum Answer {
     /// It is done.

@@ -49,9 +49,9 @@ pub enum Request {
     Commit,
     /// Roll the open transaction back.
     Abort,
-    /// The rows of a range from the least key on, at most so many.
+    /// The rows of a range from the least key on, at most this many.
     First(KeyRange, u64),
-    /// The rows of a range from the greatest key on, at most so many.
+    /// The rows of a range from the greatest key on, at most this many.
     Last(KeyRange, u64),
     /// How full the store is.
     Status,

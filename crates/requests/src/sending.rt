@@ -12,7 +12,7 @@ use std::alloc::{AllocError, Global};
 use std::io;
 use std::io::{ErrorKind, Write};
 
-/// Writes the frame of the answer.
+/// Writes the frame of the reply.
 pub fn send<W: Write>(alloc: Global, output: &mut W, answer: &Answer) -> io::Result<()>
     ensures { OnOk result (Sends (W.contents output.old) (W.contents output.new) answer.now) }
 {

@@ -1,7 +1,7 @@
 ghost use Rattle.std.specs.Prelude.{◌≡◌};
 ghost use Rattle.requests.specs.Statuses.{status_code};
 
-/// How a request ended: the first number of its answer.
+/// How a request ended: the status of its reply.
 #[derive(Clone, Copy, Debug, PartialEq, Eq)]
 pub enum Status {
     /// The request is done.
@@ -16,6 +16,8 @@ pub enum Status {
     NotOpened,
     Lost,
     NotClosed,
+    /// There is no store of this name.
+    NoStore,
     Conflict,
     Full,
     RowTooLong,
@@ -31,7 +33,7 @@ impl Status {
     ghost use Rattle.std.specs.Prelude.{◌≡◌};
     ghost use Rattle.requests.specs.Statuses.{status_code};
 
-    /// The number that stands for it in an answer.
+    /// The number that stands for it in a reply.
     pub fn code(self) -> u16
         ensures { result ≡ status_code self }
     {
@@ -45,6 +47,7 @@ impl Status {
             Status::NotOpened => 13,
             Status::Lost => 14,
             Status::NotClosed => 15,
+            Status::NoStore => 16,
             Status::Conflict => 20,
             Status::Full => 22,
             Status::RowTooLong => 24,
