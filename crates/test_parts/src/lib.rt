@@ -11,6 +11,8 @@ mod free_slots;
 #[cfg(test)]
 mod gaps;
 #[cfg(test)]
+mod number_sets;
+#[cfg(test)]
 mod numbers;
 #[cfg(test)]
 mod snapshots;
