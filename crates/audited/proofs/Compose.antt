@@ -68,7 +68,7 @@ IsAudited-step {D} {G} state room room' image opening entries entries' step repl
       shows = s.1.shows;
     }
 
--- within a step that leads from a state to itself, images stand as between two steps
+-- within a step that leads from a state to itself, an image stands for what it stands for between two steps
 one_of_hand : (q : State) (cover : Cover) (hand : Option Hand) → Contains (of_hand q hand ++ present q ∷ []) cover → Contains (present q ∷ of_hand q hand) cover
 one_of_hand q cover a found = grind (arith)
 
@@ -107,7 +107,7 @@ Stays-same state room step orderly q shown = record {
   operations = omega arith;
 }
 
--- want of memory changes nothing
+-- a lack of memory changes nothing
 pub memory_changes_nothing : (reply : Reply) → reply ≡ Refused OutOfMemory → ChangesNothing reply
 memory_changes_nothing reply is = record {
   works = λ told. not_both (sym is ∙ told);
@@ -127,7 +127,7 @@ rows_change_nothing reply (rows, is) = record {
     not_both : Rows rows ≡ Refused DeviceFault → ⊥
     not_both e = cc
 
--- where nothing is kept, the history stays one of the room
+-- if nothing is kept, the history stays one of the room
 pub IsAudited-stays : {D : Type 0} {G : Ghosts D} (state : D → Device) (room room' : Room D G) (image : Image) (opening : Status) (entries entries' : List (Step × Note)) (step : Step)
     → IsAudited state room image opening entries → ((q : State) → Shows state room q → Stays state room room' step q) → entries' ≡ entries
     → IsAudited state room' image opening entries'

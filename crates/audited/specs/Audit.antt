@@ -1,4 +1,4 @@
--- What a history says of a room.
+-- What a history says about a room.
 use Rattle.std.specs.Prelude.{◌≡◌, ◌≢◌, ℕ, ◌+◌, ◌≤◌, List, [], ◌∷◌, ◌++◌, length, None}
 use Rattle.base.specs.declared.fault.Fault.TheVariants.{OutOfMemory, Device as DeviceFault}
 use Rattle.base.specs.declared.step.Step.{Step}
@@ -19,8 +19,8 @@ use Rattle.room.specs.declared.status.Status.{Status}
 use Rattle.room.specs.Room.{Shows, ShowsStatus, device_of}
 use Rattle.audited.specs.declared.receipt.Receipt.{Receipt}
 
--- The entries are a run, from the state that the image opens as under this history, which has the numbers of the
--- opening, to one that the room shows. So every image that its device may leave now stands for that last state
+-- The entries are a run from the state that the image opens as under this history, which has these numbers, to one that the room shows.
+-- So each image that its device may leave now stands for that last state
 pub record RunsFrom {D : Type 0} {G : Ghosts D} (state : D → Device) (room : Room D G) (image : Image) (history : List Commit) (lost : List ℕ) (opening : Status) (entries : List (Step × Note)) : Type 0 where
   pub start : State
   pub now : State
@@ -29,21 +29,21 @@ pub record RunsFrom {D : Type 0} {G : Ghosts D} (state : D → Device) (room : R
   pub run : Noted start entries now
   pub shows : Shows state room now
 
--- The image is one that opens, and whatever history it stands for, the entries are a run from there
+-- the image opens, and whatever history it stands for, the entries are a run from there
 pub record IsAudited {D : Type 0} {G : Ghosts D} (state : D → Device) (room : Room D G) (image : Image) (opening : Status) (entries : List (Step × Note)) : Type 0 where
   pub may_open : opening_fault image ≡ None
   pub runs : (history drawn : List Commit) (next : ℕ) (lost : List ℕ) → Stands image history drawn next → RunsFrom state room image history lost opening entries
 
--- so it is for some image: that of the device that was opened
+-- the same holds of some image: that of the device that was opened
 abbrev pub HasHistory : {D : Type 0} → {G : Ghosts D} → (D → Device) → Room D G → Status → List (Step × Note) → Type 0
 HasHistory state room opening entries = (image : Image) × IsAudited state room image opening entries
 
--- the state is that of an opening of some image that stands for some history
+-- some image that stands for some history opens as this state
 abbrev pub IsOpeningState : State → Type 0
 IsOpeningState q =
     (image : Image) × (history drawn : List Commit) × (next : ℕ) × (lost : List ℕ) × Stands image history drawn next × OpensAs image history lost q
 
--- the receipt's note ends a run of place + 1 steps from an opening
+-- the receipt's note ends a run of place + 1 steps from an opened state
 pub record EndsRun (receipt : Receipt) : Type 0 where
   pub start : State
   pub now : State
@@ -60,7 +60,7 @@ pub record Keeps (old new : List (Step × Note)) (step : Step) (reply : Reply) (
   pub asked : receipt.step ≡ step
   pub note : receipt.note ≡ note_of reply
 
--- the room shows the state as before, and so stands whatever a crash left meanwhile; no operation failed
+-- the room shows the state as before, and whatever a crash left meanwhile stands for that; no operation failed
 pub record Stays {D : Type 0} {G : Ghosts D} (state : D → Device) (old new : Room D G) (step : Step) (q : State) : Type 0 where
   pub shows : Shows state new q
   pub images : LeavesOnly (device_of state old) (device_of state new) (StandsAt q)

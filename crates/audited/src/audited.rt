@@ -1,5 +1,5 @@
-//! A step is made only where there is memory for its entry. One that is refused for want of memory changed nothing, so it is
-//! left out, and the entries are still a run.
+//! A step is made only if there is memory for its entry. One that is refused for lack of memory changed nothing, so it is left
+//! out, and the entries are still a run.
 
 ghost use Rattle.audited.specs.Audit.{HasHistory};
 
@@ -13,7 +13,7 @@ use base::step::{Note, Reply, Step};
 use pmem::Pmem;
 use room::{Room, Status};
 
-/// A room, the numbers that it was opened with, and its history: each step that it made since, with what was answered.
+/// A room, the numbers that it was opened with, and its history: each step that it made since, with the note of its reply.
 #[derive(Drop)]
 pub struct Audited<D: Pmem> {
     pub(crate) room: Room<D>,
@@ -32,7 +32,7 @@ impl<D: Pmem + Drop> Audited<D> {
     ghost use Rattle.room.specs.Room.{Shows, ShowsStatus, StepsTo};
     ghost use Rattle.audited.specs.Audit.{IsAudited, EndsRun, Keeps, Stays};
 
-    /// One step, which is kept in the history. For want of memory there is no receipt, and nothing is kept or changed.
+    /// One step, which is kept in the history. For lack of memory there is no receipt, and nothing is kept or changed.
     pub fn step(&mut self, step: Step) -> (Reply, Option<Receipt>)
         // The entry is the history's last: the step asked, and the note of the reply.
         ensures kept { IfSome result.1 (λ receipt. Keeps self.old.entries.items self.new.entries.items step result.0 receipt) }
@@ -42,7 +42,7 @@ impl<D: Pmem + Drop> Audited<D> {
         ensures stays { IfNone result.1 ((q : State) → Shows D.state self.old.room q → Stays D.state self.old.room self.new.room step q) }
         ensures opening { self.new.opening ≡ self.old.opening }
 
-        // From whatever image the history is a run, it stays one from there.
+        // If the history is a run from an image, it stays one from there.
         ensures audited { (image : Image) → IsAudited D.state self.old.room image self.old.opening self.old.entries.items → IsAudited D.state self.new.room image self.new.opening self.new.entries.items }
     {
         if self.entries.reserve(1).is_err() {

@@ -1,4 +1,4 @@
-//! A room with the history of its steps: each step that it made and what was answered.
+//! A room with the history of its steps: each step that it made, with the note of its reply.
 #![tactic(auto)]
 
 mod audited;

@@ -11,7 +11,7 @@ use base::fault::Fault;
 use base::step::{Note, Reply};
 use std::alloc::AllocError;
 
-/// What the history and the receipt keep of a reply. Memory may be wanting only where nothing was changed.
+/// What the history and the receipt keep of a reply. Memory can be lacking only if nothing was changed.
 pub fn notes_of(reply: &Reply) -> Result<(Note, Note), AllocError>
     ensures ok { IfOk result (λ notes. (notes.0 ≡ note_of reply.now) × (notes.1 ≡ note_of reply.now)) }
     ensures err { OnErr result (ChangesNothing reply.now) }
@@ -25,7 +25,7 @@ pub fn notes_of(reply: &Reply) -> Result<(Note, Note), AllocError>
     }
 }
 
-/// Whether the step was refused for want of memory.
+/// Whether the step was refused for lack of memory.
 pub fn wants_memory(reply: &Reply) -> bool
     ensures { IsTrue result ↔ (reply.now ≡ Refused OutOfMemory) }
 {

@@ -1,5 +1,5 @@
-//! The history begins empty at the image of this very device, so that whoever gets the room back can say where its entries
-//! start.
+//! The history begins empty at the image of this very device, so that a program that gets the room back can say where its
+//! entries start.
 
 use crate::audited::Audited;
 use base::fault::Fault;
@@ -21,7 +21,8 @@ impl<D: Pmem + Drop + Send + Sync> Audited<D> {
     ghost use Rattle.room.specs.Room.{Shows, ShowsStatus, device_of};
     ghost use Rattle.audited.specs.Audit.{IsAudited};
 
-    /// Opens a device at rest, as a room is opened, with an empty history; returns it with the fault where it is refused.
+    /// Opens a device at rest, as a room is opened, with an empty history. If that is refused, returns the device with the
+    /// fault.
     pub fn open<R: Threads + Sync>(
         rt: &R,
         alloc: Global,
@@ -38,22 +39,22 @@ impl<D: Pmem + Drop + Send + Sync> Audited<D> {
             → Stands (image_of (D.state device)) history drawn next
             → (q : State) × OpensAs (image_of (D.state device)) history lost q × Shows D.state audited.room q × ShowsStatus q audited.opening) }
 
-        // It opens an image that has none of the faults that an opening reports, and fails with the first of them, or for
-        // want of memory, or where an operation fails.
+        // It opens an image that has none of the faults that opening reports. It fails with the first of them, or for lack of
+        // memory, or if an operation fails.
         ensures may_open { IfOk result (λ audited. opening_fault (image_of (D.state device)) ≡ None) }
         ensures no_failure { IfOk result (λ audited. HasNoFailure (D.state device) (device_of D.state audited.room)) }
         ensures fault { IfErr result (λ e. IsRefusal (opening_fault (image_of (D.state device))) (D.state device) (D.state e.1) e.0) }
 
-        // What is wrong with its log is reported before want of memory.
+        // What is wrong with its log is reported before lack of memory.
         ensures log { IfErr result (λ e. ReportsLogFault (image_of (D.state device)) e.0) }
 
-        // The operations, and the words of superblock and slots, are those of the room's opening.
+        // The operations, and the words of superblock and slots, are as when a room is opened.
         ensures made { IfOk result (λ audited. MakesOpening (image_of (D.state device)) (D.state device) (device_of D.state audited.room)) }
         ensures superblock { IfOk result (λ audited. (word : ℕ) → word < 8 → IsSettledAt (device_of D.state audited.room) word (slice_index (updated (image_of (D.state device))) word)) }
         ensures slots { IfOk result (λ audited. (word : ℕ) → 8 + 32 * (layout_of (image_of (D.state device))).places ≤ word → word < (D.state device).words
             → IsSettledAt (device_of D.state audited.room) word (slice_index (opened_slots (image_of (D.state device))) word)) }
 
-        // A crash at any moment leaves the same history, as a crash within the room's opening.
+        // A crash at any moment leaves the same history, as a crash does while a room is opened.
         ensures images { (history drawn : List Commit) (next : ℕ)
             → Stands (image_of (D.state device)) history drawn next
             → MatchResult result

@@ -1,4 +1,4 @@
--- How a line that is no command is met, passed on and reported.
+-- How a line that isn't a command is met, passed on and reported.
 use Rattle.std.proofs.Common.{◌≡◌, ℕ, ◌+◌, ◌-◌, ◌^◌, false, List, [], ◌∷◌, ◌++◌, length, sym, ◌∙◌, ap, subst, append-nil, arith}
 use Rattle.std.specs.Prelude.{Option, Some, None, is_some, Result, IsErrAnd, IfErr, IfSome, All, min, ⊤}
 use Rattle.std.specs.Io.KnownBytes.{Appends}

@@ -12,13 +12,13 @@ use Rattle.machine.specs.Machine.{State, Hand, Stepped, refused, answered, memor
 use Rattle.console.specs.Obeyed.{is_busy}
 use Rattle.console.specs.Rounds.{QuietTicks}
 
--- ---- what a tick answers
+-- ---- the reply to a tick
 
 -- of those that aren't refused, Idle alone leaves nothing to do
 idle-by : (q : State) (hand : Option Hand) → is_busy (ticked q hand) ≡ false → ticked q hand ≡ reply.Idle
 idle-by q a e = grind (arith, true≢false)
 
--- no batch is in hand, and there is nothing to choose
+-- no batch is pending, and there is nothing to choose
 record IsQuiet (q : State) (hand : Option Hand) : Type 0 where
   none : hand ≡ None
   idle : is_idle q ≡ true
@@ -35,7 +35,7 @@ refused-not fault e = cc e
 stay : (q q' : State) (answer : Reply) → Stepped q step.Commit answer q' → is_busy answer ≡ false → is_failure answer ≡ false → q' ≡ q
 stay q q' answer a quiet works = grind (arith, quiet-of, idle-by, quiet, true≢false)
 
--- where a tick answered Idle, it was allowed, and changed nothing
+-- if the reply to a tick is Idle, it was allowed, and changed nothing
 record WasIdle (q q' : State) : Type 0 where
   allowed : refusal q step.Commit ≡ None
   quiet : IsQuiet q q.hand

@@ -1,4 +1,4 @@
--- How the history is kept from an opening to a stop.
+-- How the history is kept from when an image is opened to a stop.
 use Rattle.std.proofs.Common.{◌≡◌, ℕ, List, [], ◌++◌, refl, sym, ◌∙◌, ap, subst, append-nil, append_assoc, arith}
 use Rattle.std.specs.Prelude.{Option, All}
 use Rattle.std.proofs.lemmas.List.Elements.{All-cons, All-contains}
@@ -23,7 +23,7 @@ extends-none history = ([], sym (append-nil history))
 pub extends-trans : (a b c : List Commit) → Extends a b → Extends b c → Extends a c
 extends-trans a b c (more, e) (rest, f) = (more ++ rest, f ∙ (ap (λ (l : List Commit). l ++ rest) e ∙ append_assoc a more rest))
 
--- A room
+-- ---- a room
 
 pub leads-nowhere : {D : Type 0} {G : Ghosts D} (state : D → Device) (room : Room D G) (By : State → State → Type 0) → ((q : State) → By q q) → Leads state room room By
 leads-nowhere state room By same = record { each = λ q shows. (q, same q, shows) }
@@ -47,7 +47,7 @@ leads-step state old new step reply steps = record {
   each = λ q shows. let made = steps q shows in (made.0, made.1.stepped, made.1.shows);
 }
 
--- An image
+-- ---- an image
 
 -- the cover's commits begin with the state's history
 abbrev Adds : State → Cover → Type 0
@@ -69,7 +69,7 @@ keeps-at history q image longer s = keeps-under history q s.0 image longer (All-
 pub keeps-closed : (history : List Commit) (q : State) (image : Image) → Extends history q.history → StandsClosed q image → KeepsHistory q.layout history image
 keeps-closed history q image longer s = keeps-under history q (closed q) image longer (uncovered q, refl) s
 
--- A file
+-- ---- a file
 
 pub file-restarted : (device : Device) (image : Image) (file : List ℕ) → device ≡ restarted image → IsFileOf (image_of device) file → IsFileOf image file
 file-restarted device image file is of = subst (λ (words : Image). IsFileOf words file) (ap image_of is ∙ image-restarted image) of

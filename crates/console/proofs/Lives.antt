@@ -67,7 +67,7 @@ lives-keep before input old new after lives = record {
       file-of-life image history lives.lines lives.keeps lives.begun lives.said lives.ended lives.device after (lives.each image held history drawn next stands);
 }
 
--- the lines are obeyed from any state that the opened room shows, and this is said of the state then
+-- the lines lead from each state that the opened room shows to one of which this holds
 pub begun-of : {D : Type 0} {G : Ghosts D} (state : D → Device) (opened : Room D G) (before words : List ℕ) (image : Image) (history drawn : List Commit) (next : ℕ)
     (lines : List Text) (keeps : Option Survivor) (begun said : Text) (Last : State → Type 0)
     → HoldsWords before words → HoldsWords before image → Stands image history drawn next

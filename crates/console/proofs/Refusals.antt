@@ -40,7 +40,7 @@ pub fault-on : {T : Type 0} (r : Result T Stop) (stop : Stop) (P Q : Fault → T
     → IfRefused P stop → IfErr r (IfRefused Q)
 fault-on a stop b d is says p = grind (arith, fault-by)
 
--- nothing is printed beside the one or the other
+-- nothing is printed besides
 pub unprinted : {A B : Type 0} (printed : Option Text) → A ⊎ B → A ⊎ ((printed ≡ printed) × B)
 unprinted printed d = grind (arith)
 
@@ -105,7 +105,7 @@ refused-so order stop file input old mid new a met told = grind (arith, fault-by
 ends-with : (mid new : Option Text) (line : Text) → IsSome mid → Appends mid new line → EndsWith new line
 ends-with a new line known says = grind (arith, false≢true)
 
--- the line of the refusal is the last, where all bytes are known
+-- the line of the refusal is the last, if all bytes are known
 pub refused-last : (stop : Stop) (mid new : Option Text) (stopped : Option Stop) → IsSome mid
     → IfSome stopped (IfRefused (λ fault. IsFaultOf stop fault × Appends mid new (refusal_line fault)))
     → IfSome stopped (IfRefused (λ fault. EndsWith new (refusal_line fault)))

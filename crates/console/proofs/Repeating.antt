@@ -82,7 +82,7 @@ no_both b y n = cc
 refused-not : (answer : Reply) (fault : Fault) → answer ≡ reply.Refused fault → is_answered answer ≡ true → ⊥
 refused-not answer fault is goes = no_both _ goes (ap is_answered is)
 
--- a step that is answered is a visit
+-- a step that isn't refused is a visit
 record IsVisit (q : State) (answer : Reply) (q' : State) : Type 0 where
   works : q.failed ≡ false
   answers : answer ≡ collected q
@@ -94,7 +94,7 @@ visit-of q answer q' a goes = grind (arith, refused-not, works-before)
 collected-goes : (q : State) → is_answered (collected q) ≡ true
 collected-goes q = grind (arith)
 
--- so many and one more, all answered, from a state in which the device works
+-- that many and one more, none refused, from a state in which the device works
 record AreVisits (more : ℕ) (q : State) (answer : Reply) (q' : State) : Type 0 where
   works : q.failed ≡ false
   answers : answer ≡ collected (visits more q)
@@ -108,7 +108,7 @@ visits-are : (more : ℕ) (q : State) → q.failed ≡ false → Ticks step.Coll
 visits-are zero q works = answered (allowed q works) refl refl
 visits-are (suc more) q works = grind (arith, visits-are more q works, collected-goes, allowed, works-still, one-more)
 
--- as many visits as needed come to what all come to
+-- as many visits as needed come to the same as all
 all-made : (q : State) (all more : ℕ) (answer : Reply) (q' : State) → more ≤ visits_needed q.layout all - 1 → (more ≡ visits_needed q.layout all - 1) ⊎ (is_answered answer ≡ false)
     → Ticks step.Collect is_answered more q answer q' → Collects q all answer q'
 all-made q all more answer q' few done made = by (is_answered answer) refl done

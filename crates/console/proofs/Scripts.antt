@@ -1,4 +1,4 @@
--- How a script ends that is none, and how the lines of lives add up.
+-- How the lines of lives add up.
 use Rattle.std.proofs.Common.{◌≡◌, ◌<◌, ◌+◌, ℕ, List, ◌∷◌, ◌++◌, length, drop, get_or, sym, ap, ◌∙◌, arith, append_assoc}
 use Rattle.std.specs.Prelude.{Option, Result, OnOk}
 use Rattle.std.specs.Io.KnownBytes.{Appends}

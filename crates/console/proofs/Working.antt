@@ -1,4 +1,4 @@
--- What the steps that threads made of an image keep of it.
+-- What of an image is kept by the steps that threads made on it.
 use mathlib.Core.HLevel.{⊥_prop}
 use Rattle.std.proofs.Common.{◌≡◌, ◌⊎◌, ℕ, ◌*◌, true, List, [], ◌∷◌, length, inl, inr, sym, ◌∙◌, ap, subst, arith}
 use Rattle.std.proofs.Math.Logic.{∥∥₁_elim, ∥∥₁_map}
@@ -95,7 +95,7 @@ told-other image sessions fault told memory is free other = record {
       (made.0, made.1, (made.2, record { slots = λ e. other (sym is ∙ e); device = λ e. never-device fault told memory is e }));
 }
 
--- what is reported of a load on a device without a fuse
+-- what is reported for a load on a device without a fuse
 pub load-told : (image : Image) (sessions commits : ℕ) (fault told : Fault) → (fault ≡ DeviceFault → told ≡ OutOfMemory) → (told ≡ OutOfMemory) ⊎ (told ≡ fault)
     → IsLoadFault image sessions commits fault → (told ≡ OutOfMemory) ⊎ IsThreadsFault sessions commits image told
 load-told image sessions commits fault told memory (inl is) load = inl is
@@ -150,7 +150,7 @@ late-fault state room file words slice sessions commits old fault size holds sam
       appends-none old,
     )
 
--- what a close leaves is sound
+-- what closing leaves is sound
 pub reading-fault-so : {D : Type 0} {G : Ghosts D} (state : D → Device) (room : Room D G) (image slice : Image) (fault : Fault) → slice ≡ image → ((q : State) → Shows state room q → StandsClosed q image)
     → IsReadRefusal slice fault → (fault ≡ OutOfMemory) ⊎ ((q : State) → Shows state room q → IsClosingFault q fault)
 reading-fault-so state room image slice fault same closed (inr h) = inl h.1

@@ -35,23 +35,23 @@ abbrev pub kept_by : Command → Option Survivor
 kept_by (Crash keeps) = Some keeps
 kept_by _ = None
 
--- what is kept where a command comes to this
+-- what is kept if a command comes to this
 abbrev pub kept_of : Outcome → Option Survivor
 kept_of (Replied answer) = None
 kept_of (Crashed keeps) = Some keeps
 
--- what a line keeps by a crash, where it is a command or is skipped
+-- what a line keeps by a crash, if it is a command or is skipped
 abbrev pub kept_in : Text → Option (Option Survivor)
 kept_in line = option_map (option_and_then kept_by) (line_of line)
 
--- the line is a command that is no crash, or is skipped
+-- the line is a command that isn't a crash, or is skipped
 abbrev pub IsPassed : Text → Type 0
 IsPassed line = kept_in line ≡ Some None
 
--- ---- the line that is none
+-- ---- the line that isn't a command
 
--- The input has a line of this number that is no command, and each line before it is a command that is no crash, or is
--- skipped. Numbers begin at 1, and a number past the greatest that can be printed is printed as that one
+-- The input has a line of this number that isn't a command, and each line before it is a command that isn't a crash, or is skipped.
+-- Numbers begin at 1, and a number past the greatest that can be printed is printed as that one
 pub record IsBadLine (input : Option Text) (number : ℕ) : Type 0 where
   pub before : List Text
   pub line : Text
@@ -60,15 +60,15 @@ pub record IsBadLine (input : Option Text) (number : ℕ) : Type 0 where
   pub counted : number ≡ min (length before + 1) (2 ^ 64 - 1)
   pub read : BeginsWith input (line ∷ before)
 
--- the lines before it are obeyed from whatever state the room shows, and no more is printed
+-- the lines before it are run from each state that the room shows, and no more is printed
 pub record MeetsBadLine {D : Type 0} {G : Ghosts D} (state : D → Device) (room : Room D G) (input old new : Option Text) (number : ℕ) : Type 0 where
   pub is : IsBadLine input number
   pub said : Text
   pub prints : Appends old new said
   pub obeys : (q : State) → Shows state room q → (q' : State) × ObeysLines q is.before said None q'
 
--- whatever history the image in the file stands for, it is opened and the lines before the bad one are obeyed, and no more is
--- printed, but this at the end
+-- Whatever history the image in the file stands for, it is opened and the lines before the bad one are run. No more is printed, except
+-- this at the end
 pub record EndsAtBadLine (file : List ℕ) (input old new : Option Text) (number : ℕ) (ended : Text) : Type 0 where
   pub is : IsBadLine input number
   pub begun : Text
@@ -77,12 +77,12 @@ pub record EndsAtBadLine (file : List ℕ) (input old new : Option Text) (number
   pub each : (image : Image) → HoldsWords file image → (history drawn : List Commit) (next : ℕ) → Stands image history drawn next
       → IsBegun image history is.before None begun said
 
--- what is printed is that the line of this number is no command
+-- what is printed is that the line of this number isn't a command
 abbrev pub PrintsBadLine : Option Text → Option Text → ℕ → Type 0
 PrintsBadLine old new number = Appends old new (text_of (printed.NotACommand number) ++ 10 ∷ [])
 
--- the line of this number is to blame: of a run, one of the input, which ends it; of lives, one of the script, and then nothing
--- is printed before. This is printed at the end
+-- The line of this number is to blame: of a run, a line of the input, which ends it; of lives, a line of the script, and then nothing is
+-- printed before. This is printed at the end
 abbrev pub EndsAtLine : Order → List ℕ → Option Text → Option Text → Option Text → ℕ → Text → Type 0
 EndsAtLine (Format name wide slots places window) file input old new number ended = ⊥
 EndsAtLine (Run name) file input old new number ended = EndsAtBadLine file input old new number ended
@@ -90,13 +90,13 @@ EndsAtLine (Check name) file input old new number ended = ⊥
 EndsAtLine (Threads name sessions commits) file input old new number ended = ⊥
 EndsAtLine (Lives name) file input old new number ended = IsWrongLine file number × Appends old new ended
 
--- the line of this number is to blame, and what is printed at the end is that it is no command
+-- the line of this number is to blame, and what is printed at the end is that it isn't a command
 abbrev pub ReportsLine : Order → List ℕ → Option Text → Option Text → Option Text → ℕ → Type 0
 ReportsLine order file input old new number = EndsAtLine order file input old new number (text_of (printed.NotACommand number) ++ 10 ∷ [])
 
 -- ---- why a subcommand ended
 
--- this of the number of the line, where a line is to blame
+-- if a line is to blame, this holds of its number
 abbrev pub IfBadLine : (ℕ → Type 0) → Stop → Type 0
 IfBadLine P (NotACommand number) = P number
 IfBadLine P (Refused fault) = ⊤

@@ -20,6 +20,6 @@ pub record IsFileKept (device : Device) (keeps : Survivor) (file : List ℕ) : T
   pub of_image : IsFileOf image file
   pub chosen : IsChosen (choice_of keeps) device image
 
--- the same at the end of a life, where it was a crash
+-- the same at the end of a life, if that was a crash
 abbrev pub KeepsNamed : Device → Option Survivor → List ℕ → Type 0
 KeepsNamed device keeps file = IfSome keeps (λ survivor. IsFileKept device survivor file)

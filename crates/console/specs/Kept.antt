@@ -19,11 +19,11 @@ use Rattle.command_line.specs.declared.orders.Order.TheVariants.{Format, Run, Ch
 abbrev pub Extends : List Commit → List Commit → Type 0
 Extends history longer = (more : List Commit) × (longer ≡ history ++ more)
 
--- from whatever state the room showed, it has come to one that it shows now, by what these words say
+-- from each state that the room showed, it has come to one that it shows now, and the two are related like this
 pub record Leads {D : Type 0} {G : Ghosts D} (state : D → Device) (old new : Room D G) (By : State → State → Type 0) : Type 0 where
   pub each : (q : State) → Shows state old q → (q' : State) × By q q' × Shows state new q'
 
--- whatever state the room showed, its close had no fault, and a crash of the device leaves what that close leaves
+-- whatever state the room showed, it was closed without a fault, and a crash of the device leaves what closing leaves
 pub record HasClosed {D : Type 0} {G : Ghosts D} (state : D → Device) (room : Room D G) (device : Device) : Type 0 where
   pub each : (q : State) → Shows state room q → (image : Image) → MayLeave device image → StandsClosed q image
   pub may_close : (q : State) → Shows state room q → closing_fault q ≡ None
@@ -43,12 +43,12 @@ pub record IsFileWith (layout : Layout) (history : List Commit) (file : List ℕ
   pub of_image : IsFileOf image file
   pub keeps : KeepsHistory layout history image
 
--- whatever history the image in the old file stands for, the new file keeps, with the layout that the image has once it is open
+-- the new file keeps whatever history the image in the old file stands for, with the layout that the image has once it is open
 pub record KeepsHistories (before after : List ℕ) : Type 0 where
   pub each : (image : Image) → HoldsWords before image → (history drawn : List Commit) (next : ℕ) → Stands image history drawn next
       → IsFileWith (opened_layout (layout_of image)) history after
 
--- what a subcommand leaves in FILE: of a format the fresh image, of a run and of threads what keeps the histories
+-- what a subcommand leaves in FILE: a format the fresh image, a run and threads what keeps the histories
 abbrev pub Leaves : Order → List ℕ → List ℕ → Type 0
 Leaves (Format name wide slots places window) before after = IsFileOf (fresh_image (asked_layout wide slots places window)) after
 Leaves (Run name) before after = KeepsHistories before after
@@ -56,7 +56,7 @@ Leaves (Check name) before after = ⊥
 Leaves (Threads name sessions commits) before after = ∥ KeepsHistories before after ∥₁
 Leaves (Lives name) before after = ⊥
 
--- a subcommand that ends well writes FILE, but for a check and for lives
+-- a subcommand that ends well writes FILE, except for a check and for lives
 abbrev pub writes_file : Order → Bool
 writes_file (Format name wide slots places window) = true
 writes_file (Run name) = true
@@ -64,7 +64,7 @@ writes_file (Check name) = false
 writes_file (Threads name sessions commits) = true
 writes_file (Lives name) = false
 
--- where the order is a check, this
+-- this, if the order is a check
 abbrev pub IfCheck : Order → Type 0 → Type 0
 IfCheck (Format name wide slots places window) P = ⊤
 IfCheck (Run name) P = ⊤
@@ -72,7 +72,7 @@ IfCheck (Check name) P = P
 IfCheck (Threads name sessions commits) P = ⊤
 IfCheck (Lives name) P = ⊤
 
--- where the order is lives, this
+-- this, if the order is lives
 abbrev pub IfLives : Order → Type 0 → Type 0
 IfLives (Format name wide slots places window) P = ⊤
 IfLives (Run name) P = ⊤
@@ -80,7 +80,7 @@ IfLives (Check name) P = ⊤
 IfLives (Threads name sessions commits) P = ⊤
 IfLives (Lives name) P = P
 
--- where the order reads no input, this: all but a run
+-- this, if the order reads no input: all but a run
 abbrev pub IfReadsNoInput : Order → Type 0 → Type 0
 IfReadsNoInput (Format name wide slots places window) P = P
 IfReadsNoInput (Run name) P = ⊤

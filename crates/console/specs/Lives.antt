@@ -21,7 +21,7 @@ use Rattle.console.specs.Obeyed.{ObeysLines}
 abbrev pub opened_text : State → Text
 opened_text q = opened_line q.ruling.gate q.ruling.persisted q.ruling.dirty q.next q.ruling.gaps
 
--- the line of a close from the state
+-- the line of closing in the state
 abbrev pub closed_text : State → Text
 closed_text q = closed_line (closing_gate q) (q.next - 1) q.next
 
@@ -32,15 +32,15 @@ pub record IsOpenable (file : List ℕ) : Type 0 where
   pub holds : HoldsWords file image
   pub sound : opening_fault image ≡ None
 
--- How a life ends in this state: by a crash, which leaves an image that stands for what must be kept then, or by a close
--- that has no fault. The line that is printed, and what FILE holds then
+-- How a life ends in this state: by a crash, which leaves an image that stands for what must be kept then, or by closing without a
+-- fault. The line that is printed, and what FILE holds then
 abbrev pub Ends : State → Option Survivor → Text → List ℕ → Type 0
 Ends q (Some keeps) said file =
     (image : Image) × IsFileOf image file × StandsAt q image × (said ≡ (codes "stopped " ++ survivor_text keeps) ++ 10 ∷ [])
 Ends q None said file =
     (image : Image) × IsFileOf image file × StandsClosed q image × (closing_fault q ≡ None) × (said ≡ closed_text q ++ 10 ∷ [])
 
--- the image that stands for the history is opened, and the lines are obeyed (their list begins with the last)
+-- the image that stands for the history is opened, and the lines are run (their list begins with the last)
 pub record IsBegun (image : Image) (history : List Commit) (lines : List Text) (keeps : Option Survivor) (begun said : Text) : Type 0 where
   pub first : State
   pub last : State
@@ -48,16 +48,16 @@ pub record IsBegun (image : Image) (history : List Commit) (lines : List Text) (
   pub announced : begun ≡ opened_text first ++ 10 ∷ []
   pub obeys : ObeysLines first lines said keeps last
 
--- so a life is begun, and it ends on this device, which shows the last state
+-- a life is begun like that, and it ends on this device, which shows the last state
 pub record IsLife (image : Image) (history : List Commit) (lines : List Text) (keeps : Option Survivor) (begun said ended : Text) (device : Device) (file : List ℕ) : Type 0 where
   pub begins : IsBegun image history lines keeps begun said
   pub volatile : VolatileState
   pub shows : Shows volatile device begins.last
   pub ends : Ends begins.last keeps ended file
 
--- the image in the old file may be opened, and these lines of the input are read (their list begins with the last); whatever
--- history the image stands for, this is a life of it by them, and no more is printed. After a crash FILE has of each word of the
--- life's device the survivor that was asked for
+-- The image in the old file opens, and these lines of the input are read (their list begins with the last). Whatever history the image
+-- stands for, this is a life of it by them, and no more is printed. After a crash FILE has of each word of the life's device the survivor
+-- that was asked for
 pub record Lives (before : List ℕ) (input old new : Option (List ℕ)) (after : List ℕ) : Type 0 where
   pub opens : IsOpenable before
   pub lines : List Text

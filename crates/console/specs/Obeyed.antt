@@ -1,4 +1,4 @@
--- What the program makes of a plain state by commands and lines, and what it prints.
+-- How the program changes a plain state by commands and lines, and what it prints.
 use Rattle.std.specs.Prelude.{suc, zero, ◌≡◌, ◌⊎◌, ℕ, ◌-◌, ◌^◌, ◌≤◌, Bool, true, false, List, [], ◌∷◌, ◌++◌, codes, decimal, Option, Some, None}
 use Rattle.base.specs.declared.fault.Fault.TheVariants.{TooLong}
 use Rattle.base.specs.declared.step.Step.{Step}
@@ -20,13 +20,13 @@ use Rattle.console.specs.declared.lines.Outcome.TheVariants.{Replied, Crashed}
 
 -- ---- commands
 
--- this step and so many more, each after a reply that lets it go on; the last reply, and the state then
+-- this step and that many more, each after a reply that lets it go on; the last reply, and the state then
 abbrev pub Ticks : Step → (Reply → Bool) → ℕ → State → Reply → State → Type 0
 Ticks tick goes_on zero q answer q' = Stepped q tick answer q'
 Ticks tick goes_on (suc more) q answer q' =
     (before : Reply) × (mid : State) × Ticks tick goes_on more q before mid × (goes_on before ≡ true) × Stepped mid tick answer q'
 
--- there may be more to do: the reply is no refusal, and not that nothing is left
+-- there may be more to do: the reply isn't a refusal, and not that nothing is left
 abbrev pub is_busy : Reply → Bool
 is_busy reply.Idle = false
 is_busy (reply.Refused fault) = false
@@ -47,7 +47,7 @@ abbrev pub Cycles : State → Reply → State → Type 0
 Cycles q answer q' =
     (more : ℕ) × Ticks step.Commit is_tick more q answer q' × (more ≤ 2 ^ 64 - 2) × ((more ≡ 2 ^ 64 - 2) ⊎ (is_tick answer ≡ false))
 
--- the reply is no refusal
+-- the reply isn't a refusal
 abbrev pub is_answered : Reply → Bool
 is_answered (reply.Refused fault) = false
 is_answered _ = true
@@ -57,8 +57,8 @@ abbrev pub Collects : State → ℕ → Reply → State → Type 0
 Collects q visits answer q' =
     (more : ℕ) × Ticks step.Collect is_answered more q answer q' × (more ≤ visits - 1) × ((more ≡ visits - 1) ⊎ (is_answered answer ≡ false))
 
--- What a command that isn't a crash answers, and the state then. A row that is too long for any slot is refused before anything else
--- is. One that is too long for the slots of this image is refused by the step
+-- The reply to a command that isn't a crash, and the state then. A row that is too long for any slot is refused before anything else.
+-- One that is too long for the slots of this image is refused by the step
 abbrev pub Answers : State → Command → Reply → State → Type 0
 Answers q (asks.Step s) answer q' = Stepped q (as_step s) answer q'
 Answers q asks.LongRow answer q' = (answer ≡ reply.Refused TooLong) × (q' ≡ q)
@@ -93,7 +93,7 @@ reply_text (reply.Visited slot) = codes "slot " ++ decimal slot
 reply_text reply.SweepEnd = codes "sweep end"
 reply_text (reply.Refused fault) = refused_text fault
 
--- the line of a command's reply, which isn't that the device failed, and what a crash keeps
+-- the line of a command's reply, which doesn't say that the device failed, and what a crash keeps
 abbrev pub SaysOf : Outcome → Text → Option Survivor → Type 0
 SaysOf (Replied answer) said keeps = (is_failure answer ≡ false) × (said ≡ reply_text answer ++ 10 ∷ []) × (keeps ≡ None)
 SaysOf (Crashed survivor) said keeps = (said ≡ []) × (keeps ≡ Some survivor)
@@ -104,17 +104,17 @@ Obeys q command said keeps q' = (outcome : Outcome) × ComesTo q command outcome
 
 -- ---- lines
 
--- the same of what a line is read as
+-- the same for what a line is read as
 abbrev pub ObeysRead : State → Option (Option Command) → Text → Option Survivor → State → Type 0
 ObeysRead q None said keeps q' = ⊥
 ObeysRead q (Some None) said keeps q' = (said ≡ []) × (keeps ≡ None) × (q' ≡ q)
 ObeysRead q (Some (Some command)) said keeps q' = Obeys q command said keeps q'
 
--- the same of a line
+-- the same for a line
 abbrev pub ObeysLine : State → Text → Text → Option Survivor → State → Type 0
 ObeysLine q line = ObeysRead q (line_of line)
 
--- the same of lines, a list that begins with the last, which alone may be a crash
+-- the same for lines, a list that begins with the last, which alone may be a crash
 abbrev pub ObeysLines : State → List Text → Text → Option Survivor → State → Type 0
 ObeysLines q [] said keeps q' = (said ≡ []) × (keeps ≡ None) × (q' ≡ q)
 ObeysLines q (line ∷ before) said keeps q' =

@@ -27,8 +27,8 @@ refusal_line fault = refused_text fault ++ 10 ∷ []
 
 -- ---- the faults
 
--- No fault is that the device failed: the program's device has no fuse, so that an operation fails only where a store takes
--- memory and there is none, and then that is the fault
+-- No fault is that the device failed: the program's device has no fuse, so an operation fails only if a store takes memory and there is
+-- none, and then that is the fault
 
 -- the numbers of a format are out of their limits
 abbrev pub IsFormatFault : Bool → ℕ → ℕ → ℕ → Fault → Type 0
@@ -41,7 +41,7 @@ pub record HasFault (file : List ℕ) (Is : Image → Fault → Type 0) (fault :
   pub holds : HoldsWords file image
   pub is : Is image fault
 
--- the file's length is no image's; or it has the words of an image with this fault
+-- no image has the file's length; or the file has the words of an image with this fault
 abbrev pub IsFileFault : List ℕ → (Image → Fault → Type 0) → Fault → Type 0
 IsFileFault file Is fault = ((is_image_length (length file) ≡ false) × (fault ≡ BadGeometry)) ⊎ HasFault file Is fault
 
@@ -57,8 +57,8 @@ IsOpeningFault image fault = opening_fault image ≡ Some fault
 abbrev pub IsClosingFault : State → Fault → Type 0
 IsClosingFault q fault = closing_fault q ≡ Some fault
 
--- whatever history the image in the file stands for, it is opened, all lines of the input are obeyed, and the state then has this
--- fault at its close; no more is printed, but this at the end
+-- Whatever history the image in the file stands for, it is opened, all lines of the input are run, and the state then has this fault when
+-- it is closed. No more is printed, except this at the end
 pub record EndsAtClose (file : List ℕ) (input old new : Option Text) (fault : Fault) (ended : Text) : Type 0 where
   pub lines : List Text
   pub reads : Reads input lines None
@@ -79,7 +79,7 @@ EndsRefused (Check name) file input old new fault ended = IsFileFault file IsDam
 EndsRefused (Threads name sessions commits) file input old new fault ended = IsFileFault file (IsThreadsFault sessions commits) fault × Appends old new ended
 EndsRefused (Lives name) file input old new fault ended = (fault ≡ BadGeometry) × HasBadGeometry file × Appends old new ended
 
--- the fault is want of memory, or the subcommand's, and then its line ends what is printed
+-- the fault is lack of memory, or the subcommand's, and then its line ends what is printed
 abbrev pub Refuses : Order → List ℕ → Option Text → Option Text → Option Text → Fault → Type 0
 Refuses order file input old new fault = (fault ≡ OutOfMemory) ⊎ EndsRefused order file input old new fault (refusal_line fault)
 
@@ -95,23 +95,23 @@ EndsWith known ended = IfSome known (λ text. (before : Text) × (text ≡ befor
 
 -- ---- why a subcommand ended
 
--- this of the fault, where a refusal ended it
+-- if a refusal ended it, this holds of its fault
 abbrev pub IfRefused : (Fault → Type 0) → Stop → Type 0
 IfRefused P (Refused fault) = P fault
 IfRefused P (NotACommand number) = ⊤
 IfRefused P (Broken reason) = ⊤
 
--- a refusal ended it for want of memory alone
+-- only for lack of memory a refusal ended it
 abbrev pub WantsMemory : Stop → Type 0
 WantsMemory stop = IfRefused (λ fault. fault ≡ OutOfMemory) stop
 
--- this is the fault of the refusal that ended it, or want of memory to print
+-- this is the fault of the refusal that ended it, or lack of memory to print
 abbrev pub IsFaultOf : Stop → Fault → Type 0
 IsFaultOf (Refused reason) fault = fault ≡ reason
 IsFaultOf (NotACommand number) fault = ⊥
 IsFaultOf (Broken reason) fault = fault ≡ OutOfMemory
 
--- the exit status: 0 where the work was done, 2 where a line is no command, 1 where a refusal, the input or the output ended it
+-- the exit status: 0 if the work was done, 2 if a line isn't a command, 1 if a refusal, the input or the output ended it
 abbrev pub status_of : Option Stop → ℕ
 status_of None = 0
 status_of (Some (NotACommand number)) = 2

@@ -1,4 +1,4 @@
--- How many visits of the collector are made of many, and what ticks of the committer after an idle one come to.
+-- How many visits of the collector are made instead of many, and what ticks of the committer after an idle one come to.
 use Rattle.std.specs.Prelude.{◌≡◌, ℕ, ◌+◌, ◌-◌, ◌%◌, nat_le, false, if◌then◌else◌}
 use Rattle.base.specs.declared.step.Step.TheVariants.{Commit}
 use Rattle.base.specs.declared.step.Reply.{Reply}
@@ -20,8 +20,8 @@ visits_needed layout all =
 abbrev pub NeededAreEnough : Type 0
 NeededAreEnough = (q : State) (all : ℕ) → visits (visits_needed q.layout all - 1) q ≡ visits (all - 1) q
 
--- A tick after which there is nothing to do, by a device that works, changes nothing, so that all further ones are made from
--- the same state; and where nothing is left to do, Idle is the one answer that they have
+-- A tick after which there is nothing to do, on a device that works, changes nothing, so all further ones are made in the same state. If
+-- nothing is left to do, the reply to each of them is Idle
 pub record QuietTicks : Type 0 where
   pub stay : (q q' : State) (answer : Reply) → Stepped q Commit answer q' → is_busy answer ≡ false → is_failure answer ≡ false → q' ≡ q
   pub idle : (q q' after : State) (answer : Reply) → Stepped q Commit Idle q' → Stepped q' Commit answer after → answer ≡ Idle

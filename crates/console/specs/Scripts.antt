@@ -1,4 +1,4 @@
--- What the lives of a script are asked, and what is printed of their reports.
+-- What the lives of a script are asked to do, and what is printed of their reports.
 use Rattle.std.specs.Prelude.{◌≡◌, ℕ, ◌+◌, Bool, List, [], ◌∷◌, ◌++◌, map, flat_map, codes, decimal, Option, Some, None, Result, Ok, Err}
 use Rattle.std.specs.Io.KnownBytes.{Appends}
 use Rattle.base.specs.declared.fault.Fault.{Fault}
@@ -28,7 +28,7 @@ use Rattle.console.specs.Rounds.{visits_needed}
 use Rattle.console.specs.declared.stop.Stop.{Stop}
 use Rattle.console.specs.declared.stop.Stop.TheVariants.{Refused, NotACommand}
 
--- how a subcommand ends where a text is no script
+-- how a subcommand ends if a text isn't a script
 abbrev pub stop_of : ScriptFault → Stop
 stop_of (script.WrongLine number) = NotACommand number
 stop_of script.BadGeometry = Refused BadGeometry
@@ -36,22 +36,22 @@ stop_of script.OutOfMemory = Refused OutOfMemory
 
 -- ---- what is asked
 
--- The step of a command in a life on an image of this layout, and how often it is taken: of `commit` as many ticks as it asks for, and
--- of `collect` as many visits as its visits come to. A row that is too long for any slot has none, and is refused before anything else is
+-- The step of a command in a life on an image of this layout, and how often it is taken: for `commit` as many ticks as it asks for, for
+-- `collect` as many visits as are enough. A row that is too long for any slot has no step, and is refused before anything else
 abbrev pub repeated_of : Layout → Command → Repeated
 repeated_of layout (asks.Step s) = record { step = as_step s; times = 1 }
 repeated_of layout (asks.Commit ticks) = record { step = step.Commit; times = ticks }
 repeated_of layout (asks.Collect visits) = record { step = step.Collect; times = visits_needed layout visits }
 repeated_of layout _ = record { step = step.Commit; times = 0 }
 
--- what is asked of a life: its steps, a close, a fuse, and which survivors its stop leaves
+-- what a life is asked to do: its steps, whether it closes, a fuse, and which survivors its stop leaves
 pub record Wish : Type 0 where
   pub steps : List Repeated
   pub closes : Bool
   pub fuse : Option ℕ
   pub choice : Choice
 
--- what a script asks of a life on an image of this layout
+-- what a script asks a life to do on an image of this layout
 abbrev pub asked_by : Layout → ScriptLife → Wish
 asked_by layout life = record { steps = map (repeated_of layout) life.commands.items; closes = life.closes; fuse = life.fuse; choice = choice_of life.keeps }
 
@@ -60,27 +60,27 @@ asked_of life = record { steps = life.steps.items; closes = life.close; fuse = l
 
 -- ---- what is printed
 
--- the line of what is reported of a command: the reply to its step, or to the last of its ticks or visits, which is the first that was
--- refused. What has none is a row that is too long
+-- The line of what is reported of a command: the reply to its step, or to the last of its ticks or visits, which is the first that was
+-- refused. A row that is too long has none
 abbrev pub answer_text : Option Reply → Text
 answer_text None = refused_text TooLong
 answer_text (Some reply) = reply_text reply
 
--- of a life a line for each command that is reported
+-- a line for each command of a life that is reported
 abbrev pub replies_text : List (Option Reply) → Text
 replies_text reported = flat_map (λ reply. answer_text reply ++ 10 ∷ []) reported
 
--- the line of an opening
+-- the line of an opened image
 abbrev pub opened_text : Opened → Text
 opened_text opened = opened_line opened.numbers.gate opened.numbers.persisted opened.numbers.dirty opened.next opened.gaps
 
--- the line of a close, or of its fault, where one was asked and come to
+-- the line of closing, or of its fault, if it was asked and was come to
 abbrev pub closed_text : Option (Result Numbers Fault) → Text
 closed_text None = []
 closed_text (Some (Ok numbers)) = closed_line numbers.gate numbers.persisted numbers.dirty ++ 10 ∷ []
 closed_text (Some (Err fault)) = refused_text fault ++ 10 ∷ []
 
--- what a life prints that was opened
+-- what a life prints whose image was opened
 abbrev pub lived_text : Opened → LifeReport → Text
 lived_text opened report = ((opened_text opened ++ 10 ∷ []) ++ replies_text report.replies.items) ++ closed_text report.closed
 
@@ -103,8 +103,7 @@ abbrev pub lives_text : ℕ → List LifeReport → Text
 lives_text number [] = []
 lives_text number (report ∷ reports) = life_text number report ++ lives_text (number + 1) reports
 
--- the lives are lived one over another from a fresh image on, asked as the script asks, and exactly the lines of their reports are
--- printed
+-- The lives are lived one over another from a fresh image on, as the script asks, and exactly the lines of their reports are printed
 pub record PrintsReports (layout : Layout) (script : List ScriptLife) (old new : Option Text) : Type 0 where
   pub lives : List Life
   pub asked : map asked_of lives ≡ map (asked_by layout) script
@@ -112,7 +111,7 @@ pub record PrintsReports (layout : Layout) (script : List ScriptLife) (old new :
   pub lived : AreLives layout lives reports
   pub prints : Appends old new (lives_text 1 reports)
 
--- the text spells lives, and so they are lived and printed
+-- the text spells lives, and they are lived and printed
 pub record PrintsLives (text : Text) (old new : Option Text) : Type 0 where
   pub layout : Layout
   pub script : List ScriptLife

@@ -18,7 +18,7 @@ use Rattle.command_line.specs.Numbers.{Text}
 use Rattle.command_line.specs.Texts.{end_line, entries_text}
 use Rattle.console.specs.Lives.{IsOpenable}
 
--- the row is one that a thread of so many puts: under its number, in table 1
+-- the row is one that one of this many threads puts: under its number, in table 1
 abbrev pub is_of_thread : ℕ → Key × List ℕ → Bool
 is_of_thread sessions row = nat_eq row.0.table 1 && nat_lt row.0.key sessions
 
@@ -32,8 +32,8 @@ threads_text sessions commits rows =
     (((codes "committed " ++ decimal (commits_of_all sessions commits)) ++ 10 ∷ []) ++ entries_text (filter (is_of_thread sessions) rows))
     ++ ((end_line sessions ++ 10 ∷ []) ++ (codes "closed" ++ 10 ∷ []))
 
--- The image opens, and in a run from there so many threads made so many commits each, all acknowledged; whatever history the image
--- stands for, this is said of the state that the run comes to
+-- The image opens, and in a run from there this many threads made this many commits each, all acknowledged. Whatever history the image
+-- stands for, this holds of the state to which the run comes
 pub record MakesTo (image : Image) (sessions commits : ℕ) (Is : State → Type 0) : Type 0 where
   pub may_open : opening_fault image ≡ None
   pub entries : List (Step × Note)
@@ -41,9 +41,9 @@ pub record MakesTo (image : Image) (sessions commits : ℕ) (Is : State → Type
   pub runs : (history drawn : List Commit) (next : ℕ) (lost : List ℕ) → Stands image history drawn next
       → (start now : State) × OpensAs image history lost start × Noted start entries now × Is now
 
--- The file may be opened, and then two slots are free for each thread, and numbers are left for all commits; in a run from its image
--- each thread made its commits, and all were acknowledged. The file has an image in the end as a close of the very state leaves it to
--- which that run came, and the rows that are printed are those of this image
+-- The image in the file opens, and then two slots are free for each thread, and numbers are left for all commits. In a run from it each
+-- thread made its commits, and all were acknowledged. In the end the file has an image as closing leaves it in the very state to which
+-- that run came, and the rows that are printed are those of this image
 pub record PrintsThreads (sessions commits : ℕ) (before : List ℕ) (old new : Option Text) (after : List ℕ) : Type 0 where
   pub opens : IsOpenable before
   pub has_slots : OpensTo opens.image (HasFree (2 * sessions))
@@ -60,15 +60,15 @@ pub record IsOther (fault : Fault) : Type 0 where
   pub slots : fault ≢ SlotsOut
   pub device : fault ≢ DeviceFault
 
--- Numbers are wanting; or they are there, and it is the engine's, or that after a run in which the threads made their commits the
--- state can't be closed
+-- Numbers are lacking. Or they are there, and the fault is the engine's, or why the state can't be closed to which a run came in which
+-- the threads made their commits
 abbrev pub IsLaterFault : ℕ → ℕ → Image → Fault → Type 0
 IsLaterFault sessions commits image fault =
     (OpensTo image (LacksNumbers (sessions * commits)) × (fault ≡ TimestampsOut))
     ⊎ (OpensTo image (HasNumbers (sessions * commits))
     × (IsEngineFault image fault ⊎ ∥ MakesTo image sessions commits (λ q. closing_fault q ≡ Some fault) ∥₁))
 
--- The image doesn't open; or two slots for each thread aren't free then; or they are, and it is a later fault
+-- the image doesn't open; or two slots for each thread aren't free then; or they are, and it is a later fault
 abbrev pub IsThreadsFault : ℕ → ℕ → Image → Fault → Type 0
 IsThreadsFault sessions commits image fault =
     (opening_fault image ≡ Some fault)

@@ -43,7 +43,7 @@ pub fn execute<T: Threads + Wait + Copy + Drop + Send + Sync + 'static, R: Read,
     // Any status but 0 says why: which fault, which line, or how the input or the output failed.
     ensures status { result.status ≡ status_of result.stopped }
 
-    // There is something for FILE exactly where the status is 0, but for a check and for lives.
+    // There is something for FILE exactly if the status is 0, except for a check and for lives.
     ensures written { IsSome result.file ↔ ((result.status ≡ 0) × IsTrue (writes_file order.now)) }
     ensures file { IfSome result.file (λ left. Leaves order.now file.now left.items) }
     ensures limits { result.status ≡ 0 → HasLimits order.now }
@@ -56,7 +56,7 @@ pub fn execute<T: Threads + Wait + Copy + Drop + Send + Sync + 'static, R: Read,
     ensures bad_line { IfSome result.stopped (IfBadLine (ReportsLine order.now file.now (R.remaining input.old) (W.contents output.old) (W.contents output.new))) }
     ensures refused { IfSome result.stopped (IfRefused (Refuses order.now file.now (R.remaining input.old) (W.contents output.old) (W.contents output.new))) }
 
-    // The line of a refusal is the last that is printed, for want of memory too.
+    // The line of a refusal is the last that is printed, also for lack of memory.
     ensures last { AreKnown W.contents → IfSome result.stopped (IfRefused (λ fault. EndsWith (W.contents output.new) (refusal_line fault))) }
 {
     match obey(rt, alloc, order, file, input, output) {
@@ -69,7 +69,7 @@ pub fn execute<T: Threads + Wait + Copy + Drop + Send + Sync + 'static, R: Read,
     }
 }
 
-// What FILE is to hold, or `None` where it stays as it is.
+// What FILE is to hold, or `None` if it stays as it is.
 fn obey<T: Threads + Wait + Copy + Drop + Send + Sync + 'static, R: Read, W: Write>(
     rt: &T,
     alloc: Global,
@@ -162,12 +162,12 @@ fn report_stop<W: Write>(alloc: Global, stop: &Stop, output: &mut W) -> Ended
     }
 }
 
-// Prints the line of a refusal, or of what is no command. Where that fails, the failure is what ended the work.
+// Prints the line of a refusal, or of a line that isn't a command. If that fails, the failure is what ended the work.
 fn announce<W: Write>(alloc: Global, stop: &Stop, output: &mut W) -> Stop
     ensures bad_line { IfBadLine (λ number. IsLineOf stop.now number × PrintsBadLine (W.contents output.old) (W.contents output.new) number) result }
     ensures refused { IfRefused (λ fault. IsFaultOf stop.now fault × Appends (W.contents output.old) (W.contents output.new) (refusal_line fault)) result }
 
-    // An input or an output that failed for another reason than want of memory is reported as failing.
+    // An input or an output that failed for another reason than lack of memory is reported as failing.
     ensures broken { (reason : ErrorKindValue) → stop.now ≡ Broken reason → reason ≢ NoMemory → result ≡ Broken reason }
 {
     match *stop {
@@ -188,7 +188,7 @@ fn refuse<W: Write>(alloc: Global, fault: Fault, output: &mut W) -> Stop
     }
 }
 
-// Names the line that is no command.
+// Names the line that isn't a command.
 fn blame<W: Write>(alloc: Global, line: u64, output: &mut W) -> Stop
     ensures bad_line { IfBadLine (λ reported. (reported ≡ line) × PrintsBadLine (W.contents output.old) (W.contents output.new) line) result }
     ensures refused { IfRefused (λ fault. ⊥) result }
@@ -199,7 +199,7 @@ fn blame<W: Write>(alloc: Global, line: u64, output: &mut W) -> Stop
     }
 }
 
-// The exit status where this ended the work.
+// The exit status if this ended the work.
 fn status_of(stop: &Stop) -> u8
     ensures { result ≡ status_of (Some stop.now) }
 {

@@ -18,7 +18,7 @@ pub fn fresh_file(alloc: Global, geometry: Geometry) -> Result<Vec<u8>, Fault>
         return Err(Fault::OutOfMemory);
     };
     let mut device = SimPmem::from_words(alloc, words.as_slice())?;
-    // A device without a fuse fails only where a store takes memory and there is none.
+    // A device without a fuse fails only if a store takes memory and there is none.
     let Ok(()) = recovery::format(&mut device, geometry) else {
         return Err(Fault::OutOfMemory);
     };

@@ -4,8 +4,8 @@ ghost use Rattle.console.specs.Input.{lines_in, written};
 ghost use Rattle.console.specs.Kept.{KeepsHistories};
 ghost use Rattle.console.specs.Rounds.{NeededAreEnough, QuietTicks};
 
-/// What one run keeps of a file and the next run keeps of what that one left, both together keep. So no list of runs takes
-/// a covered commit out of FILE.
+/// If one run keeps the histories of a file, and the next run those of what the first one left, both together keep them. So no
+/// list of runs takes a covered commit out of FILE.
 pub fn runs_compose()
     ensures { (first second third : List ℕ) → KeepsHistories first second → KeepsHistories second third → KeepsHistories first third }
 {}
@@ -15,12 +15,12 @@ pub fn written_lines_are_read_back()
     ensures { (lines : List Text) → All (All (λ byte. byte ≢ 10)) lines → lines_in (written lines) ≡ lines }
 {}
 
-/// As many visits of the collector as are needed leave and answer what all of them do.
+/// As many visits of the collector as are needed leave the same state and get the same reply as all of them.
 pub fn needed_visits_are_enough()
     ensures { NeededAreEnough }
 {}
 
-/// Where a tick of the committer leaves nothing to do, further ones change nothing.
+/// If a tick of the committer leaves nothing to do, further ones change nothing.
 pub fn quiet_ticks()
     ensures { QuietTicks }
 {}

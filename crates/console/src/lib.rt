@@ -1,5 +1,5 @@
-//! The work of the program wbl: makes the file of a fresh image, opens an image and obeys lines of commands, and checks
-//! an image without opening it.
+//! The work of the program wbl: makes the file of a fresh image, opens an image and runs lines of commands, and checks an image
+//! without opening it.
 #![tactic(auto)]
 
 mod checking;

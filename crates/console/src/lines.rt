@@ -28,7 +28,7 @@ enum Outcome {
     Crashed(Survivor),
 }
 
-/// Obeys the lines of the input up to its end, or up to a crash: then that is what it keeps.
+/// Runs the lines of the input up to its end, or up to a crash. Returns what a crash keeps.
 pub fn obey_lines<D: Pmem + Drop, R: Read, W: Write>(
     alloc: Global,
     room: &mut Room<D>,
@@ -53,8 +53,8 @@ pub fn obey_lines<D: Pmem + Drop, R: Read, W: Write>(
     Ok(None)
 }
 
-// Obeys one line and prints the reply. A crash is left to the caller: then this is what it keeps. A device without a fuse fails
-// only where a store takes memory and there is none.
+// Runs one line and prints the reply. A crash is left to the caller: then returns what it keeps. A device without a fuse fails
+// only if a store takes memory and there is none.
 fn obey_line<D: Pmem + Drop, W: Write>(
     alloc: Global,
     room: &mut Room<D>,
@@ -109,8 +109,8 @@ fn perform<D: Pmem + Drop>(room: &mut Room<D>, command: &Command) -> Outcome
     }
 }
 
-// Ticks the committer as often, and answers the last reply. It stops at a refusal, and where
-// nothing is left to do, since no further tick would find anything.
+// Ticks the committer that often, and returns the last reply. It stops at a refusal, and if nothing is left to do, since no
+// further tick would find anything.
 fn tick<D: Pmem + Drop>(room: &mut Room<D>, ticks: u64) -> Reply
     ensures { Leads D.state room.old room.new (λ q q'. Commits q ticks result q') }
 {
@@ -124,8 +124,8 @@ fn tick<D: Pmem + Drop>(room: &mut Room<D>, ticks: u64) -> Reply
     reply
 }
 
-// Lets the collector visit as many places, and answers the last reply. It stops at a refusal. After a round of all places
-// further ones change nothing, so that they are counted and not made.
+// Lets the collector visit that many places, and returns the last reply. It stops at a refusal. After a round of all places
+// further ones change nothing, so they are counted and not made.
 fn collect<D: Pmem + Drop>(room: &mut Room<D>, visits: u64) -> Reply
     ensures { Leads D.state room.old room.new (λ q q'. Collects q visits result q') }
 {

@@ -3,8 +3,8 @@ ghost use Rattle.console.specs.Rounds.{visits_needed};
 
 use base::geometry::Geometry;
 
-/// How many visits of the collector come to what so many come to: a round visits each slot and the closing place, and after
-/// a whole one further rounds change nothing.
+/// How many visits of the collector are enough for that many: a round visits each slot and the closing place, and after a whole
+/// one further rounds change nothing.
 #[tactic(auto, using(base::proofs::Layouts::few_slots))]
 pub fn visits_needed(geometry: Geometry, all: u64) -> u64
     ensures { result ≡ visits_needed geometry all }

@@ -31,7 +31,7 @@ use std::alloc::Global;
 use std::io::{Read, Write};
 use std::thread::Threads;
 
-/// Opens the image in the file and obeys the lines of the input. What the file is to hold then.
+/// Opens the image in the file and runs the lines of the input. Returns what the file is to hold then.
 pub fn run<T: Threads + Sync, R: Read, W: Write>(
     rt: &T,
     alloc: Global,
@@ -87,7 +87,7 @@ fn show_opened<W: Write>(alloc: Global, room: &Room<SimPmem>, output: &mut W) ->
     Ok(())
 }
 
-// Ends the life by a crash that keeps this, or by a close.
+// Ends the life by a crash that keeps this, or by closing the room.
 fn end<W: Write>(
     alloc: Global,
     room: Room<SimPmem>,
@@ -145,7 +145,7 @@ fn choice_of(keeps: Survivor) -> Choice
     }
 }
 
-// What is left after the close of the room.
+// What is left once the room is closed.
 fn close<W: Write>(alloc: Global, room: Room<SimPmem>, output: &mut W) -> Result<Vec<u8>, Stop>
     ensures ends { IfOk result (λ left. (said : Text) × Appends (W.contents output.old) (W.contents output.new) said
         × ((q : State) → Shows device_of room q → Ends q None said left.items)) }

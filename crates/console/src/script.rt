@@ -44,7 +44,7 @@ pub fn live_script<T: Threads + Sync, W: Write>(
     }
 }
 
-// How the subcommand ends where a text is no script.
+// How the subcommand ends if a text isn't a script.
 fn stop_of(fault: ScriptFault) -> Stop
     ensures { result ≡ stop_of fault }
 {
@@ -72,7 +72,7 @@ fn live<T: Threads + Sync, W: Write>(
     Ok(())
 }
 
-// What is asked of the lives.
+// What the lives are asked to do.
 fn asked_lives(
     alloc: Global,
     geometry: Geometry,

@@ -12,13 +12,13 @@ use std::io::ErrorKind;
 #[derive(Debug, Drop)]
 pub enum Stop {
     Refused(Fault),
-    /// The line of this number is no command.
+    /// The line of this number isn't a command.
     NotACommand(u64),
-    /// The input couldn't be read, or the output not be written, for this reason.
+    /// The input couldn't be read, or the output couldn't be written, for this reason.
     Broken(ErrorKind),
 }
 
-/// The fault, on a device without a fuse: an operation fails there only where a store takes memory and there is none.
+/// The fault, on a device without a fuse: an operation fails there only if a store takes memory and there is none.
 pub(crate) fn without_fuse(fault: Fault) -> Fault
     ensures device { fault ≡ DeviceFault → result ≡ OutOfMemory }
     ensures same { fault ≢ DeviceFault → result ≡ fault }

@@ -28,7 +28,7 @@ use std::sync::Wait;
 use std::thread::Threads;
 use workload::{Load, run_load};
 
-/// Opens the image in the file, and lets threads make their commits. What the file is to hold then.
+/// Opens the image in the file, and lets threads make their commits. Returns what the file is to hold then.
 pub fn run_threads<T: Threads + Wait + Copy + Drop + Send + Sync + 'static, W: Write>(
     rt: &T,
     alloc: Global,
@@ -72,7 +72,7 @@ fn worked_on<T: Threads + Wait + Copy + Drop + Send + Sync + 'static>(
     }
 }
 
-// What the device holds after the close of the room.
+// What the device holds once the room is closed.
 fn closed_image(room: Room<SimPmem>) -> Result<Vec<u64>, Fault>
     ensures closed { IfOk result (λ image. (q : State) → Shows device_of room q → StandsClosed q image.items) }
     ensures fault { IfErr result (λ fault. (fault ≡ OutOfMemory) ⊎ ((q : State) → Shows device_of room q → IsClosingFault q fault)) }
@@ -101,7 +101,7 @@ fn show_threads<W: Write>(
     print(alloc, output, &Printed::ThreadsClosed)
 }
 
-// The rows that so many threads put.
+// The rows that this many threads put.
 fn rows_of_threads(
     alloc: Global,
     sessions: u64,
@@ -118,7 +118,7 @@ fn rows_of_threads(
     Ok(own)
 }
 
-// Whether one of so many threads put the row.
+// Whether one of this many threads put the row.
 fn is_of_thread(sessions: u64, row: &(Key, Row)) -> bool
     ensures { result ≡ is_of_thread sessions row.now }
 {

@@ -12,7 +12,7 @@ use Rattle.engine.specs.Calls.{Called}
 pub Called-none : (old : List Receipt) (F : List Receipt → Type 0) → F [] → Called old old F
 Called-none old F f = record { added = []; is = sym (append-nil old); runs = All-nil (λ r. ∥ EndsRun r ∥₁); holds = f }
 
--- a step more
+-- one more step
 pub Called-more : (old mid new : List Receipt) (step : Step) (note : Note) (F G : List Receipt → Type 0) → Called old mid F → Asks mid new step note
     → ((added : List Receipt) (r : Receipt) → F added → r.step ≡ step → r.note ≡ note → G (added ++ r ∷ [])) → Called old new G
 Called-more old mid new step note F G c a more = record {

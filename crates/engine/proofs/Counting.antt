@@ -27,7 +27,7 @@ count_more place sessions i s less at = grind (arith, receipts_more sessions i s
 pub count_le : {D J B : Type 0} {G : Ghosts D} {N : Origins J} {M : Names J} (place : ℕ) (sessions : List (Session D J B G N M)) (n : ℕ) → count_at place (receipts_in (take n sessions)) ≤ count_at place (receipts_in sessions)
 count_le {D} {J} {B} {G} {N} {M} place sessions n = grind (arith, take-append-drop n sessions, flat_map-append, sum_by-append)
 
--- where the sessions so far have it more than once, they all do
+-- if the sessions so far have it more than once, they all do
 pub more_than_once : {D J B : Type 0} {G : Ghosts D} {N : Origins J} {M : Names J} (place : ℕ) (sessions : List (Session D J B G N M)) (i : ℕ) (s : Session D J B G N M) (before here : ℕ) → i < length sessions → s ≡ slice_index_or sessions i s
     → count_at place (receipts_in (take i sessions)) ≡ before → count_at place s.receipts.items ≡ here → 1 < before + here
     → (IsTrue false → count_at place (receipts_in sessions) ≡ 1) × (count_at place (receipts_in sessions) ≡ 1 → IsTrue false)

@@ -1,4 +1,4 @@
--- What a run says of its last note.
+-- What a run says about its last note.
 use Rattle.std.proofs.Common.{◌≡◌, true}
 use Rattle.std.proofs.Math.Logic.{∥∥₁_elim}
 use Rattle.std.specs.Coded.{Coded-set, coded_bool}

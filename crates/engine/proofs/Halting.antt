@@ -37,7 +37,7 @@ halted-now state image audited old step reply r fault from keeps asked note =
         ∙ (ap (λ (s : Step). old ++ (s, note_of reply) ∷ []) (sym keeps.asked ∙ asked)
         ∙ ap (λ (n : Note). old ++ (Commit, n) ∷ []) (sym keeps.note ∙ note))
 
--- what the committer was refused with stays what it was, or is what this tick was refused with
+-- the fault with which the committer was refused stays what it was, or is the one with which this tick was refused
 pub halted-after : {D : Type 0} {G : Ghosts D} (state : D → Device) (image : Image) (audited : Audited D G) (old : List (Step × Note)) (step : Step) (reply : Reply) (r : Receipt) (found before after : Option Fault)
     → IsFrom state image audited → Keeps old audited.entries.items step reply r → IfSome found (λ fault. (r.step ≡ Commit) × (r.note ≡ Refused fault)) → ForSome before (HasHalted image)
     → after ≡ first_of found before → ForSome after (HasHalted image)

@@ -19,7 +19,7 @@ pub record IsTakenIn (old mid : Due) (reply : Reply) : Type 0 where
   pub collector : mid.news.collector ≡ old.news.collector
   pub waiting : mid.news.waiting ≡ (old.news.waiting || wakes_waiting reply)
 
--- and a visit was wanted then
+-- and a visit was made due then
 pub record IsWanted (mid new : Due) : Type 0 where
   pub visit : new.visit ≡ true
   pub collector : new.news.collector ≡ (mid.news.collector || not mid.visit)
@@ -32,13 +32,13 @@ pub record IsWanted (mid new : Due) : Type 0 where
 wants-same : (reply : Reply) (dirty : ℕ) (gaps : List Gap) (next window : ℕ) → wants_record_of reply dirty gaps next window ≡ true → (due : Bool) → tick_after due reply ≡ due
 wants-same reply dirty gaps next window wants due = grind arith
 
--- where a record is wanted
+-- if a record is needed
 pub record-due : (old mid new : Due) (reply : Reply) (enough quarter : ℕ) (status : Status) (q : State) (window : ℕ) → ShowsStatus q status → window ≡ q.layout.window → quarter ≡ enough
     → wants_record_of reply status.dirty status.gaps status.next window ≡ true → mid ≡ due_after old reply false quarter
     → new.tick ≡ true → new.news.committer ≡ (mid.news.committer || not mid.tick) → (new.news.collector ≡ mid.news.collector) × (new.news.waiting ≡ mid.news.waiting) → new.visit ≡ mid.visit
     → (new.covered ≡ mid.covered) × (new.is_slot_wanted ≡ mid.is_slot_wanted) → new ≡ due_after old reply (wants_record reply q.ruling q.next q.layout.window) enough
 record-due old mid new reply enough quarter status q window s width same wants noted tick committer others visit counts = grind (arith, wants-same)
 
--- of the room that is there
+-- the room is there
 pub match-some : {A : Type 0} (N : Type 0) (P : A → Type 0) (o : Option A) (x : A) → o ≡ Some x → P x → MatchOption o N P
 match-some {A} N P o x is p = subst (λ (a : Option A). MatchOption a N P) (sym is) p

@@ -1,4 +1,4 @@
--- Where receipts leave a transaction.
+-- How far a transaction has come after receipts.
 use Rattle.std.proofs.Common.{◌≡◌, List, [], ◌∷◌, ◌++◌, refl, arith}
 use Rattle.std.proofs.Math.Seq.{drop-append_seam}
 use Rattle.audited.specs.declared.receipt.Receipt.{Receipt}
@@ -11,7 +11,7 @@ pub phase_after-append : (phase : Phase) (one two : List Receipt) → phase_afte
 phase_after-append phase [] two = refl
 phase_after-append phase (r ∷ one) two = phase_after-append (phase_after_step phase r.step r.note) one two
 
--- a receipt more
+-- one more receipt
 pub phase_after-push : (phase phase' : Phase) (old new : List Receipt) (r : Receipt) → phase ≡ phase_after Idle old → new ≡ old ++ r ∷ []
     → phase' ≡ phase_after_step phase r.step r.note → phase' ≡ phase_after Idle new
 phase_after-push phase phase' old new r is more next = grind (arith, phase_after-append)

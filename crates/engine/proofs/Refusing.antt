@@ -30,7 +30,7 @@ unrefused-append (r ∷ one) two none = grind (arith, none-first, unrefused-appe
 pub of-one : (r : Receipt) (note : Note) → r.note ≡ note → first_refusal (r ∷ []) ≡ refused_with note
 of-one r note is = grind (arith)
 
--- what a draw is answered doesn't refuse
+-- the note of a draw that was made doesn't refuse
 pub draw-still : (answer : Option ℕ) → refused_with (note_of_draw answer) ≡ None
 draw-still a = grind (arith)
 

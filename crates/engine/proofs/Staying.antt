@@ -18,7 +18,7 @@ pub from-stepped : {D : Type 0} {G : Ghosts D} (state : D → Device) (image : I
 from-stepped {D = D} {G = G} state image lent old new from is steps x same =
     subst (IsFrom state image) (ap (λ (o : Option (Audited D G)). unwrap_or o new) same) (∥∥₁_map (from old is) (steps image))
 
--- the room that was seen there has made so many steps
+-- the room that was seen there has made that many steps
 pub made-here : {D : Type 0} {G : Ghosts D} (steps : ℕ) (lent seen : Option (Audited D G)) (audited : Audited D G) → HasMade steps lent → seen ≡ lent → seen ≡ Some audited
     → steps ≤ length audited.entries.items
 made-here {D = D} {G = G} steps lent seen audited has same is = let P : Option (Audited D G) → Type 0 = λ o. HasMade steps o in subst P (sym same ∙ is) has

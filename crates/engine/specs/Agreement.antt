@@ -40,7 +40,7 @@ pub record Agrees (entries : List (Step × Note)) (first : ℕ) (receipts : List
   pub each : All (IsEntry entries first) receipts
   pub once : AreOnce entries first (length entries) receipts
 
--- it is the room that was opened with these numbers, and the receipts are its session steps from the first place on
+-- the room was opened with these numbers, and the receipts are its session steps from the first place on
 pub record IsReturned {D : Type 0} {G : Ghosts D} (opening : Status) (first : ℕ) (receipts : List Receipt) (audited : Audited D G) : Type 0 where
   pub opened : audited.opening ≡ opening
   pub agrees : Agrees audited.entries.items first receipts

@@ -14,7 +14,7 @@ use Rattle.engine.specs.declared.phase.PollReply.{PollReply}
 use Rattle.engine.specs.declared.phase.PollReply.TheVariants.{Waiting as PollWaiting, Committed as PollCommitted, Done as PollDone}
 use Rattle.engine.specs.Phases.{number_of}
 
--- these receipts were added, each ends a run, and this holds of them
+-- these receipts were added, each is the last of a run, and this holds of them
 pub record Called (old new : List Receipt) (fact : List Receipt → Type 0) : Type 0 where
   pub added : List Receipt
   pub is : new ≡ old ++ added
@@ -25,23 +25,23 @@ pub record Called (old new : List Receipt) (fact : List Receipt → Type 0) : Ty
 abbrev pub ReportsLast : List Receipt → Note → Type 0
 ReportsLast added note = (before : List Receipt) × (r : Receipt) × (added ≡ before ++ r ∷ []) × (r.note ≡ note)
 
--- the last note refuses with this fault, or for want of memory a step wasn't made
+-- the last note refuses with this fault, or for lack of memory a step wasn't made
 abbrev pub ReportsFault : List Receipt → Fault → Type 0
 ReportsFault added fault = (fault ≡ OutOfMemory) ⊎ ReportsLast added (Refused fault)
 
--- to whichever of them polled it was reported that the commit isn't covered
+-- each poll among them reported that the commit isn't covered
 abbrev pub AreUncovered : List Receipt → Type 0
 AreUncovered added = All (λ r. (n : ℕ) → r.step ≡ Poll n → r.note ≡ Waiting) added
 
--- so it is, or the fault is what ended the committer, and no poll reported that the commit is covered
+-- the fault is reported like that, or it is what ended the committer, and no poll reported that the commit is covered
 abbrev pub ReportsEnd : (Fault → Type 0) → List Receipt → Fault → Type 0
 ReportsEnd Ended added fault = ReportsFault added fault ⊎ (Ended fault × AreUncovered added)
 
--- whichever of them is an end wasn't done
+-- no end among them was done
 abbrev pub AreUnended : List Receipt → Type 0
 AreUnended added = All (λ r. (n : ℕ) → r.step ≡ End n → r.note ≢ Done) added
 
--- so it is where a transaction is open, which stays so; and else the fault is NoSession and no step was made
+-- the same if a transaction is open, and it stays open; otherwise the fault is NoSession, and no step was made
 abbrev pub DeclinesCall : (Fault → Type 0) → Phase → List Receipt → Fault → Type 0
 DeclinesCall Ended Idle added fault = (fault ≡ NoSession) × (added ≡ [])
 DeclinesCall Ended _ added fault = ReportsEnd Ended added fault × AreUnended added
@@ -62,7 +62,7 @@ first_refusal (r ∷ rest) = option_or (refused_with r.note) (first_refusal rest
 abbrev pub HasNoOther : List Receipt → Fault → Type 0
 HasNoOther added fault = (first_refusal added ≡ None) ⊎ (first_refusal added ≡ Some fault)
 
--- at Ok no step was refused; and where one was, the call fails with its fault
+-- at Ok no step was refused; if one was, the call fails with its fault
 abbrev pub ReportsRefusal : {X : Type 0} → List Receipt → Result X Fault → Type 0
 ReportsRefusal added (Ok x) = first_refusal added ≡ None
 ReportsRefusal added (Err fault) = HasNoOther added fault
@@ -75,15 +75,15 @@ AskPrepare (Active n) added = (added ≡ []) ⊎ ((r : Receipt) × (rest : List 
 AskPrepare (Drawn n t) added = All (λ s. s.step ≡ Stamp n) added
 AskPrepare _ added = added ≡ []
 
--- why it is refused: the last note says it; or, where nothing is drawn yet, the fault is what ended the committer, and no step was
--- made. So it is NoSession where no transaction is open; and where all is stamped, or nothing was written, it isn't refused
+-- Why it is refused: the last note says it; or, if nothing is drawn yet, the fault is what ended the committer, and no step was made.
+-- So it is NoSession if no transaction is open. If all is stamped, or nothing was written, it isn't refused
 abbrev pub DeclinesPrepare : (Fault → Type 0) → Phase → List Receipt → Fault → Type 0
 DeclinesPrepare Ended Idle added fault = (fault ≡ NoSession) × (added ≡ [])
 DeclinesPrepare Ended (Active n) added fault = ReportsFault added fault ⊎ (Ended fault × (added ≡ []))
 DeclinesPrepare Ended (Drawn n t) added fault = ReportsFault added fault
 DeclinesPrepare Ended _ added fault = ⊥
 
--- what a draw is answered
+-- the note of a draw
 abbrev pub note_of_draw : Option ℕ → Note
 note_of_draw (Some t) = DrewAs t
 note_of_draw None = Done
@@ -92,12 +92,12 @@ note_of_draw None = Done
 abbrev pub ReportsFirst : List Receipt → Note → Type 0
 ReportsFirst added note = (r : Receipt) × (rest : List Receipt) × (added ≡ r ∷ rest) × (r.note ≡ note)
 
--- where there is a timestamp, the last note says that all keys are stamped; else the draw is the only step
+-- if there is a timestamp, the last note says that all keys are stamped; otherwise the draw is the only step
 abbrev pub ReportsStamped : List Receipt → Option ℕ → Type 0
 ReportsStamped added (Some t) = ReportsLast added AllStamped
 ReportsStamped added None = (r : Receipt) × (added ≡ r ∷ [])
 
--- the answer is the draw's, by the first note or by an earlier call; and all keys are stamped, by the last note or by an earlier call
+-- The result is the draw's, by the first note or by an earlier call. All keys are stamped, by the last note or by an earlier call
 abbrev pub ReportsPrepare : Phase → List Receipt → Option ℕ → Type 0
 ReportsPrepare (Active n) added answer = ReportsFirst added (note_of_draw answer) × ReportsStamped added answer
 ReportsPrepare (Drawn n t) added answer = (answer ≡ Some t) × ReportsStamped added answer
@@ -107,7 +107,7 @@ ReportsPrepare Idle added answer = ⊥
 
 -- ---- a commit
 
--- what a poll is answered
+-- the note of a poll
 abbrev pub note_of_poll : PollReply → Note
 note_of_poll PollWaiting = Waiting
 note_of_poll (PollCommitted t) = Committed t
@@ -117,7 +117,7 @@ note_of_poll PollDone = Done
 abbrev pub ArePolls : ℕ → List Receipt → Type 0
 ArePolls n added = All (λ r. r.step ≡ Poll n) added
 
--- what a commit's last poll is answered
+-- the note of a commit's last poll
 abbrev pub note_of_commit : Option ℕ → Note
 note_of_commit (Some t) = Committed t
 note_of_commit None = Done
@@ -133,7 +133,7 @@ pub record AskCommit (phase : Phase) (added : List Receipt) : Type 0 where
   pub ends : All (λ r. r.step ≡ End (number_of phase)) end
   pub one_end : length end ≤ 1
 
--- a transaction was open, its last poll's note is that of the answer, and an end that was done follows it
+-- a transaction was open, the note of its last poll is that of the result, and an end that was done follows it
 pub record ReportsCommit (phase : Phase) (added : List Receipt) (answer : Option ℕ) : Type 0 where
   pub open_then : phase ≢ Idle
   pub before : List Receipt

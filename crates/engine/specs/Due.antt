@@ -8,8 +8,8 @@ use Rattle.base.specs.declared.step.Reply.TheVariants.{Covered, Drawn, Idle, Ref
 use Rattle.engine.specs.declared.due.Due.{Due}
 use Rattle.engine.specs.declared.due.News.{News}
 
--- A tick is due once all keys of a commit are stamped, where a step waits for timestamps, and where the device fails, since the
--- committer is to see that. One that found nothing to do makes none due
+-- A tick is due once all keys of a commit are stamped, if a step waits for timestamps, and if the device fails, since the committer is
+-- to see that. After one that found nothing to do, none is due
 abbrev pub tick_after : Bool → Reply → Bool
 tick_after due Idle = false
 tick_after due Stamped = true
@@ -18,7 +18,7 @@ tick_after due (Refused DeviceFault) = true
 tick_after due (Refused Failed) = true
 tick_after due _ = due
 
--- whoever waits for a commit is to look again: something was covered, or nothing may be any more
+-- a session that waits for a commit is to look again: something was covered, or nothing may be any more
 abbrev pub wakes_waiting : Reply → Bool
 wakes_waiting (Covered batch) = true
 wakes_waiting (Refused TimestampsOut) = true
@@ -49,7 +49,7 @@ abbrev pub covered_after : ℕ → Reply → ℕ
 covered_after covered (Covered batch) = min (covered + length batch.commits) (2 ^ 64 - 1)
 covered_after covered _ = covered
 
--- a slot was wanted since a round fell due last, and none was free
+-- a slot was needed since a round last fell due, and none was free
 abbrev pub wanted_after : Bool → Reply → Bool
 wanted_after wanted (Refused SlotsOut) = true
 wanted_after wanted _ = wanted
@@ -60,7 +60,7 @@ fails (Refused DeviceFault) = true
 fails (Refused Failed) = true
 fails _ = false
 
--- a fourth of the slots, and one at least: so many covered commits make a round due
+-- a fourth of the slots, and at least one: a round is due once that many commits were covered
 abbrev pub fourth_of : ℕ → ℕ
 fourth_of slots = max (slots / 4) 1
 
@@ -72,7 +72,7 @@ ends_sweep _ = false
 abbrev pub goes_on : Due → Reply → Bool
 goes_on old reply = old.visit && not (ends_sweep reply)
 
--- there is reason for a round: a slot is wanted, enough commits were covered, or the device failed
+-- there is reason for a round: a slot is needed, enough commits were covered, or the device failed
 abbrev pub has_reason : ℕ → Due → Reply → Bool
 has_reason enough old reply = wanted_after old.is_slot_wanted reply || (nat_le enough (covered_after old.covered reply) || fails reply)
 
@@ -82,7 +82,7 @@ falls_due enough old reply = not (goes_on old reply) && has_reason enough old re
 
 -- ---- what a step leaves due
 
--- who sleeps is to be notified of what is due since, and whoever waits, of what concerns it; who was to be is still to be
+-- A worker that sleeps is to be notified of what is due since, and a session of what it waits for. Who was to be notified before still is
 abbrev pub news_after : Due → Reply → Bool → ℕ → News
 news_after old reply wants enough = record {
   committer = old.news.committer || (not old.tick && (tick_after old.tick reply || wants));
@@ -90,8 +90,8 @@ news_after old reply wants enough = record {
   waiting = old.news.waiting || wakes_waiting reply;
 }
 
--- Where a record is wanted or isn't, and so many covered commits are enough for a round: a tick is due that the reply or the record
--- makes so; a visit, where a round goes on or falls due. What makes a further round due is counted from when one fell due
+-- A record is needed or not, and this many covered commits are enough for a round. A tick is due if the reply or the record makes it due,
+-- and a visit if a round goes on or falls due. What makes a further round due is counted from when one fell due
 abbrev pub due_after : Due → Reply → Bool → ℕ → Due
 due_after old reply wants enough = record {
   tick = tick_after old.tick reply || wants;
@@ -109,6 +109,6 @@ nobody = record { committer = false; collector = false; waiting = false }
 abbrev pub delivered : Due → Due
 delivered due = record due { news = nobody }
 
--- at an engine's start: a room that is lent may have gaps to sweep, and a record may be due
+-- when an engine starts: a room that is lent may have gaps to sweep, and a record may be due
 abbrev pub due_first : Due
 due_first = record { tick = true; visit = true; covered = 0; is_slot_wanted = false; news = nobody }

@@ -19,7 +19,7 @@ use Rattle.audited.specs.Audit.{EndsRun, Keeps, Stays}
 use Rattle.audited.specs.declared.audited.Audited.{Audited}
 use Rattle.audited.specs.declared.receipt.Receipt.{Receipt}
 
--- the room is there, and has made so many steps at least
+-- the room is there, and has made at least this many steps
 abbrev pub HasMade : {D : Type 0} → {G : Ghosts D} → ℕ → Option (Audited D G) → Type 0
 HasMade steps lent = MatchOption lent ⊥ (λ audited. steps ≤ length audited.entries.items)
 
@@ -29,13 +29,13 @@ is_failure (Refused DeviceFault) = true
 is_failure (Refused Failed) = true
 is_failure _ = false
 
--- it had by the last of these steps
+-- it had failed by the last of these steps
 abbrev pub has_failed : List (Step × Note) → Bool
 has_failed entries = option_map_or (λ entry. is_failure entry.1) (slice_get entries (length entries - 1)) false
 
 -- ---- a worker's step
 
--- Nothing but the step was made: it is kept last, with its note, and leads where its reply does; or, for want of memory, it was
+-- Nothing but the step was made: it is kept last, with its note, and the room made it with this reply. Or, for lack of memory, it was
 -- neither kept nor made
 pub record Makes {D : Type 0} {G : Ghosts D} (state : D → Device) (old new : Audited D G) (step : Step) (reply : Reply) (receipt : Option Receipt) : Type 0 where
   pub opening : new.opening ≡ old.opening
@@ -50,8 +50,8 @@ abbrev pub MakesOnly : {D : Type 0} → {G : Ghosts D} → (D → Device) → Op
 MakesOnly state (Some old) (Some new) step reply receipt = Makes state old new step reply receipt
 MakesOnly state _ _ step reply receipt = ⊥
 
--- How often in a row the committer was refused memory, after a step that was kept or wasn't: its own that was kept ends the row,
--- and the collector's don't count
+-- How often in a row the committer was refused memory, after a step that was kept or wasn't. A step of its own that was kept starts the
+-- count again, and the collector's steps don't count
 abbrev pub refusals_after : ℕ → Step → Bool → ℕ
 refusals_after refusals Commit true = 0
 refusals_after refusals Commit false = min (refusals + 1) (2 ^ 64 - 1)
@@ -59,21 +59,22 @@ refusals_after refusals _ kept = refusals
 
 -- ---- the committer's end
 
--- the fault with which the step was refused, where it is the committer's
+-- the fault with which the step was refused, if it is the committer's
 abbrev pub halting : Step → Note → Option Fault
 halting Commit (Refused fault) = Some fault
 halting _ _ = None
 
--- the first of the two that there is
+-- the first of the two that is there
 abbrev pub first_of : Option Fault → Option Fault → Option Fault
 first_of (Some fault) other = Some fault
 first_of None other = other
 
--- what the committer was refused with last, after a step with this note
+-- the fault with which the committer was last refused, after a step with this note
 abbrev pub halted_after : Option Fault → Step → Note → Option Fault
 halted_after halted step note = first_of (halting step note) halted
 
--- why nothing will be covered: what the committer was refused with, or that it was refused memory more than a hundred times in a row
+-- why nothing will be covered: the fault with which the committer was refused, or that it was refused memory more than a hundred times
+-- in a row
 abbrev pub why_not : Option Fault → ℕ → Option Fault
 why_not (Some fault) refusals = Some fault
 why_not None refusals = if nat_lt 100 refusals then Some OutOfMemory else None
@@ -87,7 +88,7 @@ is_covered_in persisted longs timestamp = nat_le timestamp persisted && not (lis
 abbrev pub is_covered : Record → ℕ → Bool
 is_covered ruling timestamp = is_covered_in ruling.persisted ruling.longs timestamp
 
--- How a wait ends: with Ok once the timestamp is covered, with the fault why it won't be, and else with Ok where the device has failed
+-- How a wait ends: with Ok once the timestamp is covered, with the fault why it won't be, and otherwise with Ok if the device has failed
 abbrev pub waited : Bool → Option Fault → Bool → Option (Result (Unit {0}) Fault)
 waited true why failed = Some (Ok tt)
 waited false (Some fault) failed = Some (Err fault)

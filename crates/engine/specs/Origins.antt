@@ -1,4 +1,4 @@
--- Where a room's history comes from.
+-- From which image a room's history is a run.
 use Rattle.std.specs.Prelude.{◌≡◌, ℕ, List, [], ◌∷◌, ◌++◌, None}
 use Rattle.base.specs.declared.fault.Fault.{Fault}
 use Rattle.base.specs.declared.step.Note.{Note}

@@ -1,4 +1,4 @@
--- Where a session's transaction stands.
+-- How far a session's transaction has come.
 use Rattle.std.specs.Prelude.{◌≡◌, ◌≢◌, ℕ, List, [], ◌∷◌, Option, Some, None, length, drop}
 use Rattle.base.specs.declared.step.Step.{Step}
 use Rattle.base.specs.declared.step.Step.TheVariants.{Begin, Draw, Stamp, Abort, End}
@@ -27,8 +27,8 @@ pub record IsOpenAs (n : ℕ) (phase : Phase) : Type 0 where
   pub is_open : phase ≢ Idle
   pub number : n ≡ number_of phase
 
--- A begin that was answered opens a transaction, a draw gives it a timestamp, or covers it where nothing was written, the
--- last stamp stamps it, an abort or an end closes it. Nothing else moves it, and no refusal does
+-- A begin that was made opens a transaction. A draw gives it a timestamp, or covers it if nothing was written. The last stamp stamps it,
+-- and an abort or an end closes it. Nothing else moves it, and no refusal does
 abbrev pub phase_after_step : Phase → Step → Note → Phase
 phase_after_step phase Begin (Began n) = Active n
 phase_after_step phase (Draw n) (DrewAs t) = Drawn n t
@@ -38,7 +38,7 @@ phase_after_step phase (Abort n) Done = Idle
 phase_after_step phase (End n) Done = Idle
 phase_after_step phase _ _ = phase
 
--- where these receipts leave it
+-- how far it has come after these receipts
 abbrev pub phase_after : Phase → List Receipt → Phase
 phase_after phase [] = phase
 phase_after phase (r ∷ rs) = phase_after (phase_after_step phase r.step r.note) rs
@@ -47,7 +47,7 @@ phase_after phase (r ∷ rs) = phase_after (phase_after_step phase r.step r.note
 abbrev pub added_since : List Receipt → List Receipt → List Receipt
 added_since old new = drop (length old) new
 
--- after a prepare that succeeded: the answer is the timestamp, or none where nothing was written
+-- after a prepare that succeeded: its result is the timestamp, or none if nothing was written
 abbrev pub prepared : ℕ → Option ℕ → Phase
 prepared n (Some t) = Stamped n t
 prepared n None = Covered n

@@ -28,11 +28,11 @@ pub record EndsIn (list : Published) (batch : Batch) : Type 0 where
   pub has : Contains list.batches batch
   pub stamp : last_stamp list ≡ batch.stamp
 
--- sixteen stamps of the list may be read at most
+-- at most sixteen stamps of the list may be read
 abbrev pub IsShort : Published → Type 0
 IsShort list = last_stamp list ≤ list.floor + 15
 
--- the list with its floor raised, so that sixteen stamps may be read at most
+-- the list with its floor raised, so that at most sixteen stamps may be read
 abbrev pub pruned : Published → Published
 pruned list = changed list (Raise (last_stamp list - 15))
 
@@ -58,8 +58,8 @@ Tries old new None (Again None) = new ≡ old
 Tries old new None (Again (Some left)) = ⊥
 Tries old new None Unfit = ⊥
 
--- What a try that prunes then comes to. At Done all is published, and pruned. For want of memory nothing is lost: the batch comes back
--- and the board is as before, or it waits there. A batch that may not come next changes nothing
+-- What a try that prunes afterwards comes to. At Done all is published, and pruned. For lack of memory nothing is lost: the batch comes
+-- back and the board is as before, or the batch waits there. A batch that may not come next changes nothing
 abbrev pub Posts : Shown → Shown → Option Batch → Posting → Type 0
 Posts old new batch Done = new ≡ posted old batch
 Posts old new batch (Again (Some left)) = (batch ≡ Some left) × (new ≡ old)
@@ -73,20 +73,20 @@ abbrev pub IsLeftOf : {J : Type 0} → Batch → Left J → Type 0
 IsLeftOf batch (OfBatch left) = left ≡ batch
 IsLeftOf batch (Announced due) = EndsIn due batch
 
--- the batch, where it isn't on the board yet
+-- the batch, if it isn't on the board yet
 abbrev pub batch_of : {J : Type 0} → Left J → Option Batch
 batch_of (OfBatch batch) = Some batch
 batch_of (Announced due) = None
 
 -- ---- a worker's turn
 
--- where the note says that a record covered its batch, a run from the image covered it last, and the list ends in it
+-- if the note says that a record covered its batch, a step after a run from the image covered it, and the list ends in it
 abbrev pub IsPosted : Image → Note → Option Published → Type 0
 IsPosted image (Covered stamp) (Some list) = (batch : Batch) × (batch.stamp ≡ stamp) × HasCovered image batch × EndsIn list batch
 IsPosted image (Covered stamp) None = ⊥
 IsPosted image _ list = Unit {0}
 
--- what a tick was answered: its receipt has its reply's note, and a batch that it covered is one that a run from the image covers last
+-- what a tick came to: its receipt has its reply's note, and a batch that it covered is one that a step after a run from the image covers
 pub record IsTurn (image : Image) (made : Reply × Option Receipt) : Type 0 where
   pub note : IfSome made.1 (λ receipt. receipt.note ≡ note_of made.0)
   pub covered : (batch : Batch) → made.0 ≡ CoveredBy batch → HasCovered image batch
@@ -95,7 +95,7 @@ pub record IsTurn (image : Image) (made : Reply × Option Receipt) : Type 0 wher
 abbrev pub IsTurnOf : Option (Reply × Option Receipt) → Note → Type 0
 IsTurnOf made note = (reply : Reply) × (receipt : Receipt) × (made ≡ Some (reply, Some receipt)) × (receipt.note ≡ note)
 
--- why a turn has no note: no step was kept, for want of memory; or none was made, or the batch that it covered isn't published
+-- why a turn has no note: no step was kept, for lack of memory; or none was made, or the batch that it covered isn't published
 abbrev pub Misses : Option (Reply × Option Receipt) → Missed → Type 0
 Misses made Memory = (reply : Reply) × (made ≡ Some (reply, None))
 Misses made Over = (made ≡ None) ⊎ ((batch : Batch) × (receipt : Receipt) × (made ≡ Some (CoveredBy batch, Some receipt)))

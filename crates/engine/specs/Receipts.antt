@@ -20,7 +20,7 @@ abbrev pub rises : ℕ → List Receipt → Bool
 rises least [] = true
 rises least (r ∷ rs) = nat_le least r.place && rises (r.place + 1) rs
 
--- the step was asked, and answered with this note: a receipt more, which ends a run of place + 1 steps
+-- the step was asked, and its reply has this note: there is one more receipt, which is the last of a run
 pub record Asks (old new : List Receipt) (step : Step) (note : Note) : Type 0 where
   pub receipt : Receipt
   pub added : new ≡ old ++ receipt ∷ []
@@ -28,11 +28,11 @@ pub record Asks (old new : List Receipt) (step : Step) (note : Note) : Type 0 wh
   pub noted : receipt.note ≡ note
   pub run : ∥ EndsRun receipt ∥₁
 
--- the step was asked and refused with this fault; or for want of memory none was made, or none that is kept
+-- the step was asked and refused with this fault; or for lack of memory no step was made, or none that is kept
 abbrev pub Refuses : List Receipt → List Receipt → Step → Fault → Type 0
 Refuses old new step fault = ((new ≡ old) × (fault ≡ OutOfMemory)) ⊎ Asks old new step (Refused fault)
 
--- a transaction is open, and its step was answered with this note
+-- a transaction is open, and the reply to its step has this note
 abbrev pub Answers : Phase → List Receipt → List Receipt → Step → Note → Type 0
 Answers phase old new step note = (phase ≢ Idle) × Asks old new step note
 

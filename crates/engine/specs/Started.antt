@@ -1,4 +1,4 @@
--- What an engine publishes as it starts.
+-- What an engine publishes when it starts.
 use Rattle.std.specs.Prelude.{◌≡◌, []}
 use Rattle.base.specs.Commits.{Lists, after}
 use Rattle.machine.specs.Machine.{State}

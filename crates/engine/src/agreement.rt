@@ -1,6 +1,6 @@
-//! A close compares both ways: each receipt is an entry of the history, and each entry of a session has just one receipt. Of
-//! what comes out of a lock only the type is known, so nothing else says that the room under it made the steps of these
-//! sessions.
+//! Closing compares both ways: each receipt is an entry of the history, and each entry of a session has exactly one receipt.
+//! Only the type is known of a value that comes out of a lock. So nothing else says that the room under it made the steps of
+//! these sessions.
 
 ghost use Rattle.std.specs.Prelude.{◌≡◌, ◌↔◌, ◌<◌, IsTrue, All, length};
 ghost use Rattle.engine.specs.Receipts.{rises};
@@ -67,7 +67,7 @@ fn is_of_session(step: &Step) -> bool
     !matches!(step, Step::Commit | Step::Collect)
 }
 
-// Whether the entry at this place, where a session made it, has just one receipt.
+// Whether the entry at this place has exactly one receipt, if a session made it.
 fn is_once_at<D: Pmem + Drop, J: Origin, B: Drop>(
     entries: &[(Step, Note)],
     sessions: &[Session<D, J, B>],
@@ -84,7 +84,7 @@ fn is_once_at<D: Pmem + Drop, J: Origin, B: Drop>(
     }
 }
 
-// Whether just one of all the receipts has this place.
+// Whether exactly one of all the receipts has this place.
 fn is_once<D: Pmem + Drop, J: Origin, B: Drop>(sessions: &[Session<D, J, B>], place: u64) -> bool
     ensures { IsTrue result ↔ (count_at place (receipts_in sessions.now) ≡ 1) }
 {
@@ -104,7 +104,7 @@ fn is_once<D: Pmem + Drop, J: Origin, B: Drop>(sessions: &[Session<D, J, B>], pl
     found
 }
 
-// How many of the receipts have this place: one at most, since places rise.
+// How many of the receipts have this place: at most one, since places rise.
 fn count_at(receipts: &[Receipt], place: u64) -> usize
     requires { IsTrue (rises 0 receipts.now) }
     ensures { result ≡ count_at place receipts.now }

@@ -1,5 +1,5 @@
-//! The sessions are counted before the workers are asked to end, so that a close that is refused for a missing session changes
-//! nothing, and that session can go on.
+//! The sessions are counted before the workers are asked to end. So if closing is refused for a missing session, nothing has
+//! changed, and that session can go on.
 
 ghost use Rattle.std.specs.Prelude.{◌≡◌, ◌↔◌, ◌≤◌, IsTrue, IsFalse, true, None, IfSome, IfNone};
 ghost use Rattle.engine.specs.Agreement.{IsReturned, receipts_in};
@@ -12,7 +12,7 @@ use audited::Audited;
 use pmem::Pmem;
 use room::Status;
 
-/// Asks the workers to end, exactly where no fewer sessions came back than were handed out. Else all stays as it was.
+/// Asks the workers to end, exactly if no fewer sessions came back than were handed out. Otherwise all stays as it was.
 pub fn may_close<D: Pmem + Drop, J: Origin>(desk: &mut Desk<D, J>, count: u64) -> bool
     ensures may { IsTrue result ↔ (desk.old.handed ≤ count) }
     ensures closing { IsTrue result → desk.new.closing ≡ true }
@@ -29,7 +29,7 @@ pub fn may_close<D: Pmem + Drop, J: Origin>(desk: &mut Desk<D, J>, count: u64) -
     true
 }
 
-/// Takes the room out exactly where it is the one that was opened so and the receipts are its steps. Else it stays there.
+/// Takes the room out exactly if it was opened with these numbers and the receipts are its steps. Otherwise it stays there.
 pub fn take_room<D: Pmem + Drop, J: Origin, B: Drop>(
     desk: &mut Desk<D, J>,
     opening: &Status,
@@ -53,7 +53,7 @@ pub fn take_room<D: Pmem + Drop, J: Origin, B: Drop>(
     }
 }
 
-// Whether it is the room that was opened so, and the receipts are its steps.
+// Whether the room was opened with these numbers, and the receipts are its steps.
 fn is_returned<D: Pmem + Drop, J: Origin, B: Drop>(
     audited: &Audited<D>,
     opening: &Status,

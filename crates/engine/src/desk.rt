@@ -1,5 +1,5 @@
-//! What ends the committer stays beside the room, under its lock: whoever waits for a cover then learns why none comes. What a
-//! step makes due for another is noted there before the lock is free.
+//! What ends the committer is kept with the room, under its lock, so that a session that waits for a cover learns why none
+//! comes. What a step makes due for another thread is noted there before the lock is free.
 
 ghost use Rattle.std.specs.Option.{ForSome};
 ghost use Rattle.engine.specs.Origins.{IsFrom, HasHalted};
@@ -41,7 +41,7 @@ impl Duty {
     }
 }
 
-/// What lies under the room's lock.
+/// What is under the room's lock.
 #[derive(Drop)]
 pub struct Desk<D: Pmem, J: Origin> {
     /// Taken out once the engine is closed.
@@ -54,7 +54,7 @@ pub struct Desk<D: Pmem, J: Origin> {
     pub asleep: bool,
     /// How often in a row the committer was refused memory.
     pub refusals: u64,
-    /// What the committer was refused with, which ended it.
+    /// The fault with which the committer was refused, which ended it.
     halted: Option<Fault>,
     /// What the workers have to do.
     due: Due,
@@ -96,7 +96,7 @@ impl<D: Pmem + Drop, J: Origin> Desk<D, J> {
         }
     }
 
-    /// Whether the room is there, and has made so many steps at least.
+    /// Whether the room is there, and has made at least this many steps.
     pub fn has_made(&self, steps: u64) -> bool
         ensures { IsTrue result ↔ HasMade steps self.now.audited }
     {
@@ -124,8 +124,8 @@ impl<D: Pmem + Drop, J: Origin> Desk<D, J> {
         }
     }
 
-    /// A worker's step, unless the engine is being closed or there is no room. Without memory it has no receipt. What the
-    /// committer is refused with stays here, and how often in a row it was refused memory.
+    /// A worker's step, unless the engine is being closed or there is no room. Without memory it has no receipt. The fault with
+    /// which the committer is refused is kept here, and how often in a row it was refused memory.
     pub fn tick(&mut self, step: &Step) -> Option<(Reply, Option<Receipt>)>
         ensures made { IfSome result (λ made. IfSome made.1 (λ receipt. (receipt.step ≡ step.now) × (receipt.note ≡ note_of made.0))) }
         ensures halted { IfSome result (λ made. MatchOption made.1 (self.new.halted ≡ self.old.halted) (λ receipt. self.new.halted ≡ halted_after self.old.halted receipt.step receipt.note)) }
@@ -160,7 +160,7 @@ impl<D: Pmem + Drop, J: Origin> Desk<D, J> {
         }
     }
 
-    /// Notes what a step was answered, and what it made due.
+    /// Notes the reply to a step, and what it made due.
     pub fn note(&mut self, reply: &Reply)
         ensures due { MatchOption self.old.audited (self.new.due ≡ self.old.due)
             (λ audited. (q : State) → Shows D.state audited.room q → self.new.due ≡ due_after self.old.due reply.now (wants_record reply.now q.ruling q.next q.layout.window) (fourth_of q.layout.slots)) }
@@ -194,7 +194,7 @@ impl<D: Pmem + Drop, J: Origin> Desk<D, J> {
         }
     }
 
-    /// Whom to notify of what was noted since the last call.
+    /// Whom to notify of what was noted since the previous call.
     pub fn take_news(&mut self) -> News
         ensures news { result ≡ self.old.due.news }
         ensures delivered { self.new.due ≡ delivered self.old.due }
@@ -223,8 +223,8 @@ impl<D: Pmem + Drop, J: Origin> Desk<D, J> {
         }
     }
 
-    /// Whether a wait for the timestamp is over: with Ok where it is persisted and not long, or where the device has failed;
-    /// with Err where it isn't persisted and nothing will be.
+    /// Whether a wait for the timestamp is over: with Ok if it is persisted and not long, or if the device has failed; with Err
+    /// if it isn't persisted and nothing will be.
     pub fn waited(&self, timestamp: Ts) -> Option<Result<(), Fault>>
         ensures over { MatchOption self.now.audited (result ≡ None)
             (λ audited. (q : State) → Shows D.state audited.room q → result ≡ waited (is_covered q.ruling timestamp) (why_not self.now.halted self.now.refusals) (has_failed audited.entries.items)) }
@@ -252,7 +252,7 @@ ghost use Rattle.base.specs.declared.step.Note.TheVariants.{Refused};
 ghost use Rattle.engine.specs.Due.{wants_record_of};
 ghost use Rattle.engine.specs.Lending.{first_of, has_failed, is_covered_in, halting, refusals_after};
 
-// Whether the record covers the timestamp, where that was drawn since the opening.
+// Whether the record covers the timestamp, if that was drawn since the room was opened.
 fn is_covered(status: &Status, timestamp: Ts) -> bool
     ensures { result ≡ is_covered_in status.now.persisted status.now.longs timestamp }
 {
@@ -269,7 +269,7 @@ fn has_failed(entries: &[(Step, Note)]) -> bool
     }
 }
 
-// The fault with which the step was refused, where it is the committer's.
+// The fault with which the step was refused, if it is the committer's.
 fn halting(step: &Step, note: &Note) -> Option<Fault>
     ensures fault { result ≡ halting step.now note.now }
     ensures some { IfSome result (λ fault. (step.now ≡ Commit) × (note.now ≡ Refused fault)) }
@@ -280,7 +280,7 @@ fn halting(step: &Step, note: &Note) -> Option<Fault>
     }
 }
 
-// The first of the two that there is.
+// The first of the two that is there.
 fn newer(found: Option<Fault>, before: Option<Fault>) -> Option<Fault>
     ensures { result ≡ first_of found before }
 {

@@ -1,6 +1,6 @@
 //! What the workers have to do, so that they sleep while there is nothing. A tick that found nothing finds nothing again until
 //! another step was made: a draw that leaves few timestamps reserved, or finds none, a last stamp, the end of a sweep. A round
-//! finds something once commits were covered, or where a slot is wanted.
+//! finds something once commits were covered, or if a slot is needed.
 ghost use Rattle.std.specs.Prelude.{◌≡◌, ◌&&◌, ◌||◌, not, if◌then◌else◌, nat_le, true, false};
 ghost use Rattle.base.specs.declared.step.Reply.TheVariants.{Refused};
 ghost use Rattle.engine.specs.Due.{covered_after, delivered, due_after, due_first, fails, goes_on, nobody, tick_after, wakes_waiting, wanted_after};
@@ -17,17 +17,17 @@ pub struct Due {
     visit: bool,
     /// How many commits were covered since that round fell due.
     covered: u64,
-    /// A slot was wanted since, and none was free.
+    /// A slot was needed since, and none was free.
     is_slot_wanted: bool,
     news: News,
 }
 
-/// Whom a step concerns.
+/// Who has to know of a step.
 #[derive(Clone, Copy)]
 pub struct News {
     pub committer: bool,
     pub collector: bool,
-    /// Whoever waits for a commit.
+    /// The sessions that wait for a commit.
     pub waiting: bool,
 }
 
@@ -79,7 +79,7 @@ impl Due {
         news
     }
 
-    /// Notes what a step was answered. A round is due once so many commits were covered.
+    /// Notes the reply to a step. A round is due once `quarter` commits were covered.
     pub fn note(&mut self, reply: &Reply, quarter: u64)
         ensures { self.new ≡ due_after self.old reply.now false quarter }
     {
@@ -96,7 +96,7 @@ impl Due {
         self.is_slot_wanted || quarter <= self.covered || has_failed
     }
 
-    // Takes in what a step was answered, before a round may fall due. Whether the device has failed.
+    // Takes in the reply to a step, before a round may fall due. Whether the device has failed.
     fn take_in(&mut self, reply: &Reply) -> bool
         ensures failed { result ≡ fails reply.now }
         ensures tick { self.new.tick ≡ tick_after self.old.tick reply.now }
@@ -121,7 +121,7 @@ impl Due {
         false
     }
 
-    // Takes in a refusal. Where the device fails the workers are refused too, and end.
+    // Takes in a refusal. If the device fails, the workers are refused too, and end.
     fn take_in_refusal(&mut self, fault: Fault) -> bool
         ensures failed { result ≡ fails (Refused fault) }
         ensures tick { self.new.tick ≡ tick_after self.old.tick (Refused fault) }

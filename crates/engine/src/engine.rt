@@ -1,5 +1,5 @@
-//! The room's lock is held while the workers are started: they find the room there, or that the engine is being closed, so that
-//! a start that fails can return the room as it was.
+//! The room's lock is held while the workers are started. They then find the room there, or that the engine is being closed.
+//! So a start that fails can return the room as it was.
 
 use crate::closing::{may_close, take_room};
 use crate::desk::Duty;
@@ -152,9 +152,9 @@ impl<D: Pmem + Drop, J: Origin, B: Drop> Engine<D, J, B> {
         }
     }
 
-    /// Joins the workers and returns the room. Fails with `WrongState`, and returns everything, where a session that was
-    /// handed out is missing, or the room isn't the one that was lent: it was opened with other numbers, or the receipts of
-    /// the sessions aren't its steps. An engine that is returned after the joining has no workers.
+    /// Joins the workers and returns the room. Fails with `WrongState`, and returns everything, if a session that was handed
+    /// out is missing, or if the room isn't the one that was lent. It isn't if it was opened with other numbers, or if the
+    /// receipts of the sessions aren't its steps. An engine that is returned after the workers were joined has none.
     pub fn close<R: Threads + Wait>(
         mut self,
         rt: &R,
@@ -181,7 +181,7 @@ impl<D: Pmem + Drop, J: Origin, B: Drop> Engine<D, J, B> {
         }
     }
 
-    // Takes the room out, where it is the one that was opened so and the receipts are its steps.
+    // Takes the room out, if it was opened with these numbers and the receipts are its steps.
     fn take_back<R: Wait>(&self, rt: &R, sessions: &[Session<D, J, B>]) -> Option<Audited<D>>
         ensures returned { IfSome result (IsReturned self.now.opening self.now.first (receipts_in sessions.now)) }
         ensures from { IfSome result (IsFrom D.state J.image) }

@@ -1,4 +1,4 @@
-//! A test holds a worker within a cycle or a sweep, which no schedule promises: so each worker asks before it goes on.
+//! A test holds a worker within a cycle or a sweep, which no schedule promises. So each worker asks before it goes on.
 
 use base::step::Note;
 
@@ -11,7 +11,7 @@ pub enum Go {
 
 /// Asked before each tick of a worker, outside the locks. It may wait.
 pub trait Gate {
-    /// `after` is what the worker's own last tick was answered; before its first, `Idle` for the committer and
-    /// `SweepEnd` for the collector.
+    /// `after` is the note of the worker's own last tick. Before its first it is `Idle` for the committer and `SweepEnd` for
+    /// the collector.
     fn pass(&mut self, after: &Note) -> Go;
 }

@@ -1,6 +1,6 @@
-//! A room that threads share: sessions step it under a lock, and so do a committer and a collector. Each session has a receipt
-//! for each of its steps, and a close compares them with the room's history. What is covered is published on a board, whose
-//! readers wait for nobody.
+//! A room that threads share: sessions make its steps under a lock, and so do a committer and a collector. Each session has a
+//! receipt for each of its steps, and they are compared with the room's history when the engine is closed. What is covered is
+//! published on a board, whose readers wait for nobody.
 #![tactic(auto)]
 
 mod agreement;

@@ -1,5 +1,5 @@
-//! The image stands in the type, since nothing else is known of a value that comes out of a lock: so a close can say of the
-//! room that it hands out what was said of the room that was lent.
+//! The image is named in the type, since nothing else is known of a value that comes out of a lock. So closing can say about
+//! the room that it returns what was known of the room that was lent.
 
 use board::Naming;
 use std::marker::Brand;

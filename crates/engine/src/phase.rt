@@ -1,5 +1,5 @@
-//! A session knows from its own receipts where its transaction stands, without a step: so a call that failed halfway can be
-//! made again, and goes on from there.
+//! A session knows from its own receipts how far its transaction has come, without a step. So a call that failed halfway can
+//! be made again, and goes on from there.
 
 use crate::origin::Origin;
 use crate::session::Session;
@@ -7,7 +7,7 @@ use base::Ts;
 use base::step::{Note, Step};
 use pmem::Pmem;
 
-/// Where a session's transaction stands, by its number in the room and its timestamp.
+/// How far a session's transaction has come, with its number in the room and its timestamp.
 #[derive(Clone, Copy, Debug)]
 pub enum Phase {
     /// None is open.
@@ -38,7 +38,7 @@ impl Phase {
         }
     }
 
-    /// Where a step with this note leaves the transaction.
+    /// How far the transaction has come after a step with this note.
     pub(crate) fn after(self, step: &Step, note: &Note) -> Phase
         ensures { result ≡ phase_after_step self step.now note.now }
     {
@@ -70,7 +70,7 @@ impl<D: Pmem + Drop, J: Origin, B: Drop> Session<D, J, B> {
     ghost use Rattle.engine.specs.declared.phase.Phase.TheVariants.{Idle};
     ghost use Rattle.engine.specs.Phases.{phase_after};
 
-    /// Where its transaction stands: where its receipts leave it.
+    /// How far its transaction has come by its receipts.
     pub fn phase(&self) -> Phase
         ensures phase { result ≡ self.now.phase }
         ensures reached { result ≡ phase_after Idle self.now.receipts.items }

@@ -1,6 +1,6 @@
-//! A batch that is covered has to be published also where memory is wanting, since the next one wouldn't go on from the list:
-//! so the committer tries it again before its next tick. In between the lock is free, so what waits on the board is known by what
-//! was announced there.
+//! A batch that is covered has to be published even if memory is lacking, since the next one wouldn't go on from the list. So
+//! the committer tries again before its next tick. In between the lock is free, so what waits on the board is known by what was
+//! announced there.
 
 use crate::origin::Origin;
 use crate::shared::Shared;
@@ -15,7 +15,7 @@ use std::sync::{Arc, Wait};
 #[derive(Drop)]
 pub enum Posting {
     Done,
-    /// For want of memory it is to be tried again. With `None` it waits on the board.
+    /// For lack of memory it is to be tried again. With `None` it waits on the board.
     Again(Option<Batch>),
     /// It doesn't go on from what was published.
     Unfit,
@@ -38,8 +38,8 @@ ghost use Rattle.board.specs.Lists.{Begins, Fits};
 ghost use Rattle.board.specs.Shown.{whole, shown, waiting};
 ghost use Rattle.engine.specs.Posting.{EndsIn, IsLeftOf, IsShort, Posts, Tries, batch_of, posted};
 
-/// Publishes the batch, and keeps sixteen stamps readable. For want of memory it rests and tries again, until the engine is being
-/// closed. `None` then, and where the batch doesn't go on from what was published.
+/// Publishes the batch, and keeps sixteen stamps readable. For lack of memory it rests and tries again, until the engine is
+/// being closed. `None` then, and if the batch doesn't go on from what was published.
 pub fn post<R: Wait + Drop, D: Pmem + Drop, J: Origin>(
     rt: &R,
     shared: &Arc<Shared<D, J, Board<J, R>>, Global>,
@@ -69,8 +69,8 @@ pub fn post<R: Wait + Drop, D: Pmem + Drop, J: Origin>(
     unreachable!()
 }
 
-// Publishes what is left, and returns what is published then. For want of memory something is left again, and `None` is where it
-// can't be published.
+// Publishes what is left, and returns what is published then. For lack of memory something is left again; `None` if it can't be
+// published.
 fn post_left<R: Wait + Drop, J: Naming>(
     board: &mut Board<J, R>,
     left: Left<J>,
@@ -85,7 +85,7 @@ fn post_left<R: Wait + Drop, J: Naming>(
     }
 }
 
-// Publishes the batch. `None` is left exactly where it may not come next.
+// Publishes the batch. `None` is left exactly if it may not come next.
 fn post_batch<R: Wait + Drop, J: Naming>(
     board: &mut Board<J, R>,
     batch: Batch,
@@ -104,7 +104,7 @@ fn post_batch<R: Wait + Drop, J: Naming>(
     }
 }
 
-// Publishes what waits, where that is what was announced.
+// Publishes what waits, if that is what was announced.
 fn post_announced<R: Wait + Drop, J: Naming>(
     board: &mut Board<J, R>,
     due: Token<J>,
@@ -144,7 +144,7 @@ fn publish_and_prune<R: Wait + Drop, J: Naming>(
     }
 }
 
-// Publishes the batch where it goes on from what was published, or what waits.
+// Publishes the batch if it goes on from what was published, or what waits.
 fn publish<R: Wait + Drop, J: Naming>(board: &mut Board<J, R>, left: Option<Batch>) -> Posting
     ensures { Tries board.old board.new left result }
 {

@@ -1,4 +1,4 @@
-//! That the board under the lock is this engine's can't be known there. What was published at the start is in the session, so a
+//! It can't be known that the board under the lock is this engine's. What was published at the start is in the session, so a
 //! token is the later of both.
 
 use crate::origin::Origin;

@@ -1,4 +1,4 @@
-//! Room for a receipt is made before its step, so no step is made that its session can't account for.
+//! Memory for a receipt is taken before its step, so no step is made that its session can't account for.
 
 ghost use Rattle.std.specs.Prelude.{◌≡◌, IsTrue};
 ghost use Rattle.engine.specs.declared.phase.Phase.TheVariants.{Idle};
@@ -18,7 +18,7 @@ use pmem::Pmem;
 use std::alloc::Global;
 use std::sync::{Arc, Wait};
 
-/// One transaction after another, with a receipt for each step that was kept. Room for a receipt is made before its step.
+/// One transaction after another, with a receipt for each step that was kept. Memory for a receipt is taken before its step.
 #[derive(Drop)]
 pub struct Session<D: Pmem, J: Origin, B: Drop> {
     pub(crate) shared: Arc<Shared<D, J, B>, Global>,
@@ -44,7 +44,7 @@ impl<D: Pmem + Drop, J: Origin, B: Drop> Session<D, J, B> {
     ghost use Rattle.engine.specs.Receipts.{Asks, Refuses, Answers, Declines};
     ghost use Rattle.engine.specs.Calls.{note_of_poll};
 
-    /// Begins a transaction. Fails with `WrongState`, without a step, exactly while one is open.
+    /// Begins a transaction. Fails with `WrongState`, without a step, exactly if one is open.
     pub fn begin<R: Wait>(&mut self, rt: &R) -> Result<(), Fault>
         ensures ok { IfOk result (λ _. (n : ℕ) × (self.old.phase ≡ Idle) × Asks self.old.receipts.items self.new.receipts.items Begin (Began n) × (self.new.phase ≡ Active n)) }
         ensures err { IfErr result (λ fault. ((self.old.phase ≡ Idle) × Refuses self.old.receipts.items self.new.receipts.items Begin fault)
@@ -134,7 +134,7 @@ impl<D: Pmem + Drop, J: Origin, B: Drop> Session<D, J, B> {
         }
     }
 
-    /// Gives the transaction up.
+    /// Rolls the transaction back.
     pub fn abort<R: Wait>(&mut self, rt: &R) -> Result<(), Fault>
         ensures ok { IfOk result (λ _. Answers self.old.phase self.old.receipts.items self.new.receipts.items (Abort (number_of self.old.phase)) Done × (self.new.phase ≡ Idle)) }
         ensures err { IfErr result (λ fault. Declines self.old.phase self.old.receipts.items self.new.receipts.items (Abort (number_of self.old.phase)) fault) }
@@ -207,7 +207,7 @@ impl<D: Pmem + Drop, J: Origin, B: Drop> Session<D, J, B> {
         self.phase.number().ok_or(Fault::NoSession)
     }
 
-    /// Makes the step under the lock. For want of memory there was no step, or none that was kept.
+    /// Makes the step under the lock. For lack of memory there was no step, or none that was kept.
     pub(crate) fn make<R: Wait>(&mut self, rt: &R, step: Step) -> Result<Reply, Fault>
         ensures ok { IfOk result (λ reply. Asks self.old.receipts.items self.new.receipts.items step (note_of reply)) }
         ensures moved { IfOk result (λ reply. self.new.phase ≡ phase_after_step self.old.phase step (note_of reply)) }

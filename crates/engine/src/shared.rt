@@ -1,4 +1,4 @@
-//! Whoever is to sleep asks under the lock first, and whoever changes the answer does so under it: so no call to wake is
+//! A thread asks under the lock before it sleeps, and what it asks for is changed only under the lock. So no call to wake is
 //! missed. The board has a lock of its own, since its writer waits for readers, and no session is to wait for those.
 
 use crate::desk::{Desk, Duty, REFUSALS};
@@ -10,7 +10,7 @@ use pmem::Pmem;
 use std::sync::{Condvar, Mutex, MutexGuard, Wait};
 use std::thread;
 
-/// What the threads share. The board stands under a lock of its own, and no thread holds both.
+/// What the threads share. The board is under a lock of its own, and no thread holds both.
 #[derive(Drop)]
 pub struct Shared<D: Pmem, J: Origin, B: Drop> {
     pub desk: Mutex<Desk<D, J>>,
@@ -21,7 +21,7 @@ pub struct Shared<D: Pmem, J: Origin, B: Drop> {
     visits: Condvar,
     // A worker that is refused memory again and again sleeps on it.
     woken: Condvar,
-    // Whoever waits for a commit sleeps on it: a batch is covered, or nothing will be.
+    // A session that waits for a commit sleeps on it, until a batch is covered, or nothing will be.
     moved: Condvar,
 }
 
@@ -47,8 +47,8 @@ impl<D: Pmem + Drop, J: Origin, B: Drop> Shared<D, J, B> {
         }
     }
 
-    /// Takes the lock once the room is there and has made so many steps at least. It is and has, unless the engine was closed
-    /// without the session that asks: this waits for ever then.
+    /// Takes the lock once the room is there and has made at least this many steps. It is and has, unless the engine was closed
+    /// without the session that asks: then this waits forever.
     pub fn room<R: Wait>(&self, rt: &R, steps: u64) -> MutexGuard<'_, Desk<D, J>>
         ensures { HasMade steps (mutex_guard_value result).audited }
     {
@@ -72,9 +72,9 @@ impl<D: Pmem + Drop, J: Origin, B: Drop> Shared<D, J, B> {
         desk
     }
 
-    /// Waits until the room has persisted the timestamp, also where it was long, or its device has failed. It makes no step and
-    /// takes no memory. Fails where nothing will be persisted any more: with the fault that ended the committer, or with
-    /// OutOfMemory where it was refused memory again and again.
+    /// Waits until the room has persisted the timestamp, even if it was long, or its device has failed. It makes no step and
+    /// takes no memory. Fails if nothing will be persisted any more: with the fault that ended the committer, or with
+    /// OutOfMemory if that was refused memory again and again.
     pub fn wait_for<R: Wait>(&self, rt: &R, timestamp: Ts) -> Result<(), Fault>
         ensures { IfErr result (λ fault. (fault ≡ OutOfMemory) ⊎ HasHalted J.image fault) }
     {
@@ -88,7 +88,7 @@ impl<D: Pmem + Drop, J: Origin, B: Drop> Shared<D, J, B> {
         unreachable!()
     }
 
-    /// Fails as a wait does, where nothing will be covered.
+    /// Fails as a wait does, if nothing will be covered.
     pub fn ask<R: Wait>(&self, rt: &R) -> Result<(), Fault>
         ensures { IfErr result (λ fault. (fault ≡ OutOfMemory) ⊎ HasHalted J.image fault) }
     {
@@ -99,7 +99,7 @@ impl<D: Pmem + Drop, J: Origin, B: Drop> Shared<D, J, B> {
         }
     }
 
-    /// Sleeps until the worker has something to do. Whether it has: it hasn't where the engine is being closed.
+    /// Sleeps until the worker has something to do. Whether it has: it hasn't if the engine is being closed.
     pub fn wait_for_turn<R: Wait>(&self, rt: &R, duty: Duty) -> bool {
         let mut desk = self.desk.lock(rt);
         for _ in rt.forever() {
@@ -117,7 +117,7 @@ impl<D: Pmem + Drop, J: Origin, B: Drop> Shared<D, J, B> {
         unreachable!()
     }
 
-    /// Notes what a step was answered, and wakes whom it concerns.
+    /// Notes the reply to a step, and wakes the threads that have to know.
     pub fn notify(&self, desk: &mut Desk<D, J>, reply: &Reply)
         ensures due { MatchOption desk.old.audited (desk.new.due ≡ delivered desk.old.due)
             (λ audited. (q : State) → Shows D.state audited.room q → desk.new.due ≡ delivered (due_after desk.old.due reply.now (wants_record reply.now q.ruling q.next q.layout.window) (fourth_of q.layout.slots))) }
@@ -147,8 +147,8 @@ impl<D: Pmem + Drop, J: Origin, B: Drop> Shared<D, J, B> {
         desk.closing || desk.audited.is_none()
     }
 
-    /// Lets a worker rest that was refused memory so often in a row. It gives up its turn, and after too many refusals it sleeps
-    /// until a session takes the lock or the engine is being closed.
+    /// Lets a worker rest that was refused memory this often in a row. It yields, and after too many refusals it sleeps until a
+    /// session takes the lock or the engine is being closed.
     pub fn rest<R: Wait>(&self, rt: &R, refusals: u64) {
         let mut desk = self.desk.lock(rt);
         if desk.closing || refusals <= REFUSALS {
@@ -160,7 +160,7 @@ impl<D: Pmem + Drop, J: Origin, B: Drop> Shared<D, J, B> {
         drop(self.woken.wait(rt, desk));
     }
 
-    /// Counts that the committer was refused memory for what it covered, of which too often ends a wait.
+    /// Counts that the committer was refused memory for what it covered. Too many of these end a wait.
     pub fn count_refusal<R: Wait>(&self, rt: &R) {
         let mut desk = self.desk.lock(rt);
         desk.refusals = desk.refusals.saturating_add(1);

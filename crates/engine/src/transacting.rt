@@ -1,5 +1,5 @@
-//! A commit waits before it polls: a poll is a step, which the history keeps. A call that failed after its draw can be made
-//! again, and goes on where that left the transaction, since a draw can't be undone.
+//! A commit waits before it polls, since a poll is a step, which the history keeps. A call that failed after its draw can be
+//! made again, and goes on from there, since a draw can't be undone.
 
 use crate::origin::Origin;
 use crate::phase::Phase;
@@ -21,8 +21,8 @@ impl<D: Pmem + Drop, J: Origin, B: Drop> Session<D, J, B> {
     ghost use Rattle.engine.specs.Receipts.{Asks, Refuses};
     ghost use Rattle.engine.specs.Calls.{Called, ReportsLast, ReportsFault, ReportsEnd, DeclinesCall, AskPrepare, ReportsPrepare, DeclinesPrepare, note_of_draw, AskCommit, ReportsCommit, ArePolls, note_of_commit, ReportsRefusal};
 
-    /// Draws a timestamp and stamps all keys, or goes on from where an earlier call left that. `None` if nothing was written. Where
-    /// the committer has ended, nothing is drawn any more, and it fails with the fault that ended that.
+    /// Draws a timestamp and stamps all keys, or goes on from where an earlier call left off. `None` if nothing was written. If
+    /// the committer has ended, nothing is drawn any more, and it fails with the fault that ended the committer.
     pub fn prepare<R: Wait>(&mut self, rt: &R) -> Result<Option<Ts>, Fault>
         ensures steps { Called self.old.receipts.items self.new.receipts.items (λ added. AskPrepare self.old.phase added × MatchResult result (ReportsPrepare self.old.phase added) (DeclinesPrepare (HasHalted J.image) self.old.phase added)) }
         ensures refusal { ReportsRefusal (added_since self.old.receipts.items self.new.receipts.items) result }
@@ -54,8 +54,9 @@ impl<D: Pmem + Drop, J: Origin, B: Drop> Session<D, J, B> {
         }
     }
 
-    /// Prepares, waits until the commit is covered, and ends the transaction. `None` if nothing was written. Where the committer
-    /// ends first, it fails with the fault that ended that, and with OutOfMemory where that is refused memory again and again.
+    /// Prepares, waits until the commit is covered, and ends the transaction. `None` if nothing was written. If the committer
+    /// ends first, it fails with the fault that ended the committer, and with OutOfMemory if that is refused memory again and
+    /// again.
     pub fn commit<R: Wait>(&mut self, rt: &R) -> Result<Option<Ts>, Fault>
         ensures steps { Called self.old.receipts.items self.new.receipts.items (λ added. AskCommit self.old.phase added × MatchResult result (ReportsCommit self.old.phase added) (DeclinesCall (HasHalted J.image) self.old.phase added)) }
         ensures refusal { ReportsRefusal (added_since self.old.receipts.items self.new.receipts.items) result }
@@ -95,7 +96,7 @@ impl<D: Pmem + Drop, J: Origin, B: Drop> Session<D, J, B> {
         }
     }
 
-    // Stamps the keys that aren't yet.
+    // Stamps the keys that aren't stamped yet.
     fn stamp_all<R: Wait>(&mut self, rt: &R, number: u8) -> Result<(), Fault>
         ensures steps { Called self.old.receipts.items self.new.receipts.items (λ added. All (λ r. r.step ≡ Stamp number) added × MatchResult result (λ _. ReportsLast added AllStamped) (ReportsFault added)) }
         ensures refusal { ReportsRefusal (added_since self.old.receipts.items self.new.receipts.items) result }
@@ -113,7 +114,7 @@ impl<D: Pmem + Drop, J: Origin, B: Drop> Session<D, J, B> {
         unreachable!()
     }
 
-    // Polls until the commit is covered. It waits for that first, so that it polls once. Fails where nobody will cover it.
+    // Polls until the commit is covered. It waits for that first, so that it polls once. Fails if nobody will cover it.
     fn wait<R: Wait>(
         &mut self,
         rt: &R,

@@ -1,5 +1,5 @@
-//! A worker makes one step each time that it takes the lock, so sessions step between any two operations of a cycle. What a
-//! tick covers is published before the next tick, so batches come to the board in their order.
+//! A worker makes one step each time that it takes the lock, so sessions make steps between any two operations of a cycle. What
+//! a tick covers is published before the next tick, so batches come to the board in their order.
 
 use crate::desk::Duty;
 use crate::gate::{Gate, Go};
@@ -30,7 +30,7 @@ pub enum Missed {
 pub struct Turn<J: Naming> {
     /// Of its tick.
     pub note: Note,
-    /// Where the tick covered a batch: what is published since.
+    /// If the tick covered a batch: what is published since.
     pub published: Option<Token<J>>,
 }
 
@@ -67,8 +67,8 @@ pub fn spawn_worker<
     }
 }
 
-// Makes its step where that is due, and sleeps where it isn't, until the gate says so, a step is refused or the engine is being
-// closed. Without memory for a step it rests, and tries it again. What a tick covers is published before the next one. `before` is
+// Makes its step if that is due, and sleeps if it isn't, until the gate says so, a step is refused or the engine is being
+// closed. Without memory for a step it rests, and tries again. What a tick covers is published before the next one. `before` is
 // what the gate is shown before the first.
 fn work<R: Wait + Drop, D: Pmem + Drop, J: Origin, G: Gate>(
     rt: &R,
@@ -116,7 +116,7 @@ fn take_turn<R: Wait + Drop, D: Pmem + Drop, J: Origin>(
     finish_turn(rt, shared, made)
 }
 
-// Publishes what was made of a tick, where that covered a batch.
+// Publishes what a tick covered, if it covered a batch.
 fn finish_turn<R: Wait + Drop, D: Pmem + Drop, J: Origin>(
     rt: &R,
     shared: &Arc<Shared<D, J, Board<J, R>>, Global>,

@@ -1,4 +1,4 @@
--- What calls of a session add to what was acknowledged and drawn, and why a thread gives up.
+-- What calls of a session add to what was acknowledged and drawn, and why a thread stops.
 use Rattle.std.proofs.Common.{◌≡◌, ◌⊎◌, ℕ, ◌+◌, ◌≤◌, Bool, true, false, List, [], ◌∷◌, ◌++◌, Option, Some, None, inl, inr, refl, sym, ap, ◌∙◌, subst, append_assoc, arith}
 use Rattle.std.specs.Prelude.{◌≢◌, All, Err, IfErr, IfOk, Ok, Result, if◌then◌else◌, is_some, slice_index_or, ⊤}
 use Rattle.std.proofs.Math.Seq.{drop-append_seam}
@@ -126,7 +126,7 @@ ends-draws n xs all = none-counted (λ r. has_drawn r.step r.note) xs (λ k d le
 draw-ends : (n : ℕ) (r : Receipt) → r.step ≡ Draw n → ended_of r.step r.note ≡ None
 draw-ends n r is = ap (λ (s : Step). ended_of s r.note) is
 
--- a prepare ends nothing, and draws where nothing was drawn before
+-- a prepare ends nothing, and draws only if nothing was drawn before
 prepare-ends : (phase : Phase) (xs : List Receipt) → AskPrepare phase xs → ends xs ≡ 0
 prepare-ends a xs none = grind (arith, ends, draw-ends, ends-cons, stamps-ends)
 
@@ -147,7 +147,7 @@ asked-draws phase added asks = grind (arith, draws-append asks.prepare (asks.pol
 asked-ends : (phase : Phase) (added : List Receipt) (asks : AskCommit phase added) → ends added ≤ 1
 asked-ends phase added asks = grind (arith, ends, ends-append, prepare-ends, polls-ends, ends-short)
 
--- ---- a commit that answers a timestamp
+-- ---- a commit that returns a timestamp
 
 poll-told : (n t : ℕ) (r : Receipt) → r.step ≡ Poll n → r.note ≡ Committed t → reported_to r.step r.note ≡ Some n
 poll-told n t r is told = ap (λ (s : Step). reported_to s r.note) is ∙ ap (reported_to (Poll n)) told
@@ -187,7 +187,7 @@ undone a note still = grind (arith)
 unended-ends : (xs : List Receipt) → AreUnended xs → ends xs ≡ 0
 unended-ends xs all = none-counted (λ r. is_some (ended_of r.step r.note)) xs (λ k d less. undone (slice_index_or xs k d).step (slice_index_or xs k d).note (all k d less))
 
--- a transaction that drew stays so
+-- a transaction that has drawn keeps its timestamp
 record Keeps (r : Receipt) : Type 0 where
   stays : (phase : Phase) → pending phase ≤ pending (phase_after_step phase r.step r.note)
 
@@ -273,14 +273,14 @@ nothing-more : (old added new before : List Receipt) (poll last : Receipt) → n
 nothing-more old added new before poll last is ends =
     is ∙ (ap (λ (rs : List Receipt). old ++ rs) ends ∙ (sym (append_assoc old (before ++ poll ∷ []) (last ∷ [])) ∙ ap (λ (rs : List Receipt). rs ++ last ∷ []) (sym (append_assoc old before (poll ∷ [])))))
 
--- a commit that told so
+-- a commit that reported that
 pub reports-nothing : (phase : Phase) (old new : List Receipt) (answer : Option ℕ) (Asked : List Receipt → Type 0) → answer ≡ None
     → Called old new (λ added. Asked added × ReportsCommit phase added answer) → ReportsNothing new
 reports-nothing phase old new answer Asked none called =
     let t = called.holds.1 in
     (number_of phase, old ++ t.before, t.poll, t.end, nothing-more old called.added new t.before t.poll t.end called.is t.is, t.polled, t.noted ∙ ap note_of_commit none, t.ended, t.done)
 
--- ---- a thread gives up
+-- ---- a thread stops
 
 no-memory : (fault : Fault) → may_pass fault ≡ false → fault ≡ OutOfMemory → ⊥
 no-memory fault final memory = grind (arith)
@@ -288,7 +288,7 @@ no-memory fault final memory = grind (arith)
 pub final-refused : (Refused' : Type 0) (fault : Fault) → may_pass fault ≡ false → (fault ≡ OutOfMemory) ⊎ Refused' → Refused'
 final-refused a fault final b = grind (arith, no-memory)
 
--- after a step back that failed
+-- after it failed to abort
 pub gives-up : (Halted : Fault → Type 0) (mid new : List Receipt) (fault why : Fault) → (fault ≡ OutOfMemory) ⊎ (((fault ≡ WrongState) × ReportsNothing mid) ⊎ IsRefusedWith Halted mid fault)
     → (may_pass why ≡ false) × (((why ≡ fault) × (new ≡ mid)) ⊎ ReportsLast new (Refused why)) → GivesUp Halted new why
 gives-up a mid new fault why is b = grind (arith, final-refused)

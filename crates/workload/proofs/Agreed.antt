@@ -1,4 +1,4 @@
--- What the threads' receipts say of the room's history, once the close has compared them.
+-- What the threads' receipts say about the room's history, once they were compared.
 use Rattle.std.proofs.Common.{◌≡◌, ◌⊎◌, ℕ, false, List, [], ◌∷◌, ◌++◌, length, Option, Some, None, inl, inr, refl, sym, ap, ◌∙◌, subst, map}
 use Rattle.std.proofs.Math.Logic.{∥∥₁_map}
 use Rattle.std.proofs.lemmas.List.{length-map}
@@ -45,7 +45,7 @@ slice_get-last (y ∷ xs) x = slice_get-last xs x
 
 -- ---- all commits are made
 
--- where no thread met a fault
+-- if no thread met a fault
 pub are-made : {T : Type 0} (f : T → List Receipt) (fault : T → Option Fault) (Halted : Fault → Type 0) (sessions commits : ℕ) (tasks : List T) (entries : List (Step × Note)) (first : ℕ) (receipts : List Receipt)
     → length tasks ≡ sessions → first ≡ 0 → All (λ t. Works Halted commits (f t) (fault t)) tasks → All (λ t. fault t ≡ None) tasks
     → receipts ≡ flat_map f tasks → Agrees entries first receipts → AreMade sessions commits entries

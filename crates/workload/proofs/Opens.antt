@@ -38,7 +38,7 @@ made-from {D = D} {G = G} state image named sessions commits room left opening e
     subst (λ (r : Room D G). ∥ HasMadeFrom state image sessions commits r ∥₁) (sym same)
     (subst (λ (i : Image). ∥ HasMadeFrom state i sessions commits room ∥₁) (sym is) (∥∥₁_map from (λ a. (opening, entries, a, made))))
 
--- the engine's fault, which is reported of the image that its type names
+-- the engine's fault is about the image that its type names
 pub engine-refused : (image named : Image) (sessions commits : ℕ) (fault : Fault) → image ≡ named → OpensTo image (HasFree (2 * sessions)) → OpensTo image (HasNumbers (sessions * commits)) → IsEngineFault named fault
     → IsLoadFault image sessions commits fault
 engine-refused image named sessions commits fault is free has engine = inr (inr (inr (inr (inr (free, has, subst (λ (i : Image). IsEngineFault i fault) (sym is) engine)))))

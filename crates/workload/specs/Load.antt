@@ -25,20 +25,20 @@ use Rattle.engine.specs.Phases.{phase_after}
 use Rattle.room.specs.declared.room.Room.{Room}
 use Rattle.room.specs.declared.status.Status.{Status}
 
--- the image opens, and whatever history it stands for, this is said of the state that it opens as
+-- the image opens, and whatever history it stands for, this holds of the state that it opens as
 pub record OpensTo (image : Image) (Is : State → Type 0) : Type 0 where
   pub may_open : opening_fault image ≡ None
   pub each : (history drawn : List Commit) (next : ℕ) → Stands image history drawn next → (q : State) × OpensAs image history [] q × Is q
 
--- So many slots are free after an opening, or fewer: each row of the tables takes one then
+-- that many slots are free in an opened state, or fewer: each row of the tables takes one then
 abbrev pub HasFree : ℕ → State → Type 0
 HasFree count q = (rows : List (Key × List ℕ)) × Lists rows (after q.history) × (count + length rows ≤ q.layout.slots)
 
 abbrev pub LacksFree : ℕ → State → Type 0
 LacksFree count q = (rows : List (Key × List ℕ)) × Lists rows (after q.history) × (q.layout.slots < count + length rows)
 
--- Record numbers and timestamps are left for so many commits, or they aren't: two records a commit, one that
--- reserves timestamps and one that covers it, and a timestamp a commit, with a window of them reserved beyond
+-- Record numbers and timestamps are left for that many commits, or they aren't. A commit takes a timestamp and two records, one that
+-- reserves timestamps and one that covers it. A window of timestamps is reserved beyond
 abbrev pub HasNumbers : ℕ → State → Type 0
 HasNumbers commits q = (2 * commits + q.ruling.gate + 2 < 2 ^ 62) × (commits + q.ruling.dirty + q.layout.window + 2 < 2 ^ 62)
 
@@ -88,7 +88,7 @@ abbrev pub acknowledged : List Receipt → ℕ
 acknowledged [] = 0
 acknowledged (r ∷ rest) = (if is_acknowledged r rest then 1 else 0) + acknowledged rest
 
--- Exactly so many commits were made: so many were acknowledged, no timestamp was drawn beyond, and no transaction is open
+-- Exactly that many commits were made: that many were acknowledged, no further timestamp was drawn, and no transaction is open
 pub record Makes (commits : ℕ) (receipts : List Receipt) : Type 0 where
   pub acknowledges : acknowledged receipts ≡ commits
   pub drawn : draws receipts ≤ commits
@@ -100,12 +100,12 @@ pending (Drawn session timestamp) = 1
 pending (Stamped session timestamp) = 1
 pending _ = 0
 
--- No commit was acknowledged between the two, and no timestamp was drawn but one that is to be acknowledged still
+-- no commit was acknowledged between the two, and no timestamp was drawn except one that is still to be acknowledged
 pub record MakesNone (phase : Phase) (old : List Receipt) (phase' : Phase) (new : List Receipt) : Type 0 where
   pub acknowledges : acknowledged new ≡ acknowledged old
   pub drawn : draws new + pending phase ≤ draws old + pending phase'
 
--- One was acknowledged, and it alone was drawn, or had been
+-- one was acknowledged, and no other was drawn
 pub record MakesOne (phase : Phase) (old new : List Receipt) : Type 0 where
   pub acknowledges : acknowledged new ≡ acknowledged old + 1
   pub drawn : draws new + pending phase ≤ draws old + 1
@@ -123,7 +123,8 @@ abbrev pub ReportsNothing : List Receipt → Type 0
 ReportsNothing receipts =
     (n : ℕ) × (before : List Receipt) × (poll end : Receipt) × (receipts ≡ (before ++ poll ∷ []) ++ end ∷ []) × (poll.step ≡ Poll n) × (poll.note ≡ Done) × (end.step ≡ End n) × (end.note ≡ Done)
 
--- So it is, and a thread that meets the fault gives up; or a commit reported that nothing was written, which no step of a run does after a put
+-- That is so, and a thread that meets the fault stops. Or a commit reported that nothing was written, which no step of a run does after a
+-- put
 pub record GivesUp (Halted : Fault → Type 0) (receipts : List Receipt) (fault : Fault) : Type 0 where
   pub is_final : may_pass fault ≡ false
   pub why : ((fault ≡ WrongState) × ReportsNothing receipts) ⊎ IsRefusedWith Halted receipts fault
@@ -133,7 +134,7 @@ abbrev pub Works : (Fault → Type 0) → ℕ → List Receipt → Option Fault 
 Works Halted commits receipts None = Makes commits receipts
 Works Halted commits receipts (Some fault) = GivesUp Halted receipts fault
 
--- The sessions' steps among the entries are those of so many threads, each of which made exactly so many commits
+-- the sessions' steps among the entries are those of that many threads, each of which made exactly that many commits
 pub record AreMade (sessions commits : ℕ) (entries : List (Step × Note)) : Type 0 where
   pub threads : List (List Receipt)
   pub count : length threads ≡ sessions
@@ -144,7 +145,7 @@ pub record AreMade (sessions commits : ℕ) (entries : List (Step × Note)) : Ty
 abbrev pub HasRunFrom : {D : Type 0} → {G : Ghosts D} → (D → Device) → Image → Room D G → Type 0
 HasRunFrom state image room = (opening : Status) × (entries : List (Step × Note)) × IsAudited state room image opening entries
 
--- so it has, and in it so many threads made so many commits each
+-- the same, and in that run this many threads made this many commits each
 abbrev pub HasMadeFrom : {D : Type 0} → {G : Ghosts D} → (D → Device) → Image → ℕ → ℕ → Room D G → Type 0
 HasMadeFrom state image sessions commits room =
     (opening : Status) × (entries : List (Step × Note)) × IsAudited state room image opening entries × AreMade sessions commits entries
@@ -159,16 +160,16 @@ pub record HasRefusal (image : Image) (fault : Fault) : Type 0 where
   pub step : Step
   pub refused : slice_get entries place ≡ Some (step, Refused fault)
 
--- Why a load that was begun ended before its commits were made. Memory is wanting; a thread of the engine can't be started; the
--- engine finds in its close that its room isn't the one that it was lent, or that its steps aren't those of the sessions, or a commit
--- reported that nothing was written; or a step, of a session or of the committer, was refused with a fault that doesn't pass
+-- Why a load that was begun ended before its commits were made. Memory is lacking. A thread of the engine can't be started. When the
+-- engine is closed its room isn't the one that it was lent, or its steps aren't those of the sessions. A commit reported that nothing
+-- was written. Or a step, of a session or of the committer, was refused with a fault that doesn't pass
 abbrev pub IsEngineFault : Image → Fault → Type 0
 IsEngineFault image fault =
     (fault ≡ OutOfMemory) ⊎ ((fault ≡ NoThread) ⊎ ((fault ≡ WrongState) ⊎ ((may_pass fault ≡ false) × ∥ HasRefusal image fault ∥₁)))
 
--- Why a load ended before its work was done. The image doesn't open; memory is wanting; the fault of the opening is that the device
--- failed, though no clause shows the failed operation, since the device is gone then;
--- two slots for each session aren't free; they are, but numbers are wanting; or both are there, and it is the engine's
+-- Why a load ended before its work was done. The image doesn't open. Memory is lacking. The device failed when it was opened, though no
+-- clause shows the failed operation, since the device is gone then. Two slots for each session aren't free. They are, but numbers are
+-- lacking. Or both are there, and the fault is the engine's
 abbrev pub IsLoadFault : Image → ℕ → ℕ → Fault → Type 0
 IsLoadFault image sessions commits fault =
     (opening_fault image ≡ Some fault)

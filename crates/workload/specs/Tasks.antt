@@ -16,6 +16,6 @@ sessions_in tasks = map (λ task. task.session) tasks
 abbrev pub AreFresh : {D J B : Type 0} → {G : Ghosts D} → {N : Origins J} → {M : Names J} → List (Task D J B G N M) → Type 0
 AreFresh tasks = All (λ task. task.session.receipts.items ≡ []) tasks
 
--- each made its commits, or met a fault at which it gave up
+-- each made its commits, or met a fault at which it stopped
 abbrev pub AllWork : {D J B : Type 0} → {G : Ghosts D} → {N : Origins J} → {M : Names J} → (Fault → Type 0) → ℕ → List (Task D J B G N M) → Type 0
 AllWork Halted commits tasks = All (λ task. Works Halted commits task.session.receipts.items task.fault) tasks

@@ -126,7 +126,8 @@ fn attempt<T: Wait, D: Pmem + Drop, J: Origin, B: Drop>(
     }
 }
 
-// Puts the row, unless an earlier try did, and asks for the commit. Fails with `WrongState` if that reported that nothing was written.
+// Puts the row, unless an earlier try did, and asks for the commit. Fails with `WrongState` if that reported that nothing was
+// written.
 fn try_commit<T: Wait, D: Pmem + Drop, J: Origin, B: Drop>(
     rt: &T,
     session: &mut Session<D, J, B>,
@@ -187,8 +188,8 @@ fn begin_with<T: Wait, D: Pmem + Drop, J: Origin, B: Drop>(
     }
 }
 
-// After a fault that may pass, aborts the transaction, unless its timestamp is drawn or the window is full: its commit is only
-// asked again then. Fails with any other fault.
+// After a fault that may pass, aborts the transaction, unless its timestamp is drawn or the window is full. Then only its
+// commit is asked again. Fails with any other fault.
 fn step_back<T: Wait, D: Pmem + Drop, J: Origin, B: Drop>(
     rt: &T,
     session: &mut Session<D, J, B>,
@@ -206,7 +207,7 @@ fn step_back<T: Wait, D: Pmem + Drop, J: Origin, B: Drop>(
     give_up(rt, session)
 }
 
-// Aborts the transaction, where its timestamp isn't drawn yet.
+// Aborts the transaction, if its timestamp isn't drawn yet.
 fn give_up<T: Wait, D: Pmem + Drop, J: Origin, B: Drop>(
     rt: &T,
     session: &mut Session<D, J, B>,

@@ -2,7 +2,7 @@ use base::step::Note;
 use engine::{Gate, Go};
 use std::thread::yield_now;
 
-/// Never holds its worker, since the close of the engine ends it; where there is nothing to do it lets other threads run.
+/// Never holds its worker, which ends when the engine is closed. If there is nothing to do, it lets other threads run.
 #[derive(Drop)]
 pub struct Always;
 

@@ -85,8 +85,8 @@ fn worked_on<
     load_engine(rt, engine, tasks, sessions, load)
 }
 
-// Lets threads make their commits, each with a session of the engine, and closes it. Where a session can't be had the engine is closed
-// too, with those that were.
+// Lets threads make their commits, each with a session of the engine, and closes it. If there is no memory for a session, the
+// engine is closed too, with those that there are.
 fn load_engine<
     T: Threads + Wait + Sync,
     D: Pmem + Drop + Send + Sync,
@@ -125,7 +125,7 @@ fn load_engine<
     }
 }
 
-// Lets each session make its commits. The fault that ended one before.
+// Lets each session make its commits. The fault that ended one early.
 fn run_tasks<
     T: Threads + Wait + Sync,
     D: Pmem + Drop + Send + Sync,
@@ -142,7 +142,7 @@ fn run_tasks<
     first_fault(tasks.as_slice())
 }
 
-// So many sessions of the engine, each with its work, or those that can be had.
+// That many sessions of the engine, each with its work, or as many as there is memory for.
 fn add_tasks<T: Wait, D: Pmem + Drop, J: Origin, B: Drop>(
     rt: &T,
     engine: &Engine<D, J, B>,

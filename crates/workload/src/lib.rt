@@ -1,4 +1,4 @@
-//! A load of commits over an engine: threads, each with a session of its own, beside a committer and a collector.
+//! A load of commits over an engine: threads, each with a session of its own, while a committer and a collector work.
 #![tactic(auto)]
 
 mod committing;

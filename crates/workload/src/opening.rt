@@ -20,9 +20,9 @@ pub fn has_slots<D: Pmem + Drop>(audited: &Audited<D>, sessions: u64) -> Result<
     Ok(wanted <= audited.geometry().slots())
 }
 
-/// Whether record numbers and timestamps are left for all commits of the load: at most two records a commit, one that reserves
-/// timestamps and one that covers it, and a timestamp each. Where they end the committer writes no record any more, and who waits
-/// for one would wait for ever.
+/// Whether record numbers and timestamps are left for all commits of the load. A commit takes a timestamp and at most two
+/// records, one that reserves timestamps and one that covers it. Without numbers the committer writes no record any more, and a
+/// thread that waits for one would wait forever.
 pub fn has_numbers<D: Pmem + Drop>(audited: &Audited<D>, load: Load) -> bool
     ensures { (q : State) → Shows D.state audited.now.room q → ShowsStatus q audited.now.opening → MatchBool result (HasNumbers (load.sessions * load.commits) q) (LacksNumbers (load.sessions * load.commits) q) }
 {

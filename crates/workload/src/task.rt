@@ -1,4 +1,4 @@
-//! What ended a thread lies beside its session, since of what lies under a lock no clause says what one thread left there.
+//! What ended a thread is kept with its session, since no clause says what one thread left under a lock.
 
 use base::fault::Fault;
 use engine::{Origin, Session};
@@ -30,7 +30,7 @@ ghost use Rattle.std.specs.List.{Any};
 ghost use Rattle.std.specs.Vec.{vec_capacity};
 ghost use Rattle.workload.specs.Tasks.{sessions_in};
 
-/// The fault of the first thread that one ended.
+/// The fault of the first thread that was ended by one.
 pub fn first_fault<D: Pmem + Drop, J: Origin, B: Drop>(tasks: &[Task<D, J, B>]) -> Option<Fault>
     ensures some { IfSome result (λ fault. Any (λ task. task.fault ≡ Some fault) tasks.now) }
     ensures none { IfNone result (All (λ task. task.fault ≡ None) tasks.now) }

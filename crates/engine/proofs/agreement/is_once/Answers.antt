@@ -4,14 +4,14 @@ use Rattle.engine.specs.Agreement.{count_at}
 use Rattle.engine.proofs.Counting.{more_than_once}
 use Rattle.engine.proofs.agreement.is_once.Goals as goal
 
--- src/agreement.rt:72:13
+-- one session has it more than once
 pub returns-then-count-gt1 : goal.returns-then-count-gt1
 returns-then-count-gt1 g c =
     let here = ap (count_at c.args.place) (sym c.receipts.ensures.receipts) ∙ sym c.count_at-count.ensures in
     more_than_once c.args.place c.args.sessions.now c.loop-session.session-index c.session-item.result _ c.count_at-count.result c.loop-session-test.true c.session-item.is
     c.loop-session.invariant here (omega (arith, c.if-count-gt1.true))
 
--- src/agreement.rt:76:17
+-- two sessions have it
 pub returns-then-found : goal.returns-then-found
 returns-then-found g c =
     let here = ap (count_at c.args.place) (sym c.receipts.ensures.receipts) ∙ sym c.count_at-count.ensures in

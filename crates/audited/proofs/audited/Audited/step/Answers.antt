@@ -4,7 +4,7 @@ use Rattle.std.proofs.lemmas.Bool.{true≢false}
 use Rattle.audited.proofs.Compose.{IsAudited-step, IsAudited-stays, Stays-step, Stays-same, EndsRun-last, memory_changes_nothing}
 use Rattle.audited.proofs.audited.Audited.step.Goals as goal
 
--- no room for an entry
+-- there is no room for an entry
 
 pub invariant_of-self : goal.invariant_of-self
 invariant_of-self g c =
@@ -18,7 +18,7 @@ pub returns-then-is_err-clause-audited : goal.returns-then-is_err-clause-audited
 returns-then-is_err-clause-audited g c = λ image a.
     IsAudited-stays _ _ _ _ _ _ _ c.args.step a (Stays-same _ _ c.args.step (g.met.D.Pmem.orderly _)) c.reserve.ensures.items
 
--- the step was refused for want of memory
+-- the step was refused for lack of memory
 
 pub invariant_of-self-then-wants_memory : goal.invariant_of-self-then-wants_memory
 invariant_of-self-then-wants_memory g c =
@@ -35,7 +35,7 @@ returns-then-wants_memory-clause-audited g c = λ image a.
     (Stays-step _ _ _ c.args.step c.step-reply.result c.step-reply.ensures.step (memory_changes_nothing _ (c.wants_memory.ensures.0 c.if-wants_memory.true)))
     c.reserve.ensures.items
 
--- no room for the notes
+-- there is no room for the notes
 
 pub invariant_of-self-in_default : goal.invariant_of-self-in_default
 invariant_of-self-in_default g c =
