@@ -6,6 +6,7 @@ use Rattle.std.specs.Result.{ForOk, ForErr}
 use Rattle.std.specs.Option.{ForSome, option_or}
 use Rattle.std.proofs.Math.Logic.{∥∥₁_elim, ∥∥₁_prop}
 use Rattle.std.proofs.lemmas.List.Elements.{Contains-push}
+use Rattle.base.specs.Batches.{Batch}
 use Rattle.base.specs.declared.fault.Fault.{Fault}
 use Rattle.base.specs.declared.fault.Fault.TheVariants.{Conflict, OutOfMemory, TimestampsOut, Failed, Device as DeviceFault}
 use Rattle.base.specs.declared.key.Key.{Key}
@@ -24,6 +25,8 @@ use Rattle.database.specs.declared.error.CommitError.TheVariants.{Refused, Open}
 use Rattle.database.specs.Replies.{committed_of}
 use Rattle.room.specs.Room.{Leads, Shows, ShowsStatus, device_of}
 use Rattle.room.specs.declared.status.Status.{Status}
+use Rattle.room.specs.declared.ticks.Tick.{Tick}
+use Rattle.room.specs.Ticks.{as_reply as ticked}
 use Rattle.database.specs.declared.opened.OpenedRoom.{OpenedRoom}
 use Rattle.room.specs.Runs.{HasTaken}
 use Rattle.room.proofs.Runs.{leads-one, over-some, taken-led, ends-run}
@@ -70,12 +73,15 @@ run-ended {D} {G} {ended} state old new fault run leads other =
 pub ended-in : {D : Type 0} {G : Ghosts D} (state : D → Device) (room : Room D G) (ended : Option Fault) → ∥ HasTaken state room (EndedAlong ended) ∥₁ → (fault : Fault) → ended ≡ Some fault → HasEnded fault
 ended-in state room ended run fault is = ∥∥₁_elim run ∥∥₁_prop (λ r. (r.so.along fault is).1)
 
--- a tick with this reply
-pub run-ticked : {D : Type 0} {G : Ghosts D} {ended : Option Fault} (state : D → Device) (old new : Room D G) (reply : Reply) (after : Option Fault) → ∥ HasTaken state old (EndedAlong ended) ∥₁ → Leads state old new CommitTick reply
-    → (after ≡ ended) ⊎ ((fault : Fault) × (reply ≡ RefusedWith fault) × (fault ≢ OutOfMemory) × (after ≡ Some fault)) → ∥ HasTaken state new (EndedAlong after) ∥₁
-run-ticked state old new reply after run leads (inl same) = subst (λ (e : Option Fault). ∥ HasTaken state new (EndedAlong e) ∥₁) (sym same) (run-led state old new CommitTick reply run leads)
-run-ticked state old new reply after run leads (inr (fault, is, other, ended)) =
-    subst (λ (e : Option Fault). ∥ HasTaken state new (EndedAlong e) ∥₁) (sym ended) (run-ended state old new fault run (subst (λ (r : Reply). Leads state old new CommitTick r) is leads) other)
+-- a tick with this result, and the batch that was covered last after it
+pub run-ticked : {D : Type 0} {G : Ghosts D} {ended : Option Fault} (state : D → Device) (old new : Room D G) (result : Result Tick Fault) (last : Option Batch) (after : Option Fault)
+    → ∥ HasTaken state old (EndedAlong ended) ∥₁ → Leads state old new CommitTick (ticked result last)
+    → (after ≡ ended) ⊎ ((fault : Fault) × (result ≡ Err fault) × (fault ≢ OutOfMemory) × (after ≡ Some fault)) → ∥ HasTaken state new (EndedAlong after) ∥₁
+run-ticked state old new result last after run leads (inl same) =
+    subst (λ (e : Option Fault). ∥ HasTaken state new (EndedAlong e) ∥₁) (sym same) (run-led state old new CommitTick (ticked result last) run leads)
+run-ticked state old new result last after run leads (inr (fault, is, other, ended)) =
+    subst (λ (e : Option Fault). ∥ HasTaken state new (EndedAlong e) ∥₁) (sym ended)
+    (run-ended state old new fault run (subst (λ (r : Result Tick Fault). Leads state old new CommitTick (ticked r last)) is leads) other)
 
 -- lack of memory doesn't end the committer
 pub has-lacked : {D : Type 0} {G : Ghosts D} {ended : Option Fault} (state : D → Device) (old new : Room D G) → ∥ HasTaken state old (EndedAlong ended) ∥₁

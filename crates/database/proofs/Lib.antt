@@ -3,3 +3,4 @@ pub mod Covering
 pub mod Reporting
 pub mod Readings
 pub mod Errors
+pub mod Ticks

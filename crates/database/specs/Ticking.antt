@@ -1,6 +1,7 @@
 -- What a turn of a worker leaves under the lock.
-use Rattle.std.specs.Prelude.{◌≡◌, ◌≢◌, ◌+◌, ◌-◌, ◌^◌, ℕ, List, length, min, Some}
+use Rattle.std.specs.Prelude.{◌≡◌, ◌≢◌, ◌+◌, ◌-◌, ◌^◌, ℕ, List, length, min, Option, Some, None}
 use Rattle.std.specs.List.{sum_by}
+use Rattle.base.specs.Batches.{Batch}
 use Rattle.base.specs.Commits.{Commit}
 use Rattle.base.specs.declared.fault.Fault.{Fault}
 use Rattle.base.specs.declared.fault.Fault.TheVariants.{OutOfMemory}
@@ -11,8 +12,9 @@ use Rattle.base.specs.declared.step.Reply.TheVariants as reply
 use Rattle.base.specs.declared.step.Stage.TheVariants.{GateFlushed}
 use Rattle.pmem.specs.Device.{Device}
 use Rattle.pmem.specs.declared.device.Pmem.{Ghosts}
-use Rattle.room.specs.Room.{Leads}
+use Rattle.room.specs.Room.{Leads, covered_by}
 use Rattle.database.specs.declared.desk.Desk.{Desk}
+use Rattle.database.specs.declared.opened.OpenedRoom.{OpenedRoom}
 use Rattle.database.specs.declared.turns.Turn.{Turn}
 use Rattle.database.specs.declared.turns.Turn.TheVariants.{Idle, Finished, Flushed, LacksMemory, Stopped, Unfinished}
 use Rattle.database.specs.Obeys.{InRoom, ended_of}
@@ -35,6 +37,16 @@ refusals_after refusals _ = 0
 -- how many rows these commits have written or deleted
 abbrev pub rows_written : List Commit → ℕ
 rows_written commits = sum_by (λ commit. length commit.writes) commits
+
+-- the batch that was covered last in the room that is there, if one was
+abbrev pub covered_in : {D : Type 0} → {G : Ghosts D} → Option (OpenedRoom D G) → Option Batch
+covered_in (Some room) = covered_by room.room
+covered_in None = None
+
+-- how many rows its commits have written or deleted, as far as a word counts
+abbrev pub rows_in : Option Batch → ℕ
+rows_in (Some batch) = min (rows_written batch.commits) (2 ^ 64 - 1)
+rows_in None = 0
 
 -- how many of them were then covered since the collector's last round
 abbrev pub covered_after : ℕ → Reply → ℕ

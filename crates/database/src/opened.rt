@@ -7,9 +7,8 @@ ghost use Rattle.database.specs.Ended.{EndedAlong};
 use base::Ts;
 use base::fault::Fault;
 use base::geometry::Geometry;
-use base::step::Reply;
 use pmem::Pmem;
-use room::{Room, Status, Usage};
+use room::{Room, Status, Tick, Usage, Visit};
 use sync_ahead::SyncAhead;
 
 /// The room of a device that was opened. It shows the end of a run from that opening: the thread that holds the lock extends the run by
@@ -23,12 +22,14 @@ pub struct OpenedRoom<D: Pmem> {
 }
 
 impl<D: Pmem + Drop> OpenedRoom<D> {
-    ghost use Rattle.std.specs.Prelude.{◌≡◌, ◌≢◌, ◌-◌, None, Some};
+    ghost use Rattle.std.specs.Prelude.{◌≡◌, ◌≢◌, ◌-◌, None, Some, IsSome, Ok, Err};
     ghost use Rattle.base.specs.declared.fault.Fault.TheVariants.{OutOfMemory};
-    ghost use Rattle.base.specs.declared.step.Reply.TheVariants.{Refused};
     ghost use Rattle.base.specs.declared.step.Step.TheVariants.{Commit, Collect};
     ghost use Rattle.machine.specs.Machine.{State};
-    ghost use Rattle.room.specs.Room.{Leads, Shows, ShowsStatus};
+    ghost use Rattle.session_steps.specs.Collecting.{as_reply as visited};
+    ghost use Rattle.room.specs.declared.ticks.Tick.TheVariants.{Covered};
+    ghost use Rattle.room.specs.Ticks.{as_reply as ticked};
+    ghost use Rattle.room.specs.Room.{Leads, Shows, ShowsStatus, covered_by};
     ghost use Rattle.room.specs.Runs.{ComesTo};
     ghost use Rattle.room.specs.Usage.{ShowsUsage};
     ghost use Rattle.database.specs.Opening.{IsFresh};
@@ -43,22 +44,23 @@ impl<D: Pmem + Drop> OpenedRoom<D> {
     }
 
     /// A tick of the committer. If it is refused, the fault is kept, except for lack of memory, which passes.
-    pub fn tick(&mut self) -> Reply
-        ensures step { Leads D.state self.old.room self.new.room Commit result }
-        ensures ended { (fault : Fault) → result ≡ Refused fault → fault ≢ OutOfMemory → self.new.ended ≡ Some fault }
-        ensures goes_on { ((fault : Fault) → result ≡ Refused fault → fault ≡ OutOfMemory) → self.new.ended ≡ self.old.ended }
+    pub fn tick(&mut self) -> Result<Tick, Fault>
+        ensures step { Leads D.state self.old.room self.new.room Commit (ticked result (covered_by self.new.room)) }
+        ensures covers { result ≡ Ok Covered → IsSome (covered_by self.new.room) }
+        ensures ended { (fault : Fault) → result ≡ Err fault → fault ≢ OutOfMemory → self.new.ended ≡ Some fault }
+        ensures goes_on { ((fault : Fault) → result ≡ Err fault → fault ≡ OutOfMemory) → self.new.ended ≡ self.old.ended }
     {
-        let reply = self.room.tick();
-        self.ended = ended_by(&reply, self.ended);
-        reply
+        let returned = self.room.advance();
+        self.ended = ended_by(&returned, self.ended);
+        returned
     }
 
     /// A visit of the collector.
-    pub fn visit(&mut self) -> Reply
-        ensures step { Leads D.state self.old.room self.new.room Collect result }
+    pub fn visit(&mut self) -> Result<Visit, Fault>
+        ensures step { Leads D.state self.old.room self.new.room Collect (visited result) }
         ensures ended { self.new.ended ≡ self.old.ended }
     {
-        self.room.visit()
+        self.room.collect()
     }
 
     /// The layout of the device.
@@ -100,20 +102,19 @@ impl<D: Pmem + Drop> OpenedRoom<D> {
     }
 }
 
-ghost use Rattle.std.specs.Prelude.{◌≡◌, ◌≢◌, ◌⊎◌, Some};
+ghost use Rattle.std.specs.Prelude.{◌≡◌, ◌≢◌, ◌⊎◌, Some, Err};
 ghost use Rattle.base.specs.declared.fault.Fault.TheVariants.{OutOfMemory};
-ghost use Rattle.base.specs.declared.step.Reply.TheVariants.{Refused};
 
-// The fault that has ended the committer after a tick with this reply; `before` is the one that had ended it before, if any.
-fn ended_by(reply: &Reply, before: Option<Fault>) -> Option<Fault>
-    ensures ended { (fault : Fault) → reply.now ≡ Refused fault → fault ≢ OutOfMemory → result ≡ Some fault }
-    ensures goes_on { ((fault : Fault) → reply.now ≡ Refused fault → fault ≡ OutOfMemory) → result ≡ before }
-    ensures either { (result ≡ before) ⊎ ((fault : Fault) × (reply.now ≡ Refused fault) × (fault ≢ OutOfMemory) × (result ≡ Some fault)) }
+// The fault that has ended the committer after a tick with this result; `before` is the one that had ended it before, if any.
+fn ended_by(returned: &Result<Tick, Fault>, before: Option<Fault>) -> Option<Fault>
+    ensures ended { (fault : Fault) → returned.now ≡ Err fault → fault ≢ OutOfMemory → result ≡ Some fault }
+    ensures goes_on { ((fault : Fault) → returned.now ≡ Err fault → fault ≡ OutOfMemory) → result ≡ before }
+    ensures either { (result ≡ before) ⊎ ((fault : Fault) × (returned.now ≡ Err fault) × (fault ≢ OutOfMemory) × (result ≡ Some fault)) }
 {
-    match reply {
-        Reply::Refused(Fault::OutOfMemory) => before,
-        Reply::Refused(fault) => Some(*fault),
-        _ => before,
+    match returned {
+        Err(Fault::OutOfMemory) => before,
+        Err(fault) => Some(*fault),
+        Ok(_) => before,
     }
 }
 

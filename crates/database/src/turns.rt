@@ -12,8 +12,9 @@ use crate::desk::{Desk, Shared};
 use crate::opened::OpenedRoom;
 use base::batch::Batch;
 use base::fault::Fault;
-use base::step::{Reply, Stage};
+use base::step::Stage;
 use pmem::Pmem;
+use room::{Tick, Visit};
 use std::sync::{MutexGuard, Wait};
 use sync_ahead::SyncAhead;
 
@@ -54,11 +55,10 @@ fn tick<D: Pmem + Drop>(desk: &mut Desk<D>) -> Turn
     let Some(room) = &mut desk.room else {
         return Turn::Idle;
     };
-    let reply = room.tick();
-    if let Reply::Refused(fault) = reply {
-        return desk.after_refusal(fault);
+    match room.tick() {
+        Ok(tick) => desk.after_tick(tick),
+        Err(fault) => desk.after_refusal(fault),
     }
-    desk.after_tick(&reply)
 }
 
 // How many rows the commits of a batch have written or deleted.
@@ -101,43 +101,57 @@ fn visit_some<D: Pmem + Drop>(room: &mut OpenedRoom<D>) -> Turn
     let visits = (room.geometry().slots() / 4).clamp(LEAST_VISITS, MOST_VISITS);
     for _ in 0..visits {
         match room.visit() {
-            Reply::SweepEnd => return Turn::Finished,
-            Reply::Refused(_) => return Turn::Stopped,
-            _ => {}
+            Ok(Visit::SweepEnd) => return Turn::Finished,
+            Ok(Visit::Slot(_)) => {}
+            Err(_) => return Turn::Stopped,
         }
     }
     Turn::Unfinished
 }
 
-impl<D: Pmem> Desk<D> {
-    ghost use Rattle.std.specs.Prelude.{◌≡◌, ◌≢◌};
-    ghost use Rattle.base.specs.declared.fault.Fault.{Fault};
+impl<D: Pmem + Drop> Desk<D> {
+    ghost use Rattle.std.specs.Prelude.{◌≡◌, ◌≢◌, IsSome, Ok};
     ghost use Rattle.base.specs.declared.fault.Fault.TheVariants.{OutOfMemory};
     ghost use Rattle.base.specs.declared.step.Reply.TheVariants.{Refused};
+    ghost use Rattle.room.specs.declared.ticks.Tick.TheVariants.{Covered};
+    ghost use Rattle.room.specs.Ticks.{as_reply as ticked};
     ghost use Rattle.database.specs.declared.turns.Turn.TheVariants.{Stopped};
     ghost use Rattle.database.specs.Committing.{HasLackedMemory};
-    ghost use Rattle.database.specs.Ticking.{LeavesRest, turn_of, refusals_after, covered_after};
+    ghost use Rattle.database.specs.Ticking.{LeavesRest, turn_of, refusals_after, covered_after, covered_in, rows_in};
 
     // The outcome of a tick that isn't refused.
-    fn after_tick(&mut self, reply: &Reply) -> Turn
-        requires answered { (fault : Fault) → reply.now ≢ Refused fault }
+    fn after_tick(&mut self, tick: Tick) -> Turn
+        requires covers { tick ≡ Covered → IsSome (covered_in self.old.room) }
         ensures goes_on { result ≢ Stopped }
         ensures room { self.new.room ≡ self.old.room }
-        ensures turn { result ≡ turn_of reply.now }
-        ensures refusals { self.new.refusals ≡ refusals_after self.old.refusals reply.now }
-        ensures covered { self.new.covered ≡ covered_after self.old.covered reply.now }
+        ensures turn { result ≡ turn_of (ticked (Ok tick) (covered_in self.old.room)) }
+        ensures refusals { self.new.refusals ≡ refusals_after self.old.refusals (ticked (Ok tick) (covered_in self.old.room)) }
+        ensures covered { self.new.covered ≡ covered_after self.old.covered (ticked (Ok tick) (covered_in self.old.room)) }
         ensures open { self.new.open ≡ self.old.open }
         ensures rest { LeavesRest self.old self.new }
     {
         self.refusals = 0;
-        match reply {
-            Reply::Idle => Turn::Idle,
-            Reply::Covered(batch) => {
-                self.covered = self.covered.saturating_add(rows_of(batch));
+        match tick {
+            Tick::Idle => Turn::Idle,
+            Tick::Covered => {
+                self.covered = self.covered.saturating_add(self.rows_covered());
                 Turn::Finished
             }
-            Reply::Ticked(Stage::GateFlushed) => Turn::Flushed,
-            _ => Turn::Unfinished,
+            Tick::Reached(Stage::GateFlushed) => Turn::Flushed,
+            Tick::Reached(_) => Turn::Unfinished,
+        }
+    }
+
+    // How many rows the batch that was covered last has written or deleted.
+    fn rows_covered(&self) -> u64
+        ensures { result ≡ rows_in (covered_in self.now.room) }
+    {
+        let Some(room) = &self.room else {
+            return 0;
+        };
+        match room.room.covered() {
+            Some(batch) => rows_of(batch),
+            None => 0,
         }
     }
 

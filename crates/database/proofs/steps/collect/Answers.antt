@@ -1,6 +1,7 @@
 use Rattle.std.proofs.Common.{◌≡◌, ◌∙◌, ℕ, refl, subst, rules}
 use Rattle.database.specs.Obeys.{RepeatsTimes}
 use Rattle.base.specs.declared.step.Step.TheVariants.{Collect}
+use Rattle.session_steps.specs.Collecting.{as_reply as visited}
 use Rattle.database.proofs.Covering.{times-none, times-then}
 use Rattle.database.proofs.steps.collect.Goals as goal
 
@@ -9,8 +10,8 @@ loop-made-init g c = record { visits = times-none g.D.Pmem.state c.args.room.now
 
 pub loop-made-preserved : goal.loop-made-preserved
 loop-made-preserved g c = record {
-  visits = times-then g.D.Pmem.state c.args.room.now.room c.loop-made.room.room c.visit-reply.new.self.room Collect c.loop-made._made c.visit-reply.result c.loop-made.invariant.visits c.visit-reply.ensures.step;
-  ended = c.visit-reply.ensures.ended ∙ c.loop-made.invariant.ended;
+  visits = times-then g.D.Pmem.state c.args.room.now.room c.loop-made.room.room c.visit.new.self.room Collect c.loop-made._made (visited c.visit.result) c.loop-made.invariant.visits c.visit.ensures.step;
+  ended = c.visit.ensures.ended ∙ c.loop-made.invariant.ended;
 }
 
 pub returns-clause-visits : goal.returns-clause-visits
