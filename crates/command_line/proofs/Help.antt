@@ -54,8 +54,3 @@ module _ (a : App) (s : Shape) where
 pub answers : (words : List Text) (is : ErrorKind) (fault : WordFault) → ReportsKind is fault → (is ≡ kind.OutOfMemory) ⊎ IsAmong is (fault_of wbl words)
     → AnswersHelp words fault
 answers words is a help met = grind (arith)
-
--- if the words have no fault, bad words are reported for being unusual
-pub unusual : (words : List Text) (is : ErrorKind) (fault : WordFault) → ReportsKind is fault → is ≡ kind.InvalidValue → fault_of wbl words ≡ []
-    → AnswersHelp words fault
-unusual words is a help same none = grind (arith)

@@ -1,9 +1,7 @@
 pub mod Numbers
 pub mod Lines
 pub mod ImageFiles
-pub mod OptionParts
 pub mod Rows
-pub mod Complete
-pub mod Refused
 pub mod Scripts
 pub mod Help
+pub mod Matches

@@ -90,3 +90,9 @@ abbrev pub AnswersHelp : List Text → WordFault → Type 0
 AnswersHelp words (Help text) = MayGetHelp words
 AnswersHelp words (BadWords text) = GetsHelp words → ⊥
 AnswersHelp words (OutOfMemory error) = ⊤
+
+-- this, unless memory was lacking
+abbrev pub UnlessOutOfMemory : Type 0 → WordFault → Type 0
+UnlessOutOfMemory P (Help text) = P
+UnlessOutOfMemory P (BadWords text) = P
+UnlessOutOfMemory P (OutOfMemory error) = ⊤

@@ -5,5 +5,4 @@ pub mod ImageFile
 pub mod Texts
 pub mod Words
 pub mod Help
-pub mod Given
 pub mod Scripts

@@ -1,5 +1,9 @@
-ghost use Rattle.std.specs.Prelude.{◌∷◌, [], codes};
+ghost use Rattle.std.specs.Prelude.{◌≡◌, ◌∷◌, [], codes, false, true};
+ghost use Rattle.std.specs.Borrow.{Bor};
 ghost use Rattle.command_line.specs.Help.{GetsHelp, MayGetHelp};
+ghost use Rattle.command_line.specs.Numbers.{Text};
+ghost use Rattle.command_line.specs.Words.{Gives, GivesNothing};
+ghost use Rattle.command_line.specs.declared.orders.Order.TheVariants.{Format, Run, Threads};
 
 /// `-h` and `--help` ask for help, alone and after a subcommand. No words don't, nor does a word that names no subcommand.
 pub fn flags_ask_for_help()
@@ -8,4 +12,24 @@ pub fn flags_ask_for_help()
     ensures of_a_subcommand { GetsHelp (codes "format" ∷ codes "--help" ∷ []) }
     ensures no_words { MayGetHelp [] → ⊥ }
     ensures no_subcommand { MayGetHelp (codes "frob" ∷ []) → ⊥ }
+{}
+
+/// What some words give, for files with the name `a`.
+pub fn words_give_orders()
+    ensures run { (a : Bor Text) → a.now ≡ codes "a" → Gives (codes "run" ∷ codes "a" ∷ []) (Run a) }
+    ensures defaults { (a : Bor Text) → a.now ≡ codes "a" → Gives (codes "format" ∷ codes "a" ∷ []) (Format a false 1024 4 64) }
+
+    // Options come before the file or after it. A value is in a word of its own or follows a `=`.
+    ensures options { (a : Bor Text) → a.now ≡ codes "a" → Gives (codes "format" ∷ codes "--slots" ∷ codes "8" ∷ codes "a" ∷ codes "--places=2" ∷ codes "--wide" ∷ []) (Format a true 8 2 64) }
+    ensures threads { (a : Bor Text) → a.now ≡ codes "a" → Gives (codes "threads" ∷ codes "a" ∷ codes "--commits" ∷ codes "3" ∷ []) (Threads a 4 3) }
+    ensures no_file { GivesNothing (codes "run" ∷ []) }
+    ensures second_file { GivesNothing (codes "run" ∷ codes "a" ∷ codes "b" ∷ []) }
+    ensures second_value { GivesNothing (codes "format" ∷ codes "a" ∷ codes "--slots" ∷ codes "8" ∷ codes "--slots" ∷ codes "9" ∷ []) }
+    ensures other_option { GivesNothing (codes "threads" ∷ codes "a" ∷ codes "--slots" ∷ codes "8" ∷ []) }
+    ensures no_number { GivesNothing (codes "format" ∷ codes "a" ∷ codes "--slots" ∷ codes "8x" ∷ []) }
+    ensures out_of_limits { GivesNothing (codes "format" ∷ codes "a" ∷ codes "--slots" ∷ codes "0" ∷ []) }
+
+    // clap takes these two, and no order is given.
+    ensures plus_sign { GivesNothing (codes "format" ∷ codes "a" ∷ codes "--slots" ∷ codes "+8" ∷ []) }
+    ensures minus { GivesNothing (codes "run" ∷ codes "-" ∷ []) }
 {}

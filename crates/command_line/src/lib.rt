@@ -3,7 +3,7 @@
 #![tactic(auto)]
 
 pub mod command;
-mod given;
+mod found;
 pub mod image_file;
 pub mod law;
 pub mod line;

@@ -40,16 +40,6 @@ pub enum Order<'a> {
     },
 }
 
-/// An option with a number: three of `format`, and two of `threads`.
-#[derive(Clone, Copy)]
-pub enum Choice {
-    Slots,
-    Places,
-    Window,
-    Sessions,
-    Commits,
-}
-
 /// How many threads with a session there may be, from 1 on.
 pub const MOST_SESSIONS: u64 = 32;
 

@@ -1,11 +1,12 @@
-ghost use Rattle.std.specs.Prelude.{◌≡◌, [], ◌∷◌, codes, false, IfErr, IfOk, IsOkAnd, OnErr};
+ghost use Rattle.std.specs.Prelude.{◌≡◌, ◌⊎◌, [], ◌∷◌, codes, false, IfErr, IfOk, IsOkAnd};
 ghost use Rattle.clap.specs.Words.{AddsArg, AddsSubcommand, app_of, kind_of, rule_of, shape_of};
-ghost use Rattle.command_line.specs.Help.{AnswersHelp, ReportsKind, app_with, check_shape, flag_rule, format_shape, lives_shape, name_rule, number_rule, run_shape, threads_shape, wbl, wbl_alone};
+ghost use Rattle.clap.specs.declared.error.kind.ErrorKind.TheVariants.{OutOfMemory as OutOfMemoryKind};
+ghost use Rattle.command_line.specs.Help.{AnswersHelp, ReportsKind, UnlessOutOfMemory, app_with, check_shape, flag_rule, format_shape, lives_shape, name_rule, number_rule, run_shape, threads_shape, wbl, wbl_alone};
 ghost use Rattle.command_line.specs.Lines.{texts};
 ghost use Rattle.command_line.specs.Words.{Gives, GivesNothing};
 ghost use Rattle.command_line.specs.declared.orders.WordFault.{WordFault as WordFaultValue};
 
-use crate::given::spelled_order;
+use crate::found::found_order;
 use crate::orders::{MOST_COMMITS, MOST_SESSIONS, Order, WordFault};
 use clap::builder::ValueParser;
 use clap::error::ErrorKind;
@@ -13,40 +14,40 @@ use clap::{Arg, ArgAction, Command};
 use std::alloc::{AllocError, Global};
 
 /// What the words after the program's name ask for: a subcommand, a file, and numbers that have
-/// defaults. Fails with the text for the user; only that text takes memory.
+/// defaults. Fails with the text for the user.
 pub fn order<'a>(alloc: Global, words: &'a [&'a str]) -> Result<Order<'a>, WordFault>
-    ensures gives { IfOk result (λ order. Gives (texts words.now) order) }
-    ensures refused { OnErr result (GivesNothing (texts words.now)) }
+    ensures gives { IfOk result (Gives (texts words.now)) }
+
+    // Lack of memory says nothing about the words.
+    ensures refused { IfErr result (UnlessOutOfMemory (GivesNothing (texts words.now))) }
 
     // Help is printed if it is asked for, and only then.
     ensures help { IfErr result (AnswersHelp (texts words.now)) }
 {
-    match spelled_order(words) {
-        Some(order) => Ok(order),
-        None => match bad_words(alloc, words) {
-            Ok(fault) => Err(fault),
-            Err(error) => Err(WordFault::OutOfMemory(error)),
-        },
+    let mut command = match command_line(alloc) {
+        Ok(command) => command,
+        Err(error) => return Err(WordFault::OutOfMemory(error)),
+    };
+    match parsed_order(&mut command, words) {
+        Ok(order) => Ok(order),
+        Err(error) => Err(word_fault(alloc, &error)),
     }
 }
 
-// What to report for words that give no order: help if it was asked for, and otherwise what is wrong with them.
-fn bad_words<'a>(alloc: Global, words: &'a [&'a str]) -> Result<WordFault, AllocError>
-    ensures help { IfOk result (AnswersHelp (texts words.now)) }
-{
-    let mut command = command_line(alloc)?;
-    let error = error_of(&mut command, words)?;
-    Ok(word_fault(alloc, &error))
-}
-
-// What clap reports about the words, or if it accepts them, that they are unusual.
-fn error_of<'a>(command: &mut Command<'a>, words: &'a [&'a str]) -> Result<clap::Error, AllocError>
+// The order in the words, or what clap reports about them. If it takes them and they give no order, they are unusual.
+fn parsed_order<'a>(
+    command: &mut Command<'a>,
+    words: &'a [&'a str],
+) -> Result<Order<'a>, clap::Error>
     requires { app_of command.old ≡ wbl }
-    ensures help { IfOk result (λ error. (fault : WordFaultValue) → ReportsKind (kind_of error) fault → AnswersHelp (texts words.now) fault) }
+    ensures gives { IfOk result (Gives (texts words.now)) }
+    ensures refused { IfErr result (λ error. (kind_of error ≡ OutOfMemoryKind) ⊎ GivesNothing (texts words.now)) }
+    ensures help { IfErr result (λ error. (fault : WordFaultValue) → ReportsKind (kind_of error) fault → AnswersHelp (texts words.now) fault) }
 {
-    match command.try_get_matches_from_mut(words) {
-        Err(error) => Ok(error),
-        Ok(_) => command.error(ErrorKind::InvalidValue, UNUSUAL_WORDS),
+    let matches = command.try_get_matches_from_mut(words)?;
+    match found_order(&matches) {
+        Some(order) => Ok(order),
+        None => Err(command.error(ErrorKind::InvalidValue, UNUSUAL_WORDS)?),
     }
 }
 
