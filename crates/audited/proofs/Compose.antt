@@ -1,6 +1,7 @@
 -- A history goes on by a step.
-use Rattle.std.proofs.Common.{◌≡◌, ℕ, ◌<◌, ◌≤◌, List, [], ◌∷◌, ◌++◌, refl, sym, subst, ◌∙◌, arith, inl, inr, Bool, true, false}
-use Rattle.std.specs.Prelude.{Option, None, Contains, nat_lt}
+use Rattle.std.proofs.Common.{◌≡◌, ◌<◌, ◌≤◌, List, [], ◌∷◌, ◌++◌, refl, sym, subst, ◌∙◌, arith, inl, inr, Bool, true, false}
+use Rattle.std.proofs.Math.Logic.{∥∥₁_map}
+use Rattle.std.specs.Prelude.{Option, Contains, nat_lt, ⊤}
 use Rattle.std.proofs.lemmas.Bool.Decides.{nat_tests}
 use Rattle.std.proofs.lemmas.List.Elements.{Contains-append_cases}
 use Rattle.base.specs.declared.fault.Fault.TheVariants.{OutOfMemory, Device as DeviceFault}
@@ -8,65 +9,41 @@ use Rattle.base.specs.declared.step.Step.{Step}
 use Rattle.base.specs.declared.step.Note.{Note}
 use Rattle.base.specs.declared.step.Reply.{Reply}
 use Rattle.base.specs.declared.step.Reply.TheVariants.{Rows, Refused}
-use Rattle.base.specs.Commits.{Commit}
-use Rattle.base.specs.Images.{Image, ruling, opening_fault}
-use Rattle.machine.specs.Openings.{OpensAs}
-use Rattle.base.specs.Stands.{Stands}
+use Rattle.base.specs.Images.{Image}
 use Rattle.base.specs.Replies.{IsRows, note_of}
-use Rattle.machine.specs.Machine.{State, Hand, Cover, Stepped, Noted, StandsAt, StandsWithin, covers_at, of_hand, present}
-use Rattle.machine.proofs.Runs.{Noted-append, memory_unchanged}
+use Rattle.machine.specs.Machine.{State, Hand, Cover, Stepped, StandsAt, StandsWithin, covers_at, of_hand, present}
+use Rattle.machine.proofs.Runs.{memory_unchanged}
 use Rattle.machine.proofs.Notes.{rows-unchanged}
-use Rattle.base.proofs.Histories.{history_in, sound-stands, opens-sound}
 use Rattle.pmem.specs.Device.{Device, IsOrderly}
 use Rattle.pmem.specs.Words.{LeavesOnly, HasNoFailure}
 use Rattle.pmem.proofs.Images.{leaves_refl, leaves_weaken}
 use Rattle.pmem.specs.declared.device.Pmem.{Ghosts}
 use Rattle.room.specs.declared.room.Room.{Room}
 use Rattle.room.specs.declared.status.Status.{Status}
-use Rattle.room.specs.Room.{Shows, ShowsStatus, StepsTo, device_of}
-use Rattle.audited.specs.Audit.{RunsFrom, IsAudited, EndsRun, Keeps, Stays, ChangesNothing}
+use Rattle.room.specs.Room.{Shows, ShowsStatus, Leads, device_of}
+use Rattle.room.specs.Runs.{OpensTo, RunOf}
+use Rattle.room.proofs.Runs.{of-opened, of-led, of-weaken}
+use Rattle.audited.specs.Audit.{HasHistory, IsAudited, IsLastOfRun, Keeps, Stays, ChangesNothing}
 use Rattle.audited.specs.declared.receipt.Receipt.{Receipt}
 
-abbrev pub Steps : {D : Type 0} {G : Ghosts D} (state : D → Device) (old new : Room D G) (step : Step) (reply : Reply) → Type 0
-Steps state old new step reply = (q : State) → Shows state old q → (q' : State) × StepsTo state old new step reply q q'
+-- what follows from what holds of the state that an image opens as
+pub opens-weaken : (image : Image) (Is Other : State → Type 0) → ((q : State) → Is q → Other q) → OpensTo image Is → OpensTo image Other
+opens-weaken image Is Other weaker opens =
+    record { may_open = opens.may_open; each = λ history drawn next lost stands. let s = opens.each history drawn next lost stands in (s.0, s.1, weaker s.0 s.2) }
 
 -- a room that was just opened has the empty history
 pub IsAudited-opened : {D : Type 0} {G : Ghosts D} (state : D → Device) (room : Room D G) (image : Image) (opening : Status) {entries : List (Step × Note)}
-    → opening_fault image ≡ None
-    → ((history drawn : List Commit) (next : ℕ) (lost : List ℕ) → Stands image history drawn next → (q : State) × OpensAs image history lost q × Shows state room q)
-    → ((q : State) → Shows state room q → ShowsStatus q opening) → entries ≡ []
-    → IsAudited state room image opening entries
-IsAudited-opened state room image opening opens shows status none = record {
-  may_open = opens;
-  runs = λ history drawn next lost stands.
-      let shown = shows history drawn next lost stands in
-      record {
-        start = shown.0;
-        now = shown.0;
-        opens = shown.1;
-        status = status shown.0 shown.2;
-        run = subst (λ (es : List (Step × Note)). Noted shown.0 es shown.0) (sym none) refl;
-        shows = shown.2;
-      };
+    → OpensTo image (Shows state room) → ((q : State) → Shows state room q → ShowsStatus q opening) → entries ≡ [] → IsAudited state room image opening entries
+IsAudited-opened state room image opening opens status none = record {
+  status = opens-weaken image (Shows state room) (λ q. ShowsStatus q opening) status opens;
+  run = subst (λ (es : List (Step × Note)). RunOf image es (Shows state room)) (sym none) (of-opened state room image opens.may_open opens.each);
 }
 
 -- a history goes on by a step that is kept
 pub IsAudited-step : {D : Type 0} {G : Ghosts D} (state : D → Device) (room room' : Room D G) (image : Image) (opening : Status) (entries entries' : List (Step × Note)) (step : Step) (reply : Reply) (note : Note)
-    → IsAudited state room image opening entries → Steps state room room' step reply
-    → note ≡ note_of reply → entries' ≡ entries ++ (step, note) ∷ []
-    → IsAudited state room' image opening entries'
-IsAudited-step {D} {G} state room room' image opening entries entries' step reply note a steps noted added =
-    record { may_open = a.may_open; runs = λ history drawn next lost stands. more history lost (a.runs history drawn next lost stands) }
-  where
-    more : (history : List Commit) (lost : List ℕ) → RunsFrom state room image history lost opening entries → RunsFrom state room' image history lost opening entries'
-    more history lost r = let s = steps r.now r.shows in record {
-      start = r.start;
-      now = s.0;
-      opens = r.opens;
-      status = r.status;
-      run = rw (added, noted) (Noted-append r.start entries r.now step reply s.0 r.run s.1.stepped);
-      shows = s.1.shows;
-    }
+    → IsAudited state room image opening entries → Leads state room room' step reply → note ≡ note_of reply → entries' ≡ entries ++ (step, note) ∷ [] → IsAudited state room' image opening entries'
+IsAudited-step state room room' image opening entries entries' step reply note a leads noted added =
+    record { status = a.status; run = rw (added, noted) (of-led state room room' image entries step reply a.run leads) }
 
 -- within a step that leads from a state to itself, an image stands for what it stands for between two steps
 one_of_hand : (q : State) (cover : Cover) (hand : Option Hand) → Contains (of_hand q hand ++ present q ∷ []) cover → Contains (present q ∷ of_hand q hand) cover
@@ -78,9 +55,9 @@ StandsWithin-at q image s =
 
 -- a step that changes nothing leaves the state that was shown
 pub Stays-step : {D : Type 0} {G : Ghosts D} (state : D → Device) (room room' : Room D G) (step : Step) (reply : Reply)
-    → Steps state room room' step reply → ChangesNothing reply → (q : State) → Shows state room q → Stays state room room' step q
-Stays-step {D} {G} state room room' step reply steps nothing q shown =
-    let s = steps q shown in
+    → Leads state room room' step reply → ChangesNothing reply → (q : State) → Shows state room q → Stays state room room' step q
+Stays-step {D} {G} state room room' step reply leads nothing q shown =
+    let s = leads q shown in
     let same : s.0 ≡ q = nothing.same q s.0 step s.1.stepped in
     record {
       shows = subst (λ (m : State). Shows state room' m) same s.1.shows;
@@ -131,34 +108,12 @@ rows_change_nothing reply (rows, is) = record {
 pub IsAudited-stays : {D : Type 0} {G : Ghosts D} (state : D → Device) (room room' : Room D G) (image : Image) (opening : Status) (entries entries' : List (Step × Note)) (step : Step)
     → IsAudited state room image opening entries → ((q : State) → Shows state room q → Stays state room room' step q) → entries' ≡ entries
     → IsAudited state room' image opening entries'
-IsAudited-stays {D} {G} state room room' image opening entries entries' step a stays same =
-    record { may_open = a.may_open; runs = λ history drawn next lost stands. still history lost (a.runs history drawn next lost stands) }
-  where
-    still : (history : List Commit) (lost : List ℕ) → RunsFrom state room image history lost opening entries → RunsFrom state room' image history lost opening entries'
-    still history lost r = record {
-      start = r.start;
-      now = r.now;
-      opens = r.opens;
-      status = r.status;
-      run = subst (λ (es : List (Step × Note)). Noted r.start es r.now) (sym same) r.run;
-      shows = (stays r.now r.shows).shows;
-    }
-
--- an image that opens stands for some history, so that there is such a run
-pub some_run : {D : Type 0} {G : Ghosts D} (state : D → Device) (room : Room D G) (image : Image) (opening : Status) (entries : List (Step × Note))
-    → IsAudited state room image opening entries → RunsFrom state room image (history_in image) [] opening entries
-some_run state room image opening entries a = a.runs (history_in image) [] (ruling image).dirty [] (sound-stands image (opens-sound image a.may_open))
+IsAudited-stays state room room' image opening entries entries' step a stays same =
+    record { status = a.status; run = rw same (of-weaken image entries (Shows state room) (Shows state room') (λ q shows. (stays q shows).shows) a.run) }
 
 -- the entry kept last ends a run
-pub EndsRun-last : {D : Type 0} {G : Ghosts D} (state : D → Device) (room : Room D G) (image : Image) (opening : Status) (old entries : List (Step × Note)) (step : Step) (reply : Reply) (receipt : Receipt)
-    → IsAudited state room image opening entries → Keeps old entries step reply receipt → EndsRun receipt
-EndsRun-last state room image opening old entries step reply receipt a k =
-    let r = some_run state room image opening entries a in
-    record {
-      start = r.start;
-      now = r.now;
-      before = old;
-      is_opening = (image, history_in image, [], (ruling image).dirty, [], sound-stands image (opens-sound image a.may_open), r.opens);
-      length_is = sym k.place;
-      run = rw (k.asked, k.note, ← k.entries) r.run;
-    }
+pub last-of-run : {D : Type 0} {G : Ghosts D} (state : D → Device) (room : Room D G) (opening : Status) (old entries : List (Step × Note)) (step : Step) (reply : Reply) (receipt : Receipt)
+    → ∥ HasHistory state room opening entries ∥₁ → Keeps old entries step reply receipt → ∥ IsLastOfRun receipt ∥₁
+last-of-run state room opening old entries step reply receipt has k =
+    ∥∥₁_map has (λ a.
+    record { image = a.0; before = old; length_is = sym k.place; run = rw (k.asked, k.note, ← k.entries) (of-weaken a.0 entries (Shows state room) (λ q. ⊤) (λ q shows. tt) a.1.run) })

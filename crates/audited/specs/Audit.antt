@@ -1,56 +1,38 @@
 -- What a history says about a room.
-use Rattle.std.specs.Prelude.{◌≡◌, ◌≢◌, ℕ, ◌+◌, ◌≤◌, List, [], ◌∷◌, ◌++◌, length, None}
+use Rattle.std.specs.Prelude.{◌≡◌, ◌≢◌, ◌+◌, ◌≤◌, List, [], ◌∷◌, ◌++◌, length, ⊤}
 use Rattle.base.specs.declared.fault.Fault.TheVariants.{OutOfMemory, Device as DeviceFault}
 use Rattle.base.specs.declared.step.Step.{Step}
 use Rattle.base.specs.declared.step.Note.{Note}
 use Rattle.base.specs.declared.step.Reply.{Reply}
 use Rattle.base.specs.declared.step.Reply.TheVariants.{Refused}
-use Rattle.base.specs.Commits.{Commit}
-use Rattle.base.specs.Images.{Image, opening_fault}
-use Rattle.base.specs.Stands.{Stands}
+use Rattle.base.specs.Images.{Image}
 use Rattle.base.specs.Replies.{note_of}
-use Rattle.machine.specs.Machine.{State, Stepped, Noted, most_operations, StandsAt}
-use Rattle.machine.specs.Openings.{OpensAs}
+use Rattle.machine.specs.Machine.{State, Stepped, most_operations, StandsAt}
 use Rattle.pmem.specs.Device.{Device}
 use Rattle.pmem.specs.Words.{LeavesOnly, HasNoFailure, operations_of}
 use Rattle.pmem.specs.declared.device.Pmem.{Ghosts}
 use Rattle.room.specs.declared.room.Room.{Room}
 use Rattle.room.specs.declared.status.Status.{Status}
 use Rattle.room.specs.Room.{Shows, ShowsStatus, device_of}
+use Rattle.room.specs.Runs.{OpensTo, RunOf}
 use Rattle.audited.specs.declared.receipt.Receipt.{Receipt}
 
--- The entries are a run from the state that the image opens as under this history, which has these numbers, to one that the room shows.
--- So each image that its device may leave now stands for that last state
-pub record RunsFrom {D : Type 0} {G : Ghosts D} (state : D → Device) (room : Room D G) (image : Image) (history : List Commit) (lost : List ℕ) (opening : Status) (entries : List (Step × Note)) : Type 0 where
-  pub start : State
-  pub now : State
-  pub opens : OpensAs image history lost start
-  pub status : ShowsStatus start opening
-  pub run : Noted start entries now
-  pub shows : Shows state room now
-
--- the image opens, and whatever history it stands for, the entries are a run from there
+-- The image opens, and whatever history it stands for, the state that it opens as has the numbers of opening, and the entries lead
+-- from there to a state that the room shows. So each image that its device may leave now stands for that last state
 pub record IsAudited {D : Type 0} {G : Ghosts D} (state : D → Device) (room : Room D G) (image : Image) (opening : Status) (entries : List (Step × Note)) : Type 0 where
-  pub may_open : opening_fault image ≡ None
-  pub runs : (history drawn : List Commit) (next : ℕ) (lost : List ℕ) → Stands image history drawn next → RunsFrom state room image history lost opening entries
+  pub status : OpensTo image (λ q. ShowsStatus q opening)
+  pub run : RunOf image entries (Shows state room)
 
 -- the same holds of some image: that of the device that was opened
 abbrev pub HasHistory : {D : Type 0} → {G : Ghosts D} → (D → Device) → Room D G → Status → List (Step × Note) → Type 0
 HasHistory state room opening entries = (image : Image) × IsAudited state room image opening entries
 
--- some image that stands for some history opens as this state
-abbrev pub IsOpeningState : State → Type 0
-IsOpeningState q =
-    (image : Image) × (history drawn : List Commit) × (next : ℕ) × (lost : List ℕ) × Stands image history drawn next × OpensAs image history lost q
-
--- the receipt's note ends a run of place + 1 steps from an opened state
-pub record EndsRun (receipt : Receipt) : Type 0 where
-  pub start : State
-  pub now : State
+-- a run from opening some image has as many entries as the receipt's place says, and then its step with its note
+pub record IsLastOfRun (receipt : Receipt) : Type 0 where
+  pub image : Image
   pub before : List (Step × Note)
-  pub is_opening : IsOpeningState start
   pub length_is : length before ≡ receipt.place
-  pub run : Noted start (before ++ (receipt.step, receipt.note) ∷ []) now
+  pub run : RunOf image (before ++ (receipt.step, receipt.note) ∷ []) (λ q. ⊤)
 
 -- the step was kept with its reply's note, and the receipt is that entry
 pub record Keeps (old new : List (Step × Note)) (step : Step) (reply : Reply) (receipt : Receipt) : Type 0 where

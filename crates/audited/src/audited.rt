@@ -29,15 +29,15 @@ impl<D: Pmem + Drop> Audited<D> {
     ghost use Rattle.base.specs.Commits.{Lists, after};
     ghost use Rattle.base.specs.Images.{Image};
     ghost use Rattle.machine.specs.Machine.{State};
-    ghost use Rattle.room.specs.Room.{Shows, ShowsStatus, StepsTo};
-    ghost use Rattle.audited.specs.Audit.{IsAudited, EndsRun, Keeps, Stays};
+    ghost use Rattle.room.specs.Room.{Leads, Shows, ShowsStatus};
+    ghost use Rattle.audited.specs.Audit.{IsAudited, IsLastOfRun, Keeps, Stays};
 
     /// One step, which is kept in the history. For lack of memory there is no receipt, and nothing is kept or changed.
     pub fn step(&mut self, step: Step) -> (Reply, Option<Receipt>)
         // The entry is the history's last: the step asked, and the note of the reply.
         ensures kept { IfSome result.1 (λ receipt. Keeps self.old.entries.items self.new.entries.items step result.0 receipt) }
-        ensures step { IfSome result.1 (λ receipt. (q : State) → Shows D.state self.old.room q → (q' : State) × StepsTo D.state self.old.room self.new.room step result.0 q q') }
-        ensures run { IfSome result.1 (λ receipt. ∥ EndsRun receipt ∥₁) }
+        ensures step { IfSome result.1 (λ receipt. Leads D.state self.old.room self.new.room step result.0) }
+        ensures run { IfSome result.1 (λ receipt. ∥ IsLastOfRun receipt ∥₁) }
         ensures refused { IfNone result.1 ((result.0 ≡ Refused OutOfMemory) × (self.new.entries.items ≡ self.old.entries.items)) }
         ensures stays { IfNone result.1 ((q : State) → Shows D.state self.old.room q → Stays D.state self.old.room self.new.room step q) }
         ensures opening { self.new.opening ≡ self.old.opening }

@@ -9,16 +9,16 @@ use std::alloc::Global;
 use std::thread::Threads;
 
 impl<D: Pmem + Drop + Send + Sync> Audited<D> {
-    ghost use Rattle.std.specs.Prelude.{◌≡◌, List, [], ℕ, ◌+◌, ◌*◌, ◌<◌, ◌≤◌, true, false, None, slice_index, IfOk, IfErr, MatchResult};
+    ghost use Rattle.std.specs.Prelude.{◌≡◌, List, [], ℕ, ◌+◌, ◌*◌, ◌<◌, ◌≤◌, true, false, slice_index, IfOk, IfErr, MatchResult};
     ghost use Rattle.base.specs.Commits.{Commit};
     ghost use Rattle.base.specs.Images.{layout_of, opening_fault};
     ghost use Rattle.base.specs.Stands.{Stands};
-    ghost use Rattle.machine.specs.Machine.{State};
-    ghost use Rattle.machine.specs.Openings.{OpensAs, StandsOpening, opened_slots, updated};
+    ghost use Rattle.machine.specs.Openings.{StandsOpening, opened_slots, updated};
     ghost use Rattle.pmem.specs.Words.{LeavesOnly, IsAtRest, image_of, IsSettledAt, HasNoFailure};
     ghost use Rattle.recovery.specs.Opened.{IsRefusal, MakesOpening};
     ghost use Rattle.recovery.specs.Read.{ReportsLogFault};
     ghost use Rattle.room.specs.Room.{Shows, ShowsStatus, device_of};
+    ghost use Rattle.room.specs.Runs.{OpensTo};
     ghost use Rattle.audited.specs.Audit.{IsAudited};
 
     /// Opens a device at rest, as a room is opened, with an empty history. If that is refused, returns the device with the
@@ -34,14 +34,11 @@ impl<D: Pmem + Drop + Send + Sync> Audited<D> {
         // The history is a run from the image of this very device.
         ensures audited { IfOk result (λ audited. IsAudited D.state audited.room (image_of (D.state device)) audited.opening audited.entries.items) }
 
-        // Whatever history the image stands for, the room shows the state that it opens as, and `opening` has its numbers.
-        ensures ok { IfOk result (λ audited. (history drawn : List Commit) (next : ℕ) (lost : List ℕ)
-            → Stands (image_of (D.state device)) history drawn next
-            → (q : State) × OpensAs (image_of (D.state device)) history lost q × Shows D.state audited.room q × ShowsStatus q audited.opening) }
+        // The image has none of the faults that opening reports. Whatever history it stands for, the room shows the state that
+        // it opens as, and `opening` has its numbers.
+        ensures ok { IfOk result (λ audited. OpensTo (image_of (D.state device)) (λ q. Shows D.state audited.room q × ShowsStatus q audited.opening)) }
 
-        // It opens an image that has none of the faults that opening reports. It fails with the first of them, or for lack of
-        // memory, or if an operation fails.
-        ensures may_open { IfOk result (λ audited. opening_fault (image_of (D.state device)) ≡ None) }
+        // It fails with the first of these faults, or for lack of memory, or if an operation fails.
         ensures no_failure { IfOk result (λ audited. HasNoFailure (D.state device) (device_of D.state audited.room)) }
         ensures fault { IfErr result (λ e. IsRefusal (opening_fault (image_of (D.state device))) (D.state device) (D.state e.1) e.0) }
 

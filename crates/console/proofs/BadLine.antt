@@ -2,16 +2,12 @@
 use Rattle.std.proofs.Common.{◌≡◌, ℕ, ◌+◌, ◌-◌, ◌^◌, false, List, [], ◌∷◌, ◌++◌, length, sym, ◌∙◌, ap, subst, append-nil, arith}
 use Rattle.std.specs.Prelude.{Option, Some, None, is_some, Result, IsErrAnd, IfErr, IfSome, All, min, ⊤}
 use Rattle.std.specs.Io.KnownBytes.{Appends}
-use Rattle.base.specs.Commits.{Commit}
 use Rattle.machine.specs.Machine.{State}
-use Rattle.machine.specs.Openings.{OpensAs}
-use Rattle.base.specs.Stands.{Stands}
 use Rattle.base.proofs.Options.{is_some-none}
 use Rattle.pmem.specs.Device.{Device}
 use Rattle.pmem.specs.declared.device.Pmem.{Ghosts}
 use Rattle.room.specs.Room.{Shows}
 use Rattle.room.specs.declared.room.Room.{Room}
-use Rattle.command_line.specs.ImageFile.{HoldsWords}
 use Rattle.command_line.specs.Lines.{line_of}
 use Rattle.command_line.specs.Numbers.{Text}
 use Rattle.command_line.specs.Scripts.{IsWrongLine}
@@ -22,8 +18,8 @@ use Rattle.command_line.specs.declared.orders.Order.TheVariants.{Format, Run, Ch
 use Rattle.command_line.specs.declared.printed.Printed.TheVariants as printed
 use Rattle.console.specs.BadLine.{BlamesNoLine, EndsAtBadLine, EndsAtLine, IfBadLine, IsLineOf, IsPassed, MeetsBadLine, PrintsBadLine, ReportsLine, kept_in}
 use Rattle.console.specs.Input.{BeginsWith}
-use Rattle.console.specs.Kept.{Leads}
-use Rattle.console.specs.Lives.{opened_text}
+use Rattle.console.specs.Kept.{LeadsBy}
+use Rattle.console.specs.Lives.{FileOpensTo, opened_text}
 use Rattle.console.specs.Obeyed.{ObeysLines}
 use Rattle.console.specs.declared.stop.Stop.{Stop}
 use Rattle.console.specs.declared.stop.Stop.TheVariants.{Refused, NotACommand, Broken}
@@ -52,7 +48,7 @@ unblamed r stop Q is p = passed_on r stop (λ (number : ℕ). ⊥) Q is (λ numb
 
 pub meets : {D : Type 0} {G : Ghosts D} (state : D → Device) (room room' : Room D G) (input old mid new : Option Text) (before : List Text) (line said : Text) (number at : ℕ)
     → All IsPassed before → BeginsWith input (line ∷ before) → number ≡ min (length before + 1) (2 ^ 64 - 1) → Appends old mid said
-    → Leads state room room' (λ q q'. ObeysLines q before said None q') → (at ≡ number) × (line_of line ≡ None) × (new ≡ mid)
+    → LeadsBy state room room' (λ q q'. ObeysLines q before said None q') → (at ≡ number) × (line_of line ≡ None) × (new ≡ mid)
     → MeetsBadLine state room input old new at
 meets state room room' input old mid new before line said number at passed read counted says leads (is, bad, same) = record {
   is = record { before = before; line = line; passed = passed; bad = bad; counted = is ∙ counted; read = read };
@@ -61,19 +57,15 @@ meets state room room' input old mid new before line said number at passed read 
   obeys = λ q shows. let went = leads.each q shows in (went.0, went.1);
 }
 
-pub ends-at : {D : Type 0} {G : Ghosts D} (state : D → Device) (room : Room D G) (file words : List ℕ) (input old mid new : Option Text) (begun : Text) (at : ℕ)
-    → HoldsWords file words
-    → ((past pending : List Commit) (n : ℕ) → Stands words past pending n → (q : State) × OpensAs words past [] q × Shows state room q)
-    → Appends old mid begun → ((q : State) → Shows state room q → begun ≡ opened_text q ++ 10 ∷ []) → MeetsBadLine state room input mid new at
+pub ends-at : {D : Type 0} {G : Ghosts D} (state : D → Device) (room : Room D G) (file : List ℕ) (input old mid new : Option Text) (begun : Text) (at : ℕ)
+    → FileOpensTo file (Shows state room) → Appends old mid begun → ((q : State) → Shows state room q → begun ≡ opened_text q ++ 10 ∷ []) → MeetsBadLine state room input mid new at
     → EndsAtBadLine file input old new at []
-ends-at state room file words input old mid new begun at holds opens says told met = record {
+ends-at state room file input old mid new begun at opens says told met = record {
   is = met.is;
   begun = begun;
   said = met.said;
   prints = appends-more old new new (begun ++ met.said) [] (appends-more old mid new begun met.said says met.prints) (appends-none new);
-  each = λ image held history drawn next stands.
-      (begun-of state room file words image history drawn next met.is.before None begun met.said (λ (q : State). ⊤) holds held stands opens told
-      (λ q shows. let went = met.obeys q shows in (went.0, went.1, tt))).0;
+  opens = begun-of state room file met.is.before None begun met.said (λ (q : State). ⊤) opens told (λ q shows. let went = met.obeys q shows in (went.0, went.1, tt));
 }
 
 ends-so : (file : List ℕ) (input old mid new : Option Text) (number : ℕ) (ended : Text) → EndsAtBadLine file input old mid number [] → Appends mid new ended
@@ -83,7 +75,7 @@ ends-so file input old mid new number ended met told = record {
   begun = met.begun;
   said = met.said;
   prints = subst (λ (l : Text). Appends old new (l ++ ended)) (append-nil (met.begun ++ met.said)) (appends-more old mid new ((met.begun ++ met.said) ++ []) ended met.prints told);
-  each = met.each;
+  opens = met.opens;
 }
 
 told-by : (order : Order) (stop : Stop) (file : List ℕ) (input old mid new : Option Text) (number : ℕ)

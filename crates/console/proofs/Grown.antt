@@ -18,7 +18,7 @@ use Rattle.command_line.specs.declared.command.Survivor.{Survivor}
 use Rattle.console.specs.declared.lines.Outcome.{Outcome}
 use Rattle.console.specs.declared.lines.Outcome.TheVariants.{Replied, Crashed}
 use Rattle.console.specs.Kept.{Extends}
-use Rattle.console.specs.Obeyed.{Ticks, Answers, ComesTo, ObeysRead, ObeysLine, ObeysLines}
+use Rattle.console.specs.Obeyed.{Ticks, Answers, HasOutcome, ObeysRead, ObeysLine, ObeysLines}
 use Rattle.console.proofs.KeptHistory.{extends-none, extends-trans}
 
 -- the history of the second begins with that of the first, and their layout is one
@@ -69,7 +69,7 @@ grows-answers q (asks.Collect visits) answer q' s = grows-ticks step.Collect _ s
 grows-answers q asks.Cycle answer q' s = grows-ticks step.Commit _ s.0 q answer q' s.1
 grows-answers q (asks.Crash keeps) answer q' s = absurd s
 
-grows-comes : (q : State) (command : Command) (outcome : Outcome) (q' : State) → ComesTo q command outcome q' → Grows q q'
+grows-comes : (q : State) (command : Command) (outcome : Outcome) (q' : State) → HasOutcome q command outcome q' → Grows q q'
 grows-comes q command (Replied answer) q' s = grows-answers q command answer q' s
 grows-comes q command (Crashed keeps) q' (is, same) = grows-same q q' same
 

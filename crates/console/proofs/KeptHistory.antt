@@ -7,15 +7,17 @@ use Rattle.base.specs.declared.step.Reply.{Reply}
 use Rattle.base.specs.Commits.{Commit}
 use Rattle.base.specs.Images.{Image, layout_of}
 use Rattle.base.specs.Layout.{Layout, opened_layout}
+use Rattle.base.specs.Stands.{Stands}
 use Rattle.machine.specs.Machine.{State, Stepped, Hand, Cover, StandsUnder, StandsAt, StandsClosed, drawn_of, covers_at, of_hand, present, closed, uncovered}
 use Rattle.pmem.specs.Device.{Device, restarted}
 use Rattle.pmem.specs.Words.{image_of}
 use Rattle.pmem.specs.declared.device.Pmem.{Ghosts}
 use Rattle.pmem.proofs.Restarted.{image-restarted}
-use Rattle.room.specs.Room.{Shows, StepsTo}
+use Rattle.room.specs.Room.{Leads}
 use Rattle.room.specs.declared.room.Room.{Room}
-use Rattle.command_line.specs.ImageFile.{IsFileOf}
-use Rattle.console.specs.Kept.{Extends, Leads, KeepsHistory, KeepsHistories}
+use Rattle.command_line.specs.ImageFile.{HoldsWords, IsFileOf}
+use Rattle.console.specs.Kept.{Extends, IsFileWith, LeadsBy, KeepsHistory, KeepsHistories}
+use Rattle.console.proofs.Files.{one_image}
 
 pub extends-none : (history : List Commit) → Extends history history
 extends-none history = ([], sym (append-nil history))
@@ -25,15 +27,15 @@ extends-trans a b c (more, e) (rest, f) = (more ++ rest, f ∙ (ap (λ (l : List
 
 -- ---- a room
 
-pub leads-nowhere : {D : Type 0} {G : Ghosts D} (state : D → Device) (room : Room D G) (By : State → State → Type 0) → ((q : State) → By q q) → Leads state room room By
+pub leads-nowhere : {D : Type 0} {G : Ghosts D} (state : D → Device) (room : Room D G) (By : State → State → Type 0) → ((q : State) → By q q) → LeadsBy state room room By
 leads-nowhere state room By same = record { each = λ q shows. (q, same q, shows) }
 
 pub leads-by : {D : Type 0} {G : Ghosts D} (state : D → Device) (old new : Room D G) (A B : State → State → Type 0)
-    → ((q q' : State) → A q q' → B q q') → Leads state old new A → Leads state old new B
+    → ((q q' : State) → A q q' → B q q') → LeadsBy state old new A → LeadsBy state old new B
 leads-by state old new A B says a = record { each = λ q shows. let made = a.each q shows in (made.0, says q made.0 made.1, made.2) }
 
 pub leads-trans : {D : Type 0} {G : Ghosts D} (state : D → Device) (old mid new : Room D G) (A B C : State → State → Type 0)
-    → ((q m q' : State) → A q m → B m q' → C q q') → Leads state old mid A → Leads state mid new B → Leads state old new C
+    → ((q m q' : State) → A q m → B m q' → C q q') → LeadsBy state old mid A → LeadsBy state mid new B → LeadsBy state old new C
 leads-trans state old mid new A B C says a b = record {
   each = λ q shows.
       let first = a.each q shows in
@@ -42,7 +44,7 @@ leads-trans state old mid new A B C says a b = record {
 }
 
 pub leads-step : {D : Type 0} {G : Ghosts D} (state : D → Device) (old new : Room D G) (step : Step) (reply : Reply)
-    → ((q : State) → Shows state old q → (q' : State) × StepsTo state old new step reply q q') → Leads state old new (λ q q'. Stepped q step reply q')
+    → Leads state old new step reply → LeadsBy state old new (λ q q'. Stepped q step reply q')
 leads-step state old new step reply steps = record {
   each = λ q shows. let made = steps q shows in (made.0, made.1.stepped, made.1.shows);
 }
@@ -73,6 +75,15 @@ keeps-closed history q image longer s = keeps-under history q (closed q) image l
 
 pub file-restarted : (device : Device) (image : Image) (file : List ℕ) → device ≡ restarted image → IsFileOf (image_of device) file → IsFileOf image file
 file-restarted device image file is of = subst (λ (words : Image). IsFileOf words file) (ap image_of is ∙ image-restarted image) of
+
+-- the image of which the words are kept is the one that the file has
+pub keeps-of : (before words after : List ℕ) → HoldsWords before words
+    → ((history drawn : List Commit) (next : ℕ) → Stands words history drawn next → IsFileWith (opened_layout (layout_of words)) history after) → KeepsHistories before after
+keeps-of before words after holds keeps = record {
+  each = λ image held history drawn next stands.
+      let same : image ≡ words = one_image before image words held holds in
+      subst (λ (i : Image). IsFileWith (opened_layout (layout_of i)) history after) (sym same) (keeps history drawn next (subst (λ (i : Image). Stands i history drawn next) same stands));
+}
 
 -- what is open opens as it is
 opened-twice : (a : Layout) → opened_layout (opened_layout a) ≡ opened_layout a

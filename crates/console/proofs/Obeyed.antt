@@ -16,59 +16,59 @@ use Rattle.command_line.specs.declared.command.Command.{Command}
 use Rattle.command_line.specs.declared.command.Survivor.{Survivor}
 use Rattle.console.specs.declared.lines.Outcome.{Outcome}
 use Rattle.console.specs.declared.lines.Outcome.TheVariants.{Replied, Crashed}
-use Rattle.console.specs.Kept.{Leads}
-use Rattle.console.specs.Obeyed.{Ticks, Commits, Cycles, Answers, ComesTo, Obeys, ObeysLine, ObeysLines, is_busy, is_tick, reply_text}
+use Rattle.console.specs.Kept.{LeadsBy}
+use Rattle.console.specs.Obeyed.{Ticks, Commits, Cycles, Answers, HasOutcome, Obeys, ObeysLine, ObeysLines, is_busy, is_tick, reply_text}
 use Rattle.console.proofs.KeptHistory.{leads-nowhere, leads-by, leads-trans}
 
 -- ---- ticks
 
 pub more-ticks : {D : Type 0} {G : Ghosts D} (state : D → Device) (old mid new : Room D G) (tick : Step) (goes_on : Reply → Bool) (more : ℕ) (before answer : Reply) → goes_on before ≡ true
-    → Leads state old mid (λ q m. Ticks tick goes_on more q before m) → Leads state mid new (λ m q'. Stepped m tick answer q')
-    → Leads state old new (λ q q'. Ticks tick goes_on (suc more) q answer q')
+    → LeadsBy state old mid (λ q m. Ticks tick goes_on more q before m) → LeadsBy state mid new (λ m q'. Stepped m tick answer q')
+    → LeadsBy state old new (λ q q'. Ticks tick goes_on (suc more) q answer q')
 more-ticks state old mid new tick goes_on more before answer goes earlier last =
     leads-trans state old mid new (λ (q m : State). Ticks tick goes_on more q before m) (λ (m q' : State). Stepped m tick answer q')
     (λ (q q' : State). Ticks tick goes_on (suc more) q answer q') (λ q m q' a b. (before, m, a, goes, b)) earlier last
 
 pub commits-so : {D : Type 0} {G : Ghosts D} (state : D → Device) (old new : Room D G) (ticks more : ℕ) (answer : Reply) → more ≤ ticks - 1 → (more ≡ ticks - 1) ⊎ (is_busy answer ≡ false)
-    → Leads state old new (λ q q'. Ticks step.Commit is_busy more q answer q') → Leads state old new (λ q q'. Commits q ticks answer q')
+    → LeadsBy state old new (λ q q'. Ticks step.Commit is_busy more q answer q') → LeadsBy state old new (λ q q'. Commits q ticks answer q')
 commits-so state old new ticks more answer few all made =
     leads-by state old new (λ (q q' : State). Ticks step.Commit is_busy more q answer q') (λ (q q' : State). Commits q ticks answer q') (λ q q' t. (more, t, few, all)) made
 
 pub cycles-so : {D : Type 0} {G : Ghosts D} (state : D → Device) (old new : Room D G) (more : ℕ) (answer : Reply) → more ≤ 2 ^ 64 - 2 → (more ≡ 2 ^ 64 - 2) ⊎ (is_tick answer ≡ false)
-    → Leads state old new (λ q q'. Ticks step.Commit is_tick more q answer q') → Leads state old new (λ q q'. Cycles q answer q')
+    → LeadsBy state old new (λ q q'. Ticks step.Commit is_tick more q answer q') → LeadsBy state old new (λ q q'. Cycles q answer q')
 cycles-so state old new more answer few all made =
     leads-by state old new (λ (q q' : State). Ticks step.Commit is_tick more q answer q') (λ (q q' : State). Cycles q answer q') (λ q q' t. (more, t, few, all)) made
 
 -- ---- commands
 
 pub comes-as : {D : Type 0} {G : Ghosts D} (state : D → Device) (old new : Room D G) (command actual : Command) (answer : Reply) → command ≡ actual
-    → Leads state old new (λ q q'. Answers q actual answer q') → Leads state old new (λ q q'. ComesTo q command (Replied answer) q')
+    → LeadsBy state old new (λ q q'. Answers q actual answer q') → LeadsBy state old new (λ q q'. HasOutcome q command (Replied answer) q')
 comes-as state old new command actual answer is made = grind (arith, leads-by)
 
 pub obeys-reply : {D : Type 0} {G : Ghosts D} (state : D → Device) (old new : Room D G) (command : Command) (outcome : Outcome) (answer : Reply) → is_failure answer ≡ false → outcome ≡ Replied answer
-    → Leads state old new (λ q q'. ComesTo q command outcome q') → Leads state old new (λ q q'. Obeys q command (reply_text answer ++ 10 ∷ []) None q')
+    → LeadsBy state old new (λ q q'. HasOutcome q command outcome q') → LeadsBy state old new (λ q q'. Obeys q command (reply_text answer ++ 10 ∷ []) None q')
 obeys-reply state old new command outcome answer works is made = grind (arith, leads-by)
 
 pub obeys-crash : {D : Type 0} {G : Ghosts D} (state : D → Device) (old new : Room D G) (command : Command) (outcome : Outcome) (keeps : Survivor) → outcome ≡ Crashed keeps
-    → Leads state old new (λ q q'. ComesTo q command outcome q') → Leads state old new (λ q q'. Obeys q command [] (Some keeps) q')
+    → LeadsBy state old new (λ q q'. HasOutcome q command outcome q') → LeadsBy state old new (λ q q'. Obeys q command [] (Some keeps) q')
 obeys-crash state old new command outcome keeps is made = grind (arith, leads-by)
 
 -- ---- lines
 
 pub line-read : {D : Type 0} {G : Ghosts D} (state : D → Device) (old new : Room D G) (line said : Text) (command : Command) (keeps : Option Survivor) → line_of line ≡ Some (Some command)
-    → Leads state old new (λ q q'. Obeys q command said keeps q') → Leads state old new (λ q q'. ObeysLine q line said keeps q')
+    → LeadsBy state old new (λ q q'. Obeys q command said keeps q') → LeadsBy state old new (λ q q'. ObeysLine q line said keeps q')
 line-read state old new line said command keeps is made = grind (arith, leads-by)
 
 pub line-skipped : {D : Type 0} {G : Ghosts D} (state : D → Device) (room : Room D G) (line : Text) → line_of line ≡ Some None
-    → Leads state room room (λ q q'. ObeysLine q line [] None q')
+    → LeadsBy state room room (λ q q'. ObeysLine q line [] None q')
 line-skipped state room line is = grind (arith, leads-nowhere)
 
-pub no-lines : {D : Type 0} {G : Ghosts D} (state : D → Device) (room : Room D G) → Leads state room room (λ q q'. ObeysLines q [] [] None q')
+pub no-lines : {D : Type 0} {G : Ghosts D} (state : D → Device) (room : Room D G) → LeadsBy state room room (λ q q'. ObeysLines q [] [] None q')
 no-lines state room = leads-nowhere state room (λ (q q' : State). ObeysLines q [] [] None q') (λ q. (refl, refl, refl))
 
 pub more-lines : {D : Type 0} {G : Ghosts D} (state : D → Device) (old mid new : Room D G) (lines : List Text) (line earlier last : Text) (keeps : Option Survivor)
-    → Leads state old mid (λ q m. ObeysLines q lines earlier None m) → Leads state mid new (λ m q'. ObeysLine m line last keeps q')
-    → Leads state old new (λ q q'. ObeysLines q (line ∷ lines) (earlier ++ last) keeps q')
+    → LeadsBy state old mid (λ q m. ObeysLines q lines earlier None m) → LeadsBy state mid new (λ m q'. ObeysLine m line last keeps q')
+    → LeadsBy state old new (λ q q'. ObeysLines q (line ∷ lines) (earlier ++ last) keeps q')
 more-lines state old mid new lines line earlier last keeps before after = grind (arith, leads-trans)
 
 -- ---- what is said

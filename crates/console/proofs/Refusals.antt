@@ -5,11 +5,8 @@ use Rattle.std.proofs.lemmas.Bool.{false≢true}
 use Rattle.std.specs.Io.KnownBytes.{Appends}
 use Rattle.base.specs.declared.fault.Fault.{Fault}
 use Rattle.base.specs.declared.fault.Fault.TheVariants.{Device as DeviceFault, OutOfMemory}
-use Rattle.base.specs.Commits.{Commit}
 use Rattle.base.specs.Images.{Image, opening_fault}
 use Rattle.machine.specs.Machine.{State}
-use Rattle.machine.specs.Openings.{OpensAs}
-use Rattle.base.specs.Stands.{Stands}
 use Rattle.pmem.specs.Device.{Device}
 use Rattle.pmem.specs.declared.device.Pmem.{Ghosts}
 use Rattle.recovery.specs.Opened.{IsRefusal}
@@ -23,8 +20,8 @@ use Rattle.command_line.specs.Numbers.{Text}
 use Rattle.command_line.specs.declared.orders.Order.{Order}
 use Rattle.command_line.specs.declared.orders.Order.TheVariants.{Format, Run, Check, Threads, Lives}
 use Rattle.console.specs.Input.{Reads}
-use Rattle.console.specs.Kept.{Leads}
-use Rattle.console.specs.Lives.{opened_text}
+use Rattle.console.specs.Kept.{LeadsBy}
+use Rattle.console.specs.Lives.{FileOpensTo, opened_text}
 use Rattle.console.specs.Obeyed.{ObeysLines}
 use Rattle.console.specs.Refusals.{EndsAtClose, EndsRefused, EndsWith, IfRefused, IsClosingFault, IsDamage, IsFaultOf, IsFileFault, IsOpeningFault, Refuses, refusal_line}
 use Rattle.console.specs.declared.stop.Stop.{Stop}
@@ -48,22 +45,18 @@ unprinted printed d = grind (arith)
 pub appends-same : (old new : Option Text) → new ≡ old → Appends old new []
 appends-same old new same = subst (λ (known : Option Text). Appends old known []) (sym same) (appends-none old)
 
-pub at-close : {D : Type 0} {G : Ghosts D} (state : D → Device) (opened ended_room : Room D G) (file words : List ℕ) (input old mid new last : Option Text) (lines : List Text) (begun said : Text) (fault : Fault)
-    → HoldsWords file words
-    → ((past pending : List Commit) (n : ℕ) → Stands words past pending n → (q : State) × OpensAs words past [] q × Shows state opened q)
-    → Appends old mid begun → ((q : State) → Shows state opened q → begun ≡ opened_text q ++ 10 ∷ [])
-    → Reads input lines None → Appends mid new said → Leads state opened ended_room (λ q q'. ObeysLines q lines said None q')
+pub at-close : {D : Type 0} {G : Ghosts D} (state : D → Device) (opened ended_room : Room D G) (file : List ℕ) (input old mid new last : Option Text) (lines : List Text) (begun said : Text) (fault : Fault)
+    → FileOpensTo file (Shows state opened) → Appends old mid begun → ((q : State) → Shows state opened q → begun ≡ opened_text q ++ 10 ∷ [])
+    → Reads input lines None → Appends mid new said → LeadsBy state opened ended_room (λ q q'. ObeysLines q lines said None q')
     → last ≡ new → ((q : State) → Shows state ended_room q → IsClosingFault q fault)
     → EndsAtClose file input old last fault []
-at-close state opened ended_room file words input old mid new last lines begun said fault holds opens says told reads more leads same is = record {
+at-close state opened ended_room file input old mid new last lines begun said fault opens says told reads more leads same is = record {
   lines = lines;
   reads = reads;
   begun = begun;
   said = said;
   prints = appends-more old new last (begun ++ said) [] (appends-more old mid new begun said says more) (appends-same new last same);
-  each = λ image held history drawn next stands.
-      let lived = begun-of state opened file words image history drawn next lines None begun said (Shows state ended_room) holds held stands opens told leads.each in
-      (lived.0, is lived.0.last lived.1);
+  opens = begun-of state opened file lines None begun said (λ q. IsClosingFault q fault) opens told (λ q shows. let went = leads.each q shows in (went.0, went.1, is went.0 went.2));
 }
 
 -- ---- the line
@@ -75,7 +68,7 @@ close-said file input old mid new fault ended met line = record {
   begun = met.begun;
   said = met.said;
   prints = subst (λ (l : Text). Appends old new (l ++ ended)) (append-nil (met.begun ++ met.said)) (appends-more old mid new ((met.begun ++ met.said) ++ []) ended met.prints line);
-  each = met.each;
+  opens = met.opens;
 }
 
 ends-said : (order : Order) (file : List ℕ) (input old mid new : Option Text) (fault : Fault) (ended : Text) → EndsRefused order file input old mid fault [] → Appends mid new ended
@@ -140,15 +133,13 @@ opening-of-file file words slice input old fault size holds same (inl memory) = 
 opening-of-file file words slice input old fault size holds same (inr is) =
     inr (inl (inr (record { size = size; image = words; holds = holds; is = subst (λ (i : Image). IsOpeningFault i fault) same is }), appends-none old))
 
-pub at-end : {D : Type 0} {G : Ghosts D} (state : D → Device) (opened ended_room : Room D G) (file words : List ℕ) (input old mid new last : Option Text) (lines : List Text) (keeps : Option Survivor)
-    (begun said : Text) (fault : Fault) → HoldsWords file words
-    → ((past pending : List Commit) (n : ℕ) → Stands words past pending n → (q : State) × OpensAs words past [] q × Shows state opened q)
-    → Appends old mid begun → ((q : State) → Shows state opened q → begun ≡ opened_text q ++ 10 ∷ [])
-    → Reads input lines keeps → Appends mid new said → Leads state opened ended_room (λ q q'. ObeysLines q lines said keeps q')
+pub at-end : {D : Type 0} {G : Ghosts D} (state : D → Device) (opened ended_room : Room D G) (file : List ℕ) (input old mid new last : Option Text) (lines : List Text) (keeps : Option Survivor)
+    (begun said : Text) (fault : Fault) → FileOpensTo file (Shows state opened) → Appends old mid begun → ((q : State) → Shows state opened q → begun ≡ opened_text q ++ 10 ∷ [])
+    → Reads input lines keeps → Appends mid new said → LeadsBy state opened ended_room (λ q q'. ObeysLines q lines said keeps q')
     → (fault ≡ OutOfMemory) ⊎ ((keeps ≡ None) × (last ≡ new) × ((q : State) → Shows state ended_room q → IsClosingFault q fault))
     → (fault ≡ OutOfMemory) ⊎ ((IsFileFault file IsOpeningFault fault × Appends old last []) ⊎ EndsAtClose file input old last fault [])
-at-end state opened ended_room file words input old mid new last lines keeps begun said fault holds opens says told reads more leads (inl memory) = inl memory
-at-end state opened ended_room file words input old mid new last lines keeps begun said fault holds opens says told reads more leads (inr (none, same, is)) =
-    inr (inr (at-close state opened ended_room file words input old mid new last lines begun said fault holds opens says told
+at-end state opened ended_room file input old mid new last lines keeps begun said fault opens says told reads more leads (inl memory) = inl memory
+at-end state opened ended_room file input old mid new last lines keeps begun said fault opens says told reads more leads (inr (none, same, is)) =
+    inr (inr (at-close state opened ended_room file input old mid new last lines begun said fault opens says told
     (subst (λ (k : Option Survivor). Reads input lines k) none reads) more
-    (subst (λ (k : Option Survivor). Leads state opened ended_room (λ (q q' : State). ObeysLines q lines said k q')) none leads) same is))
+    (subst (λ (k : Option Survivor). LeadsBy state opened ended_room (λ (q q' : State). ObeysLines q lines said k q')) none leads) same is))

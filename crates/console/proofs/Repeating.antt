@@ -17,7 +17,7 @@ use Rattle.pmem.specs.Device.{Device}
 use Rattle.pmem.specs.declared.device.Pmem.{Ghosts}
 use Rattle.room.specs.Room.{Shows}
 use Rattle.room.specs.declared.room.Room.{Room}
-use Rattle.console.specs.Kept.{Leads}
+use Rattle.console.specs.Kept.{LeadsBy}
 use Rattle.console.specs.Obeyed.{Ticks, Collects, is_answered}
 use Rattle.console.specs.Rounds.{visits_needed, NeededAreEnough}
 
@@ -137,7 +137,7 @@ all-made q all more answer q' few done made = by (is_answered answer) refl done
 pub collects-so : {D : Type 0} {G : Ghosts D} (state : D → Device) (old new : Room D G) (layout : Layout) (all more : ℕ) (answer : Reply)
     → ((q : State) → Shows state old q → layout ≡ q.layout)
     → more ≤ visits_needed layout all - 1 → (more ≡ visits_needed layout all - 1) ⊎ (is_answered answer ≡ false)
-    → Leads state old new (λ q q'. Ticks step.Collect is_answered more q answer q') → Leads state old new (λ q q'. Collects q all answer q')
+    → LeadsBy state old new (λ q q'. Ticks step.Collect is_answered more q answer q') → LeadsBy state old new (λ q q'. Collects q all answer q')
 collects-so state old new layout all more answer laid few done made = record {
   each = λ q shows.
       let one = made.each q shows in

@@ -12,24 +12,24 @@ use Rattle.base.specs.Commits.{Commit}
 use Rattle.base.specs.Images.{Image, layout_of}
 use Rattle.base.specs.Layout.{Layout, opened_layout}
 use Rattle.machine.specs.Machine.{State, Noted, StandsClosed}
-use Rattle.base.specs.Stands.{Stands}
+use Rattle.machine.specs.Openings.{OpensAs}
 use Rattle.pmem.specs.Device.{Device}
 use Rattle.pmem.specs.declared.device.Pmem.{Ghosts}
-use Rattle.audited.specs.Audit.{RunsFrom}
+use Rattle.audited.proofs.Compose.{opens-weaken}
 use Rattle.recovery.specs.Read.{IsReadRefusal}
 use Rattle.room.specs.Room.{Shows}
+use Rattle.room.specs.Runs.{OpensTo}
+use Rattle.room.proofs.Runs.{of-some}
 use Rattle.room.specs.declared.room.Room.{Room}
-use Rattle.room.specs.declared.status.Status.{Status}
-use Rattle.workload.specs.Load.{HasFree, HasMadeFrom, HasNumbers, HasRunFrom, IsLoadFault, OpensTo}
-use Rattle.workload.proofs.Made.{engine-not-slots, run-of-made}
+use Rattle.workload.specs.Load.{HasFree, HasNumbers, IsEngineFault, IsLoadFault, MakesTo}
+use Rattle.workload.proofs.Made.{engine-not-slots, makes-weaken}
 use Rattle.command_line.specs.ImageFile.{HoldsWords, IsFileOf, is_image_length}
 use Rattle.command_line.specs.Numbers.{Text}
 use Rattle.console.specs.Kept.{Extends, IsFileWith, KeepsHistories}
 use Rattle.console.specs.Refusals.{IsClosingFault, IsFileFault}
-use Rattle.console.specs.Threads.{IsOther, IsThreadsFault, MakesTo}
-use Rattle.console.proofs.Files.{one_image}
+use Rattle.console.specs.Threads.{IsOther, IsThreadsFault}
 use Rattle.console.proofs.Grown.{Grows, grows-same, grows-stepped, grows-trans}
-use Rattle.console.proofs.KeptHistory.{keeps-closed}
+use Rattle.console.proofs.KeptHistory.{keeps-closed, keeps-of}
 use Rattle.console.proofs.Lives.{opens-history, opens-layout}
 use Rattle.console.proofs.Obeyed.{appends-none}
 use Rattle.console.proofs.Refusals.{never-device}
@@ -41,41 +41,22 @@ grows-noted q (entry ∷ entries) q' (reply, mid, stepped, told, rest) =
 
 -- ---- what is kept
 
-file-of-run : {D : Type 0} {G : Ghosts D} (state : D → Device) (room : Room D G) (words image : Image) (history : List Commit) (opening : Status) (entries : List (Step × Note)) (file : List ℕ)
-    → RunsFrom state room words history [] opening entries → ((q : State) → Shows state room q → StandsClosed q image) → IsFileOf image file
-    → IsFileWith (opened_layout (layout_of words)) history file
-file-of-run state room words image history opening entries file run closed bytes =
-    let grown = grows-noted run.start entries run.now run.run in
-    subst (λ (a : Layout). IsFileWith a history file) (grown.1 ∙ opens-layout words history run.start run.opens)
-    (record {
-      image = image;
-      of_image = bytes;
-      keeps = keeps-closed history run.now image (subst (λ (h : List Commit). Extends h run.now.history) (opens-history words history run.start run.opens) grown.0)
-          (closed run.now run.shows);
-    })
-
-pub keeps-run : {D : Type 0} {G : Ghosts D} (state : D → Device) (room : Room D G) (before words image after : List ℕ) → HoldsWords before words → ∥ HasRunFrom state words room ∥₁
-    → ((q : State) → Shows state room q → StandsClosed q image) → IsFileOf image after → ∥ KeepsHistories before after ∥₁
-keeps-run state room before words image after holds run closed bytes = ∥∥₁_map run (λ h. record {
-  each = λ i held history drawn next stands.
-      let same : i ≡ words = one_image before i words held holds in
-      subst (λ (w : Image). IsFileWith (opened_layout (layout_of w)) history after) (sym same)
-      (file-of-run state room words image history h.0 h.1 after (h.2.runs history drawn next [] (subst (λ (w : Image). Stands w history drawn next) same stands)) closed bytes);
-})
-
--- ---- what the threads made
-
--- the run that they made comes to a state that the room shows
-pub made-to : {D : Type 0} {G : Ghosts D} (state : D → Device) (room : Room D G) (words : Image) (sessions commits : ℕ) (Is : State → Type 0) → ∥ HasMadeFrom state words sessions commits room ∥₁
-    → ((q : State) → Shows state room q → Is q) → ∥ MakesTo words sessions commits Is ∥₁
-made-to state room words sessions commits Is made is = ∥∥₁_map made (λ h. record {
-  may_open = h.2.may_open;
-  entries = h.1;
-  made = h.3;
-  runs = λ history drawn next lost stands.
-      let r = h.2.runs history drawn next lost stands in
-      (r.start, r.now, r.opens, r.run, is r.now r.shows);
-})
+pub keeps-run : (before words image after : List ℕ) (sessions commits : ℕ) → HoldsWords before words → MakesTo words sessions commits (λ q. StandsClosed q image) → IsFileOf image after
+    → ∥ KeepsHistories before after ∥₁
+keeps-run before words image after sessions commits holds made bytes = ∥∥₁_map made (λ m. keeps-of before words after holds (λ history drawn next stands.
+    let s = m.1.each history drawn next [] stands in
+    file-of-run history m.0 s.0 s.2.0 s.1 s.2.1 s.2.2))
+  where
+    file-of-run : (history : List Commit) (entries : List (Step × Note)) (start now : State) → OpensAs words history [] start → Noted start entries now → StandsClosed now image
+        → IsFileWith (opened_layout (layout_of words)) history after
+    file-of-run history entries start now opens run closed =
+        let grown = grows-noted start entries now run in
+        subst (λ (a : Layout). IsFileWith a history after) (grown.1 ∙ opens-layout words history [] start opens)
+        (record {
+          image = image;
+          of_image = bytes;
+          keeps = keeps-closed history now image (subst (λ (h : List Commit). Extends h now.history) (opens-history words history [] start opens) grown.0) closed;
+        })
 
 -- ---- why it is refused
 
@@ -88,12 +69,9 @@ load-fault file words slice sessions commits old fault size holds same (inr is) 
 
 told-other : (image : Image) (sessions : ℕ) (fault told : Fault) → (fault ≡ DeviceFault → told ≡ OutOfMemory) → told ≡ fault → OpensTo image (HasFree (2 * sessions)) → (fault ≡ SlotsOut → ⊥)
     → OpensTo image (λ q. HasFree (2 * sessions) q × IsOther told)
-told-other image sessions fault told memory is free other = record {
-  may_open = free.may_open;
-  each = λ history drawn next stands.
-      let made = free.each history drawn next stands in
-      (made.0, made.1, (made.2, record { slots = λ e. other (sym is ∙ e); device = λ e. never-device fault told memory is e }));
-}
+told-other image sessions fault told memory is free other =
+    opens-weaken image (HasFree (2 * sessions)) (λ q. HasFree (2 * sessions) q × IsOther told)
+    (λ q has. (has, record { slots = λ e. other (sym is ∙ e); device = λ e. never-device fault told memory is e })) free
 
 -- what is reported for a load on a device without a fuse
 pub load-told : (image : Image) (sessions commits : ℕ) (fault told : Fault) → (fault ≡ DeviceFault → told ≡ OutOfMemory) → (told ≡ OutOfMemory) ⊎ (told ≡ fault)
@@ -108,38 +86,29 @@ load-told image sessions commits fault told memory (inr is) (inr (inr (inr (inr 
   where
     apart : TimestampsOut ≡ SlotsOut → ⊥
     apart h = cc h
-load-told image sessions commits fault told memory (inr is) (inr (inr (inr (inr (inr (free, has, engine)))))) = grind (arith, told-other image sessions fault told memory is free (engine-not-slots image fault engine), engine-not-slots image fault engine)
+load-told image sessions commits fault told memory (inr is) (inr (inr (inr (inr (inr (free, has, engine)))))) =
+    inr (inr (inr (told-other image sessions fault told memory is free (engine-not-slots image fault engine), inr (has, inl (subst (IsEngineFault image) (sym is) engine)))))
 
--- where no state that the room shows admits it, no slots ran out, and no device failed
-not-slots : {D : Type 0} {G : Ghosts D} (state : D → Device) (room : Room D G) (words : Image) (sessions : ℕ) (fault : Fault) → OpensTo words (HasFree (2 * sessions)) → ∥ HasRunFrom state words room ∥₁
-    → ((q : State) → Shows state room q → IsOther fault) → OpensTo words (λ q. HasFree (2 * sessions) q × IsOther fault)
-not-slots state room words sessions fault free run other = record {
-  may_open = free.may_open;
-  each = λ history drawn next stands.
-      let made = free.each history drawn next stands in (
-        made.0,
-        made.1,
-        (
-          made.2,
-          record {
-            slots = λ e. ∥∥₁_elim run ⊥_prop (λ h. let r = h.2.runs history drawn next [] stands in (other r.now r.shows).slots e);
-            device = λ e. ∥∥₁_elim run ⊥_prop (λ h. let r = h.2.runs history drawn next [] stands in (other r.now r.shows).device e);
-          },
-        ),
-      );
-}
+-- if no state that the room shows allows it, no slots ran out, and no device failed
+not-slots : {D : Type 0} {G : Ghosts D} (state : D → Device) (room : Room D G) (words : Image) (sessions commits : ℕ) (fault : Fault) → OpensTo words (HasFree (2 * sessions))
+    → MakesTo words sessions commits (Shows state room) → ((q : State) → Shows state room q → IsOther fault) → OpensTo words (λ q. HasFree (2 * sessions) q × IsOther fault)
+not-slots state room words sessions commits fault free made other =
+    opens-weaken words (HasFree (2 * sessions)) (λ q. HasFree (2 * sessions) q × IsOther fault) (λ q has. (has, record { slots = λ e. never (λ o. o.slots e); device = λ e. never (λ o. o.device e) })) free
+  where
+    never : (IsOther fault → ⊥) → ⊥
+    never clash = ∥∥₁_elim made ⊥_prop (λ m. let s = of-some words m.0 (Shows state room) m.1 in clash (other s.1 s.3))
 
 closing-other : (q : State) (fault : Fault) → IsClosingFault q fault → IsOther fault
 closing-other q fault is = grind (arith)
 
 pub late-fault : {D : Type 0} {G : Ghosts D} (state : D → Device) (room : Room D G) (file words slice : List ℕ) (sessions commits : ℕ) (old : Option Text) (fault : Fault)
     → is_image_length (length file) ≡ true → HoldsWords file words → slice ≡ words → OpensTo slice (HasFree (2 * sessions)) → OpensTo slice (HasNumbers (sessions * commits))
-    → ∥ HasMadeFrom state slice sessions commits room ∥₁ → (fault ≡ OutOfMemory) ⊎ ((q : State) → Shows state room q → IsClosingFault q fault)
+    → MakesTo slice sessions commits (Shows state room) → (fault ≡ OutOfMemory) ⊎ ((q : State) → Shows state room q → IsClosingFault q fault)
     → (fault ≡ OutOfMemory) ⊎ (IsFileFault file (IsThreadsFault sessions commits) fault × Appends old old [])
 late-fault state room file words slice sessions commits old fault size holds same free numbers made (inl memory) = inl memory
 late-fault state room file words slice sessions commits old fault size holds same free numbers made (inr closing) =
-    let other = not-slots state room slice sessions fault free (run-of-made state slice sessions commits room made) (λ q shows. closing-other q fault (closing q shows)) in
-    let later = made-to state room slice sessions commits (λ q. IsClosingFault q fault) made closing in
+    let other = not-slots state room slice sessions commits fault free made (λ q shows. closing-other q fault (closing q shows)) in
+    let later = makes-weaken slice sessions commits (Shows state room) (λ q. IsClosingFault q fault) closing made in
     inr (
       inr (record {
         size = size;

@@ -1,15 +1,11 @@
 -- Which line ends a run before its time.
 use Rattle.std.specs.Prelude.{◌≡◌, ℕ, ◌+◌, ◌-◌, ◌^◌, min, List, [], ◌∷◌, ◌++◌, length, All, Option, Some, None, option_map, option_and_then, ⊤}
 use Rattle.std.specs.Io.KnownBytes.{Appends}
-use Rattle.base.specs.Commits.{Commit}
-use Rattle.base.specs.Images.{Image}
 use Rattle.machine.specs.Machine.{State}
-use Rattle.base.specs.Stands.{Stands}
 use Rattle.pmem.specs.Device.{Device}
 use Rattle.pmem.specs.declared.device.Pmem.{Ghosts}
 use Rattle.room.specs.Room.{Shows}
 use Rattle.room.specs.declared.room.Room.{Room}
-use Rattle.command_line.specs.ImageFile.{HoldsWords}
 use Rattle.command_line.specs.Lines.{line_of}
 use Rattle.command_line.specs.Numbers.{Text}
 use Rattle.command_line.specs.Scripts.{IsWrongLine}
@@ -21,7 +17,7 @@ use Rattle.command_line.specs.declared.orders.Order.{Order}
 use Rattle.command_line.specs.declared.orders.Order.TheVariants.{Format, Run, Check, Threads, Lives}
 use Rattle.command_line.specs.declared.printed.Printed.TheVariants as printed
 use Rattle.console.specs.Input.{BeginsWith}
-use Rattle.console.specs.Lives.{IsBegun}
+use Rattle.console.specs.Lives.{FileOpensTo, IsBegun}
 use Rattle.console.specs.Obeyed.{ObeysLines}
 use Rattle.console.specs.declared.lines.Outcome.{Outcome}
 use Rattle.console.specs.declared.lines.Outcome.TheVariants.{Replied, Crashed}
@@ -67,15 +63,14 @@ pub record MeetsBadLine {D : Type 0} {G : Ghosts D} (state : D → Device) (room
   pub prints : Appends old new said
   pub obeys : (q : State) → Shows state room q → (q' : State) × ObeysLines q is.before said None q'
 
--- Whatever history the image in the file stands for, it is opened and the lines before the bad one are run. No more is printed, except
+-- The image in the file opens, and whatever history it stands for, the lines before the bad one are run. No more is printed, except
 -- this at the end
 pub record EndsAtBadLine (file : List ℕ) (input old new : Option Text) (number : ℕ) (ended : Text) : Type 0 where
   pub is : IsBadLine input number
   pub begun : Text
   pub said : Text
   pub prints : Appends old new ((begun ++ said) ++ ended)
-  pub each : (image : Image) → HoldsWords file image → (history drawn : List Commit) (next : ℕ) → Stands image history drawn next
-      → IsBegun image history is.before None begun said
+  pub opens : FileOpensTo file (IsBegun is.before None begun said (λ q. ⊤))
 
 -- what is printed is that the line of this number isn't a command
 abbrev pub PrintsBadLine : Option Text → Option Text → ℕ → Type 0

@@ -20,7 +20,7 @@ abbrev pub Extends : List Commit → List Commit → Type 0
 Extends history longer = (more : List Commit) × (longer ≡ history ++ more)
 
 -- from each state that the room showed, it has come to one that it shows now, and the two are related like this
-pub record Leads {D : Type 0} {G : Ghosts D} (state : D → Device) (old new : Room D G) (By : State → State → Type 0) : Type 0 where
+pub record LeadsBy {D : Type 0} {G : Ghosts D} (state : D → Device) (old new : Room D G) (By : State → State → Type 0) : Type 0 where
   pub each : (q : State) → Shows state old q → (q' : State) × By q q' × Shows state new q'
 
 -- whatever state the room showed, it was closed without a fault, and a crash of the device leaves what closing leaves

@@ -68,9 +68,9 @@ Answers q asks.Cycle answer q' = Cycles q answer q'
 Answers q (asks.Crash keeps) answer q' = ⊥
 
 -- what a command comes to. A crash is left to the end of the life
-abbrev pub ComesTo : State → Command → Outcome → State → Type 0
-ComesTo q command (Replied answer) q' = Answers q command answer q'
-ComesTo q command (Crashed keeps) q' = (command ≡ asks.Crash keeps) × (q' ≡ q)
+abbrev pub HasOutcome : State → Command → Outcome → State → Type 0
+HasOutcome q command (Replied answer) q' = Answers q command answer q'
+HasOutcome q command (Crashed keeps) q' = (command ≡ asks.Crash keeps) × (q' ≡ q)
 
 -- ---- what is printed
 
@@ -100,7 +100,7 @@ SaysOf (Crashed survivor) said keeps = (said ≡ []) × (keeps ≡ Some survivor
 
 -- what is printed for a command, what a crash keeps, and the state then
 abbrev pub Obeys : State → Command → Text → Option Survivor → State → Type 0
-Obeys q command said keeps q' = (outcome : Outcome) × ComesTo q command outcome q' × SaysOf outcome said keeps
+Obeys q command said keeps q' = (outcome : Outcome) × HasOutcome q command outcome q' × SaysOf outcome said keeps
 
 -- ---- lines
 

@@ -3,11 +3,9 @@ use Rattle.std.specs.Prelude.{◌≡◌, ◌⊎◌, ℕ, List, [], ◌∷◌, �
 use Rattle.std.specs.Io.KnownBytes.{Appends}
 use Rattle.base.specs.declared.fault.Fault.{Fault}
 use Rattle.base.specs.declared.fault.Fault.TheVariants.{BadGeometry, OutOfMemory}
-use Rattle.base.specs.Commits.{Commit}
 use Rattle.base.specs.Images.{Image, damage, opening_fault}
 use Rattle.base.specs.Layout.{is_in_limits}
 use Rattle.machine.specs.Machine.{State, closing_fault}
-use Rattle.base.specs.Stands.{Stands}
 use Rattle.command_line.specs.ImageFile.{HoldsWords, is_image_length}
 use Rattle.command_line.specs.Numbers.{Text}
 use Rattle.command_line.specs.Scripts.{HasBadGeometry}
@@ -16,7 +14,7 @@ use Rattle.command_line.specs.Words.{asked_layout}
 use Rattle.command_line.specs.declared.orders.Order.{Order}
 use Rattle.command_line.specs.declared.orders.Order.TheVariants.{Format, Run, Check, Threads, Lives}
 use Rattle.console.specs.Input.{Reads}
-use Rattle.console.specs.Lives.{IsBegun}
+use Rattle.console.specs.Lives.{FileOpensTo, IsBegun}
 use Rattle.console.specs.Threads.{IsThreadsFault}
 use Rattle.console.specs.declared.stop.Stop.{Stop}
 use Rattle.console.specs.declared.stop.Stop.TheVariants.{Refused, NotACommand, Broken}
@@ -57,16 +55,15 @@ IsOpeningFault image fault = opening_fault image ≡ Some fault
 abbrev pub IsClosingFault : State → Fault → Type 0
 IsClosingFault q fault = closing_fault q ≡ Some fault
 
--- Whatever history the image in the file stands for, it is opened, all lines of the input are run, and the state then has this fault when
--- it is closed. No more is printed, except this at the end
+-- The image in the file opens, and whatever history it stands for, all lines of the input are run, and the state then has this fault
+-- when it is closed. No more is printed, except this at the end
 pub record EndsAtClose (file : List ℕ) (input old new : Option Text) (fault : Fault) (ended : Text) : Type 0 where
   pub lines : List Text
   pub reads : Reads input lines None
   pub begun : Text
   pub said : Text
   pub prints : Appends old new ((begun ++ said) ++ ended)
-  pub each : (image : Image) → HoldsWords file image → (history drawn : List Commit) (next : ℕ) → Stands image history drawn next
-      → (b : IsBegun image history lines None begun said) × IsClosingFault b.last fault
+  pub opens : FileOpensTo file (IsBegun lines None begun said (λ q. IsClosingFault q fault))
 
 -- ---- what a refusal says
 

@@ -4,19 +4,15 @@ use Rattle.std.specs.Io.KnownBytes.{Appends}
 use Rattle.base.specs.declared.fault.Fault.{Fault}
 use Rattle.base.specs.declared.fault.Fault.TheVariants.{Device as DeviceFault, SlotsOut, TimestampsOut}
 use Rattle.base.specs.declared.key.Key.{Key}
-use Rattle.base.specs.declared.step.Note.{Note}
-use Rattle.base.specs.declared.step.Step.{Step}
-use Rattle.base.specs.Commits.{Commit}
 use Rattle.base.specs.Images.{Image, opening_fault}
-use Rattle.base.specs.Stands.{Stands}
-use Rattle.machine.specs.Machine.{State, Noted, StandsClosed, closing_fault}
-use Rattle.machine.specs.Openings.{OpensAs}
+use Rattle.machine.specs.Machine.{StandsClosed, closing_fault}
 use Rattle.image_check.specs.Checked.{ListsTables}
-use Rattle.workload.specs.Load.{AreMade, HasFree, HasNumbers, IsEngineFault, LacksFree, LacksNumbers, OpensTo}
+use Rattle.room.specs.Runs.{OpensTo}
+use Rattle.workload.specs.Load.{HasFree, HasNumbers, IsEngineFault, LacksFree, LacksNumbers, MakesTo}
 use Rattle.command_line.specs.ImageFile.{IsFileOf}
 use Rattle.command_line.specs.Numbers.{Text}
 use Rattle.command_line.specs.Texts.{end_line, entries_text}
-use Rattle.console.specs.Lives.{IsOpenable}
+use Rattle.console.specs.Lives.{FileOpensTo}
 
 -- the row is one that one of this many threads puts: under its number, in table 1
 abbrev pub is_of_thread : ℕ → Key × List ℕ → Bool
@@ -32,25 +28,15 @@ threads_text sessions commits rows =
     (((codes "committed " ++ decimal (commits_of_all sessions commits)) ++ 10 ∷ []) ++ entries_text (filter (is_of_thread sessions) rows))
     ++ ((end_line sessions ++ 10 ∷ []) ++ (codes "closed" ++ 10 ∷ []))
 
--- The image opens, and in a run from there this many threads made this many commits each, all acknowledged. Whatever history the image
--- stands for, this holds of the state to which the run comes
-pub record MakesTo (image : Image) (sessions commits : ℕ) (Is : State → Type 0) : Type 0 where
-  pub may_open : opening_fault image ≡ None
-  pub entries : List (Step × Note)
-  pub made : AreMade sessions commits entries
-  pub runs : (history drawn : List Commit) (next : ℕ) (lost : List ℕ) → Stands image history drawn next
-      → (start now : State) × OpensAs image history lost start × Noted start entries now × Is now
-
 -- The image in the file opens, and then two slots are free for each thread, and numbers are left for all commits. In a run from it each
 -- thread made its commits, and all were acknowledged. In the end the file has an image as closing leaves it in the very state to which
 -- that run came, and the rows that are printed are those of this image
 pub record PrintsThreads (sessions commits : ℕ) (before : List ℕ) (old new : Option Text) (after : List ℕ) : Type 0 where
-  pub opens : IsOpenable before
-  pub has_slots : OpensTo opens.image (HasFree (2 * sessions))
+  pub opens : FileOpensTo before (HasFree (2 * sessions))
   pub has_numbers : OpensTo opens.image (HasNumbers (sessions * commits))
   pub image : Image
   pub of_image : IsFileOf image after
-  pub made : ∥ MakesTo opens.image sessions commits (λ q. StandsClosed q image) ∥₁
+  pub made : MakesTo opens.image sessions commits (λ q. StandsClosed q image)
   pub rows : List (Key × List ℕ)
   pub lists : ListsTables image rows
   pub prints : Appends old new (threads_text sessions commits rows)
@@ -66,7 +52,7 @@ abbrev pub IsLaterFault : ℕ → ℕ → Image → Fault → Type 0
 IsLaterFault sessions commits image fault =
     (OpensTo image (LacksNumbers (sessions * commits)) × (fault ≡ TimestampsOut))
     ⊎ (OpensTo image (HasNumbers (sessions * commits))
-    × (IsEngineFault image fault ⊎ ∥ MakesTo image sessions commits (λ q. closing_fault q ≡ Some fault) ∥₁))
+    × (IsEngineFault image fault ⊎ MakesTo image sessions commits (λ q. closing_fault q ≡ Some fault)))
 
 -- the image doesn't open; or two slots for each thread aren't free then; or they are, and it is a later fault
 abbrev pub IsThreadsFault : ℕ → ℕ → Image → Fault → Type 0

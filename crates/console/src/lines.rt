@@ -4,9 +4,9 @@ ghost use Rattle.command_line.specs.Lines.{line_of};
 ghost use Rattle.command_line.specs.Numbers.{Text};
 ghost use Rattle.console.specs.BadLine.{IfBadLine, MeetsBadLine, kept_by, kept_in, kept_of};
 ghost use Rattle.console.specs.Input.{Reads};
-ghost use Rattle.console.specs.Kept.{Leads};
+ghost use Rattle.console.specs.Kept.{LeadsBy};
 ghost use Rattle.console.specs.Refusals.{WantsMemory};
-ghost use Rattle.console.specs.Obeyed.{Commits, Collects, Cycles, ComesTo, ObeysLine, ObeysLines, is_answered, is_busy, is_tick};
+ghost use Rattle.console.specs.Obeyed.{Commits, Collects, Cycles, HasOutcome, ObeysLine, ObeysLines, is_answered, is_busy, is_tick};
 
 use crate::replies::show;
 use crate::rounds::visits_needed;
@@ -37,7 +37,7 @@ pub fn obey_lines<D: Pmem + Drop, R: Read, W: Write>(
 ) -> Result<Option<Survivor>, Stop>
     ensures obeys { IfOk result (λ keeps. (lines : List Text) × Reads (R.remaining input.old) lines keeps
         × (said : Text) × Appends (W.contents output.old) (W.contents output.new) said
-        × Leads D.state room.old room.new (λ q q'. ObeysLines q lines said keeps q')) }
+        × LeadsBy D.state room.old room.new (λ q q'. ObeysLines q lines said keeps q')) }
     ensures bad_line { IfErr result (IfBadLine (MeetsBadLine D.state room.old (R.remaining input.old) (W.contents output.old) (W.contents output.new))) }
     ensures memory { IfErr result WantsMemory }
 {
@@ -63,7 +63,7 @@ fn obey_line<D: Pmem + Drop, W: Write>(
     output: &mut W,
 ) -> Result<Option<Survivor>, Stop>
     ensures obeys { IfOk result (λ keeps. (said : Text) × Appends (W.contents output.old) (W.contents output.new) said
-        × Leads D.state room.old room.new (λ q q'. ObeysLine q line.now said keeps q')) }
+        × LeadsBy D.state room.old room.new (λ q q'. ObeysLine q line.now said keeps q')) }
     ensures kept { IfOk result (λ keeps. kept_in line.now ≡ Some keeps) }
     ensures bad_line { IfErr result (IfBadLine (λ at. (at ≡ number) × (line_of line.now ≡ None) × (W.contents output.new ≡ W.contents output.old))) }
     ensures memory { IfErr result WantsMemory }
@@ -96,7 +96,7 @@ fn read_command(alloc: Global, number: u64, line: &[u8]) -> Result<Option<Comman
 }
 
 fn perform<D: Pmem + Drop>(room: &mut Room<D>, command: &Command) -> Outcome
-    ensures comes { Leads D.state room.old room.new (λ q q'. ComesTo q command.now result q') }
+    ensures comes { LeadsBy D.state room.old room.new (λ q q'. HasOutcome q command.now result q') }
     ensures kept { kept_of result ≡ kept_by command.now }
 {
     match command {
@@ -112,7 +112,7 @@ fn perform<D: Pmem + Drop>(room: &mut Room<D>, command: &Command) -> Outcome
 // Ticks the committer that often, and returns the last reply. It stops at a refusal, and if nothing is left to do, since no
 // further tick would find anything.
 fn tick<D: Pmem + Drop>(room: &mut Room<D>, ticks: u64) -> Reply
-    ensures { Leads D.state room.old room.new (λ q q'. Commits q ticks result q') }
+    ensures { LeadsBy D.state room.old room.new (λ q q'. Commits q ticks result q') }
 {
     let mut reply = room.step(Step::Commit);
     for _ in 1..ticks {
@@ -127,7 +127,7 @@ fn tick<D: Pmem + Drop>(room: &mut Room<D>, ticks: u64) -> Reply
 // Lets the collector visit that many places, and returns the last reply. It stops at a refusal. After a round of all places
 // further ones change nothing, so they are counted and not made.
 fn collect<D: Pmem + Drop>(room: &mut Room<D>, visits: u64) -> Reply
-    ensures { Leads D.state room.old room.new (λ q q'. Collects q visits result q') }
+    ensures { LeadsBy D.state room.old room.new (λ q q'. Collects q visits result q') }
 {
     let needed = visits_needed(room.geometry(), visits);
     let mut reply = room.step(Step::Collect);
@@ -142,7 +142,7 @@ fn collect<D: Pmem + Drop>(room: &mut Room<D>, visits: u64) -> Reply
 
 // Ticks the committer until it has covered a batch, has nothing to do, or is refused.
 fn cycle<D: Pmem + Drop>(room: &mut Room<D>) -> Reply
-    ensures { Leads D.state room.old room.new (λ q q'. Cycles q result q') }
+    ensures { LeadsBy D.state room.old room.new (λ q q'. Cycles q result q') }
 {
     let mut reply = room.step(Step::Commit);
     for _ in 1..u64::MAX {

@@ -1,15 +1,12 @@
-ghost use Rattle.std.specs.Prelude.{◌≡◌, ◌⊎◌, ◌++◌, ◌∷◌, [], ℕ, List, None, Some, IfErr, IfOk, OnOk};
+ghost use Rattle.std.specs.Prelude.{◌≡◌, ◌⊎◌, ◌++◌, ◌∷◌, [], None, Some, IfErr, IfOk, OnOk};
 ghost use Rattle.std.specs.Io.KnownBytes.{Appends};
-ghost use Rattle.base.specs.Commits.{Commit};
-ghost use Rattle.base.specs.Images.{opening_fault};
 ghost use Rattle.machine.specs.Machine.{State};
-ghost use Rattle.machine.specs.Openings.{OpensAs};
-ghost use Rattle.base.specs.Stands.{Stands};
 ghost use Rattle.pmem.specs.Device.{MayLeave};
 ghost use Rattle.pmem.specs.Words.{image_of};
 ghost use Rattle.pmem_model.specs.Chosen.{IsChosen};
 ghost use Rattle.pmem_model.specs.Sim.{device_of};
 ghost use Rattle.room.specs.Room.{Shows, device_of as device_in};
+ghost use Rattle.room.specs.Runs.{OpensTo};
 ghost use Rattle.command_line.specs.ImageFile.{IsFileOf};
 ghost use Rattle.command_line.specs.Numbers.{Text};
 ghost use Rattle.console.specs.BadLine.{BlamesNoLine, EndsAtBadLine, IfBadLine};
@@ -57,9 +54,7 @@ pub fn run<T: Threads + Sync, R: Read, W: Write>(
 }
 
 fn open<T: Threads + Sync>(rt: &T, alloc: Global, words: &[u64]) -> Result<Room<SimPmem>, Fault>
-    ensures shows { IfOk result (λ room. (history drawn : List Commit) (next : ℕ) → Stands words.now history drawn next
-        → (q : State) × OpensAs words.now history [] q × Shows device_of room q) }
-    ensures may_open { IfOk result (λ room. opening_fault words.now ≡ None) }
+    ensures opens { IfOk result (λ room. OpensTo words.now (Shows device_of room)) }
     ensures fault { IfErr result (λ fault. (fault ≡ OutOfMemory) ⊎ IsOpeningFault words.now fault) }
 {
     let device = SimPmem::from_words(alloc, words)?;

@@ -4,7 +4,8 @@ ghost use Rattle.machine.specs.Machine.{State, StandsClosed};
 ghost use Rattle.base.specs.declared.fault.Fault.TheVariants.{OutOfMemory};
 ghost use Rattle.pmem_model.specs.Sim.{device_of};
 ghost use Rattle.room.specs.Room.{Shows};
-ghost use Rattle.workload.specs.Load.{HasFree, HasMadeFrom, HasNumbers, OpensTo};
+ghost use Rattle.room.specs.Runs.{OpensTo};
+ghost use Rattle.workload.specs.Load.{HasFree, HasNumbers, MakesTo};
 ghost use Rattle.console.specs.BadLine.{BlamesNoLine};
 ghost use Rattle.console.specs.Kept.{KeepsHistories};
 ghost use Rattle.console.specs.Refusals.{IfRefused, IsClosingFault, IsFileFault};
@@ -60,7 +61,7 @@ fn worked_on<T: Threads + Wait + Copy + Drop + Send + Sync + 'static>(
     words: &[u64],
     load: Load,
 ) -> Result<Room<SimPmem>, Fault>
-    ensures made { IfOk result (λ room. ∥ HasMadeFrom device_of words.now load.sessions load.commits room ∥₁) }
+    ensures made { IfOk result (λ room. MakesTo words.now load.sessions load.commits (Shows device_of room)) }
     ensures has_slots { OnOk result (OpensTo words.now (HasFree (2 * load.sessions))) }
     ensures has_numbers { OnOk result (OpensTo words.now (HasNumbers (load.sessions * load.commits))) }
     ensures fault { IfErr result (λ fault. (fault ≡ OutOfMemory) ⊎ IsThreadsFault load.sessions load.commits words.now fault) }

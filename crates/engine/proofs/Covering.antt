@@ -14,29 +14,23 @@ use Rattle.base.specs.Replies.{note_of}
 use Rattle.machine.specs.Machine.{State, Stepped}
 use Rattle.pmem.specs.Device.{Device}
 use Rattle.pmem.specs.declared.device.Pmem.{Ghosts}
-use Rattle.room.specs.Room.{Shows, StepsTo}
+use Rattle.room.specs.Room.{Leads, Shows}
+use Rattle.room.proofs.Runs.{of-weaken}
 use Rattle.audited.specs.declared.audited.Audited.{Audited}
 use Rattle.audited.specs.declared.receipt.Receipt.{Receipt}
 use Rattle.engine.specs.Origins.{IsFrom, HasCovered}
 use Rattle.engine.specs.Posting.{EndsIn, IsPosted, IsTurn}
 use Rattle.engine.proofs.Rising.{some_is}
 
--- where the step that the room made covered a batch, a run from its image ends in that step
+-- if the step that the room made covered a batch, a run from its image comes to the state in which it was made
 pub covered-by : {D : Type 0} {G : Ghosts D} (state : D → Device) (image : Image) (lent : Option (Audited D G)) (old new : Audited D G) (step : Step) (reply : Reply)
-    → ForSome lent (IsFrom state image) → lent ≡ Some old
-    → ((q : State) → Shows state old.room q → (q' : State) × StepsTo state old.room new.room step reply q q')
-    → (batch : Batch) → reply ≡ Covered batch → HasCovered image batch
+    → ForSome lent (IsFrom state image) → lent ≡ Some old → Leads state old.room new.room step reply → (batch : Batch) → reply ≡ Covered batch → HasCovered image batch
 covered-by state image lent old new step reply from is leads batch covers =
     ∥∥₁_map (from old is) (λ a. (
       old.entries.items,
       step,
-      record {
-        may_open = a.may_open;
-        covers = λ history drawn next lost stands.
-            let r = a.runs history drawn next lost stands in
-            let s = leads r.now r.shows in
-            (r.start, r.now, s.0, r.opens, r.run, subst (λ (told : Reply). Stepped r.now step told s.0) covers s.1.stepped);
-      },
+      of-weaken image old.entries.items (Shows state old.room) (λ q. (q' : State) × Stepped q step (Covered batch) q')
+          (λ q shows. let s = leads q shows in (s.0, subst (λ (told : Reply). Stepped q step told s.0) covers s.1.stepped)) a.run,
     ))
 
 note-kept : (image : Image) (made : Option (Reply × Option Receipt)) (reply : Reply) (kept : Option Receipt) (receipt : Receipt) → ForSome made (IsTurn image) → made ≡ Some (reply, kept) → kept ≡ Some receipt → receipt.note ≡ note_of reply

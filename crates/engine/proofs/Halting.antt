@@ -2,7 +2,7 @@
 use Rattle.std.proofs.Common.{◌≡◌, ◌∙◌, List, [], ◌∷◌, ◌++◌, sym, ap, subst}
 use Rattle.std.proofs.Math.Logic.{∥∥₁_map}
 use Rattle.std.specs.Option.{ForSome}
-use Rattle.std.specs.Prelude.{Option, Some, None, IfSome, unwrap_or}
+use Rattle.std.specs.Prelude.{Option, Some, None, IfSome, unwrap_or, ⊤}
 use Rattle.base.specs.declared.fault.Fault.{Fault}
 use Rattle.base.specs.declared.step.Step.{Step}
 use Rattle.base.specs.declared.step.Step.TheVariants.{Commit}
@@ -13,24 +13,20 @@ use Rattle.base.specs.Replies.{note_of}
 use Rattle.base.specs.Images.{Image}
 use Rattle.pmem.specs.Device.{Device}
 use Rattle.pmem.specs.declared.device.Pmem.{Ghosts}
-use Rattle.audited.specs.Audit.{IsAudited, Keeps}
+use Rattle.room.specs.Room.{Shows}
+use Rattle.room.specs.Runs.{RunOf}
+use Rattle.room.proofs.Runs.{of-weaken}
+use Rattle.audited.specs.Audit.{Keeps}
 use Rattle.audited.specs.declared.audited.Audited.{Audited}
 use Rattle.audited.specs.declared.receipt.Receipt.{Receipt}
 use Rattle.engine.specs.Lending.{first_of}
-use Rattle.engine.specs.Origins.{IsFrom, IsRunFrom, HasHalted}
-
--- a room's history is a run from its image
-pub run-of : {D : Type 0} {G : Ghosts D} (state : D → Device) (image : Image) (audited : Audited D G) → IsAudited state audited.room image audited.opening audited.entries.items → IsRunFrom image audited.entries.items
-run-of state image audited is = record {
-  may_open = is.may_open;
-  runs = λ history drawn next lost stands. let r = is.runs history drawn next lost stands in (r.start, r.now, r.opens, r.run);
-}
+use Rattle.engine.specs.Origins.{IsFrom, HasHalted}
 
 -- the tick that was refused so is the last of a room's steps
 pub halted-now : {D : Type 0} {G : Ghosts D} (state : D → Device) (image : Image) (audited : Audited D G) (old : List (Step × Note)) (step : Step) (reply : Reply) (r : Receipt) (fault : Fault)
     → IsFrom state image audited → Keeps old audited.entries.items step reply r → r.step ≡ Commit → r.note ≡ Refused fault → HasHalted image fault
 halted-now state image audited old step reply r fault from keeps asked note =
-    ∥∥₁_map from (λ is. (old, subst (IsRunFrom image) same (run-of state image audited is)))
+    ∥∥₁_map from (λ is. (old, subst (λ (es : List (Step × Note)). RunOf image es (λ q. ⊤)) same (of-weaken image audited.entries.items (Shows state audited.room) (λ q. ⊤) (λ q shows. tt) is.run)))
   where
     same : audited.entries.items ≡ old ++ (Commit, Refused fault) ∷ []
     same = keeps.entries

@@ -72,4 +72,7 @@ drawn_told old mid new phase n t answer is at a c =
 -- nothing was written, so nothing is stamped
 pub nothing_told : (old new : List Receipt) (phase : Phase) (n : ℕ) (answer : Option ℕ) → phase ≡ Active n → answer ≡ None → Asks old new (Draw n) (note_of_draw answer)
     → Called old new (λ added. AskPrepare phase added × ReportsPrepare phase added None)
-nothing_told old new phase n answer is at a = grind (arith)
+nothing_told old new phase n answer is at a =
+    Called-one old new (Draw n) (note_of_draw answer) _ a (λ r step told.
+    subst (λ (p : Phase). AskPrepare p (r ∷ []) × ReportsPrepare p (r ∷ []) None) (sym is)
+    (inr (r, [], refl, step, All-nil (λ (s : Receipt). s.step ≡ Stamp n)), ((r, [], refl, told ∙ ap note_of_draw at), (r, refl))))

@@ -7,7 +7,7 @@ use Rattle.base.specs.declared.step.Step.TheVariants.{Draw, Stamp, Poll, End}
 use Rattle.base.specs.declared.step.Note.{Note}
 use Rattle.base.specs.declared.step.Note.TheVariants.{Refused, Done, Drawn as DrewAs, Stamped as AllStamped, Waiting, Committed}
 use Rattle.audited.specs.declared.receipt.Receipt.{Receipt}
-use Rattle.audited.specs.Audit.{EndsRun}
+use Rattle.audited.specs.Audit.{IsLastOfRun}
 use Rattle.engine.specs.declared.phase.Phase.{Phase}
 use Rattle.engine.specs.declared.phase.Phase.TheVariants.{Idle, Active, Drawn, Stamped, Covered}
 use Rattle.engine.specs.declared.phase.PollReply.{PollReply}
@@ -18,7 +18,7 @@ use Rattle.engine.specs.Phases.{number_of}
 pub record Called (old new : List Receipt) (fact : List Receipt → Type 0) : Type 0 where
   pub added : List Receipt
   pub is : new ≡ old ++ added
-  pub runs : All (λ r. ∥ EndsRun r ∥₁) added
+  pub runs : All (λ r. ∥ IsLastOfRun r ∥₁) added
   pub holds : fact added
 
 -- the last note is this

@@ -14,8 +14,8 @@ use Rattle.base.specs.declared.step.Reply.TheVariants.{Refused as RefusedWith}
 use Rattle.machine.specs.Machine.{State}
 use Rattle.pmem.specs.Device.{Device}
 use Rattle.pmem.specs.declared.device.Pmem.{Ghosts}
-use Rattle.room.specs.Room.{Shows, StepsTo}
-use Rattle.audited.specs.Audit.{EndsRun, Keeps, Stays}
+use Rattle.room.specs.Room.{Leads, Shows}
+use Rattle.audited.specs.Audit.{IsLastOfRun, Keeps, Stays}
 use Rattle.audited.specs.declared.audited.Audited.{Audited}
 use Rattle.audited.specs.declared.receipt.Receipt.{Receipt}
 
@@ -40,8 +40,8 @@ has_failed entries = option_map_or (λ entry. is_failure entry.1) (slice_get ent
 pub record Makes {D : Type 0} {G : Ghosts D} (state : D → Device) (old new : Audited D G) (step : Step) (reply : Reply) (receipt : Option Receipt) : Type 0 where
   pub opening : new.opening ≡ old.opening
   pub kept : IfSome receipt (λ r. Keeps old.entries.items new.entries.items step reply r)
-  pub run : IfSome receipt (λ r. ∥ EndsRun r ∥₁)
-  pub leads : IfSome receipt (λ r. (q : State) → Shows state old.room q → (q' : State) × StepsTo state old.room new.room step reply q q')
+  pub run : IfSome receipt (λ r. ∥ IsLastOfRun r ∥₁)
+  pub leads : IfSome receipt (λ r. Leads state old.room new.room step reply)
   pub refused : IfNone receipt ((reply ≡ RefusedWith OutOfMemory) × (new.entries.items ≡ old.entries.items))
   pub stays : IfNone receipt ((q : State) → Shows state old.room q → Stays state old.room new.room step q)
 

@@ -6,7 +6,7 @@ use Rattle.base.specs.declared.step.Step.{Step}
 use Rattle.base.specs.declared.step.Note.{Note}
 use Rattle.base.specs.declared.step.Note.TheVariants.{Refused}
 use Rattle.audited.specs.declared.receipt.Receipt.{Receipt}
-use Rattle.audited.specs.Audit.{EndsRun}
+use Rattle.audited.specs.Audit.{IsLastOfRun}
 use Rattle.engine.specs.declared.phase.Phase.{Phase}
 use Rattle.engine.specs.declared.phase.Phase.TheVariants.{Idle}
 
@@ -26,7 +26,7 @@ pub record Asks (old new : List Receipt) (step : Step) (note : Note) : Type 0 wh
   pub added : new ≡ old ++ receipt ∷ []
   pub asked : receipt.step ≡ step
   pub noted : receipt.note ≡ note
-  pub run : ∥ EndsRun receipt ∥₁
+  pub run : ∥ IsLastOfRun receipt ∥₁
 
 -- the step was asked and refused with this fault; or for lack of memory no step was made, or none that is kept
 abbrev pub Refuses : List Receipt → List Receipt → Step → Fault → Type 0

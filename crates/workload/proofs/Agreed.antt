@@ -4,7 +4,7 @@ use Rattle.std.proofs.Math.Logic.{∥∥₁_map}
 use Rattle.std.proofs.lemmas.List.{length-map}
 use Rattle.std.proofs.lemmas.List.Folds.{flat_map-map}
 use Rattle.std.proofs.lemmas.List.Elements.{All-cons, All-head, All-map, All-nil, All-tail}
-use Rattle.std.specs.Prelude.{All, flat_map, slice_get, slice_index_or}
+use Rattle.std.specs.Prelude.{All, flat_map, slice_get, slice_index_or, ⊤}
 use Rattle.std.specs.List.{Any}
 use Rattle.base.specs.declared.fault.Fault.{Fault}
 use Rattle.base.specs.declared.fault.Fault.TheVariants.{WrongState}
@@ -15,13 +15,13 @@ use Rattle.base.specs.declared.step.Note.TheVariants.{Refused}
 use Rattle.base.specs.Images.{Image}
 use Rattle.pmem.specs.Device.{Device}
 use Rattle.pmem.specs.declared.device.Pmem.{Ghosts}
-use Rattle.audited.specs.Audit.{IsAudited}
+use Rattle.audited.specs.declared.audited.Audited.{Audited}
 use Rattle.audited.specs.declared.receipt.Receipt.{Receipt}
-use Rattle.room.specs.declared.room.Room.{Room}
-use Rattle.room.specs.declared.status.Status.{Status}
+use Rattle.room.specs.Room.{Shows}
+use Rattle.room.proofs.Runs.{of-weaken}
 use Rattle.engine.specs.Agreement.{Agrees, IsEntry}
 use Rattle.engine.specs.Calls.{ReportsLast}
-use Rattle.engine.specs.Origins.{HasHalted, IsRunFrom}
+use Rattle.engine.specs.Origins.{HasHalted, IsFrom}
 use Rattle.workload.specs.Load.{AreMade, GivesUp, HasRefusal, IsRefusedWith, Makes, ReportsNothing, Works, may_pass}
 
 -- ---- parts of a list
@@ -62,55 +62,35 @@ are-made f fault Halted sessions commits tasks entries first receipts count begi
 
 -- ---- a thread met a fault
 
-pub run-from : {D : Type 0} {G : Ghosts D} (state : D → Device) (room : Room D G) (image : Image) (opening : Status) (entries : List (Step × Note)) → IsAudited state room image opening entries → IsRunFrom image entries
-run-from state room image opening entries a = record {
-  may_open = a.may_open;
-  runs = λ history drawn next lost stands. let r = a.runs history drawn next lost stands in (r.start, r.now, r.opens, r.run);
-}
+halted-refusal : (image : Image) (fault : Fault) → HasHalted image fault → HasRefusal image fault
+halted-refusal image fault halted = ∥∥₁_map halted (λ h. (h.0 ++ (Tick, Refused fault) ∷ [], h.1, length h.0, Tick, slice_get-last h.0 (Tick, Refused fault)))
 
-last-refusal : {D : Type 0} {G : Ghosts D} (state : D → Device) (room : Room D G) (image : Image) (opening : Status) (entries : List (Step × Note)) (first : ℕ) (receipts : List Receipt) (fault : Fault)
-    → All (IsEntry entries first) receipts → ReportsLast receipts (Refused fault) → IsAudited state room image opening entries → HasRefusal image fault
-last-refusal state room image opening entries first receipts fault all (before, r, last, told) audited =
-    let one : IsEntry entries first r = All-head (IsEntry entries first) r [] (All-right (IsEntry entries first) before (r ∷ []) (subst (All (IsEntry entries first)) last all)) in record {
-      entries = entries;
-      run = run-from state room image opening entries audited;
-      place = r.place;
-      step = r.step;
-      refused = one.entry ∙ ap (λ (note : Note). Some (r.step, note)) told;
-    }
+refusal : {D : Type 0} {G : Ghosts D} (state : D → Device) (image : Image) (audited : Audited D G) (first : ℕ) (receipts : List Receipt) (fault : Fault)
+    → All (IsEntry audited.entries.items first) receipts → IsFrom state image audited → IsRefusedWith (HasHalted image) receipts fault → HasRefusal image fault
+refusal state image audited first receipts fault all from (inl (before, r, last, told)) =
+    let entries = audited.entries.items in
+    let one : IsEntry entries first r = All-head (IsEntry entries first) r [] (All-right (IsEntry entries first) before (r ∷ []) (subst (All (IsEntry entries first)) last all)) in
+    ∥∥₁_map from (λ a. (entries, of-weaken image entries (Shows state audited.room) (λ q. ⊤) (λ q shows. tt) a.run, r.place, r.step, one.entry ∙ ap (λ (note : Note). Some (r.step, note)) told))
+refusal state image audited first receipts fault all from (inr halted) = halted-refusal image fault halted
 
-halted-refusal : (image : Image) (fault : Fault) → HasHalted image fault → ∥ HasRefusal image fault ∥₁
-halted-refusal image fault halted = ∥∥₁_map halted (λ h. record {
-  entries = h.0 ++ (Tick, Refused fault) ∷ [];
-  run = h.1;
-  place = length h.0;
-  step = Tick;
-  refused = slice_get-last h.0 (Tick, Refused fault);
-})
-
-refusal : {D : Type 0} {G : Ghosts D} (state : D → Device) (room : Room D G) (image : Image) (opening : Status) (entries : List (Step × Note)) (first : ℕ) (receipts : List Receipt) (fault : Fault)
-    → All (IsEntry entries first) receipts → ∥ IsAudited state room image opening entries ∥₁ → IsRefusedWith (HasHalted image) receipts fault → ∥ HasRefusal image fault ∥₁
-refusal state room image opening entries first receipts fault all from (inl last) = ∥∥₁_map from (last-refusal state room image opening entries first receipts fault all last)
-refusal state room image opening entries first receipts fault all from (inr halted) = halted-refusal image fault halted
-
-given-up : {D : Type 0} {G : Ghosts D} (state : D → Device) (room : Room D G) (image : Image) (opening : Status) (entries : List (Step × Note)) (first : ℕ) (receipts : List Receipt) (fault : Fault)
-    → All (IsEntry entries first) receipts → ∥ IsAudited state room image opening entries ∥₁ → GivesUp (HasHalted image) receipts fault
-    → (fault ≡ WrongState) ⊎ ((may_pass fault ≡ false) × ∥ HasRefusal image fault ∥₁)
-given-up state room image opening entries first receipts fault all from gives = of gives.why
+given-up : {D : Type 0} {G : Ghosts D} (state : D → Device) (image : Image) (audited : Audited D G) (first : ℕ) (receipts : List Receipt) (fault : Fault)
+    → All (IsEntry audited.entries.items first) receipts → IsFrom state image audited → GivesUp (HasHalted image) receipts fault
+    → (fault ≡ WrongState) ⊎ ((may_pass fault ≡ false) × HasRefusal image fault)
+given-up state image audited first receipts fault all from gives = of gives.why
   where
-    of : ((fault ≡ WrongState) × ReportsNothing receipts) ⊎ IsRefusedWith (HasHalted image) receipts fault → (fault ≡ WrongState) ⊎ ((may_pass fault ≡ false) × ∥ HasRefusal image fault ∥₁)
+    of : ((fault ≡ WrongState) × ReportsNothing receipts) ⊎ IsRefusedWith (HasHalted image) receipts fault → (fault ≡ WrongState) ⊎ ((may_pass fault ≡ false) × HasRefusal image fault)
     of (inl (wrong, nothing)) = inl wrong
-    of (inr refused) = inr (gives.is_final, refusal state room image opening entries first receipts fault all from refused)
+    of (inr refused) = inr (gives.is_final, refusal state image audited first receipts fault all from refused)
 
 -- the fault of some thread is WrongState, or a final one, which a run was refused with
-pub some-refusal : {D T : Type 0} {G : Ghosts D} (state : D → Device) (room : Room D G) (image : Image) (opening : Status) (entries : List (Step × Note)) (first commits : ℕ) (receipts : List Receipt)
+pub some-refusal : {D T : Type 0} {G : Ghosts D} (state : D → Device) (image : Image) (audited : Audited D G) (first commits : ℕ) (receipts : List Receipt)
     (f : T → List Receipt) (fault : T → Option Fault) (tasks : List T) (why : Fault)
-    → All (λ t. Works (HasHalted image) commits (f t) (fault t)) tasks → Any (λ t. fault t ≡ Some why) tasks → receipts ≡ flat_map f tasks → Agrees entries first receipts
-    → ∥ IsAudited state room image opening entries ∥₁ → (why ≡ WrongState) ⊎ ((may_pass why ≡ false) × ∥ HasRefusal image why ∥₁)
-some-refusal state room image opening entries first commits receipts f fault tasks why works (k, task, less, is, met) are agrees from =
+    → All (λ t. Works (HasHalted image) commits (f t) (fault t)) tasks → Any (λ t. fault t ≡ Some why) tasks → receipts ≡ flat_map f tasks → Agrees audited.entries.items first receipts
+    → IsFrom state image audited → (why ≡ WrongState) ⊎ ((may_pass why ≡ false) × HasRefusal image why)
+some-refusal state image audited first commits receipts f fault tasks why works (k, task, less, is, met) are agrees from =
     let gives = gave (fault (slice_index_or tasks k task)) (f (slice_index_or tasks k task)) (ap fault is ∙ met) (works k task less) in
-    let pieces = All-pieces (IsEntry entries first) f tasks (subst (All (IsEntry entries first)) are agrees.each) in
-    given-up state room image opening entries first (f (slice_index_or tasks k task)) why (pieces k task less) from gives
+    let pieces = All-pieces (IsEntry audited.entries.items first) f tasks (subst (All (IsEntry audited.entries.items first)) are agrees.each) in
+    given-up state image audited first (f (slice_index_or tasks k task)) why (pieces k task less) from gives
   where
     some-inj : (a b : Fault) → Some a ≡ Some b → a ≡ b
     some-inj a b h = cc h

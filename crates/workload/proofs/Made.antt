@@ -4,13 +4,12 @@ use Rattle.std.proofs.Math.Logic.{∥∥₁_map}
 use Rattle.base.specs.declared.fault.Fault.{Fault}
 use Rattle.base.specs.declared.fault.Fault.TheVariants.{SlotsOut}
 use Rattle.base.specs.Images.{Image}
-use Rattle.pmem.specs.Device.{Device}
-use Rattle.pmem.specs.declared.device.Pmem.{Ghosts}
-use Rattle.room.specs.declared.room.Room.{Room}
-use Rattle.workload.specs.Load.{HasMadeFrom, HasRunFrom, IsEngineFault}
+use Rattle.machine.specs.Machine.{State}
+use Rattle.room.proofs.Runs.{of-weaken}
+use Rattle.workload.specs.Load.{IsEngineFault, MakesTo}
 
-pub run-of-made : {D : Type 0} {G : Ghosts D} (state : D → Device) (image : Image) (sessions commits : ℕ) (room : Room D G) → ∥ HasMadeFrom state image sessions commits room ∥₁ → ∥ HasRunFrom state image room ∥₁
-run-of-made state image sessions commits room made = ∥∥₁_map made (λ h. (h.0, h.1, h.2))
+pub makes-weaken : (image : Image) (sessions commits : ℕ) (Is Other : State → Type 0) → ((q : State) → Is q → Other q) → MakesTo image sessions commits Is → MakesTo image sessions commits Other
+makes-weaken image sessions commits Is Other weaker made = ∥∥₁_map made (λ m. (m.0, of-weaken image m.0 Is Other weaker m.1, m.2))
 
 -- a load that was begun isn't refused for lack of slots
 pub engine-not-slots : (image : Image) (fault : Fault) → IsEngineFault image fault → fault ≡ SlotsOut → ⊥

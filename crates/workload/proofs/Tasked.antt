@@ -54,7 +54,7 @@ module _ {D J B : Type 0} {G : Ghosts D} {N : Origins J} {M : Names J} where
 
   pub tasks-refused : (state : D → Device) (image : Image) (commits first : ℕ) (tasks : List (Task D J B G N M)) (closed : List (Session D J B G N M)) (audited : Audited D G) (fault : Fault)
       → AllWork (HasHalted image) commits tasks → Any (λ t. t.fault ≡ Some fault) tasks → closed ≡ sessions_in tasks → Agrees audited.entries.items first (receipts_in closed) → IsFrom state image audited
-      → (fault ≡ WrongState) ⊎ ((may_pass fault ≡ false) × ∥ HasRefusal image fault ∥₁)
+      → (fault ≡ WrongState) ⊎ ((may_pass fault ≡ false) × HasRefusal image fault)
   tasks-refused state image commits first tasks closed audited fault works met is agrees from =
-      some-refusal {T = Task D J B G N M} state audited.room image audited.opening audited.entries.items first commits (receipts_in closed) (λ t. t.session.receipts.items) (λ t. t.fault) tasks fault works met
+      some-refusal {T = Task D J B G N M} state image audited first commits (receipts_in closed) (λ t. t.session.receipts.items) (λ t. t.fault) tasks fault works met
       (receipts-of tasks closed is ∙ flat_map-map (λ (s : Session D J B G N M). s.receipts.items) (λ (t : Task D J B G N M). t.session) tasks) agrees from

@@ -1,5 +1,5 @@
 -- What a load of commits needs, what its threads make, and what it leaves.
-use Rattle.std.specs.Prelude.{◌≡◌, ◌⊎◌, ℕ, ◌+◌, ◌*◌, ◌^◌, ◌<◌, ◌≤◌, nat_eq, Bool, true, false, if◌then◌else◌, List, [], ◌∷◌, ◌++◌, length, slice_get, Option, Some, None, All, flat_map, count_by}
+use Rattle.std.specs.Prelude.{◌≡◌, ◌⊎◌, ℕ, ◌+◌, ◌*◌, ◌^◌, ◌<◌, ◌≤◌, nat_eq, Bool, true, false, if◌then◌else◌, List, [], ◌∷◌, ◌++◌, length, slice_get, Option, Some, None, All, flat_map, count_by, ⊤}
 use Rattle.base.specs.declared.fault.Fault.{Fault}
 use Rattle.base.specs.declared.fault.Fault.TheVariants.{Conflict, Device as DeviceFault, NoThread, OutOfMemory, SlotsOut, TimestampsOut, WindowFull, WrongState}
 use Rattle.base.specs.declared.key.Key.{Key}
@@ -7,28 +7,16 @@ use Rattle.base.specs.declared.step.Note.{Note}
 use Rattle.base.specs.declared.step.Note.TheVariants.{Committed, Done, Drawn as DrewAs, Refused}
 use Rattle.base.specs.declared.step.Step.{Step}
 use Rattle.base.specs.declared.step.Step.TheVariants.{Draw, End, Poll, Put}
-use Rattle.base.specs.Commits.{Commit, Lists, after}
+use Rattle.base.specs.Commits.{Lists, after}
 use Rattle.base.specs.Images.{Image, opening_fault}
 use Rattle.machine.specs.Machine.{State}
-use Rattle.machine.specs.Openings.{OpensAs}
-use Rattle.base.specs.Stands.{Stands}
-use Rattle.pmem.specs.Device.{Device}
-use Rattle.pmem.specs.declared.device.Pmem.{Ghosts}
-use Rattle.audited.specs.Audit.{IsAudited}
 use Rattle.audited.specs.declared.receipt.Receipt.{Receipt}
 use Rattle.engine.specs.Agreement.{Agrees}
 use Rattle.engine.specs.declared.phase.Phase.{Phase}
 use Rattle.engine.specs.declared.phase.Phase.TheVariants.{Drawn, Idle, Stamped}
 use Rattle.engine.specs.Calls.{ReportsLast}
-use Rattle.engine.specs.Origins.{IsRunFrom}
 use Rattle.engine.specs.Phases.{phase_after}
-use Rattle.room.specs.declared.room.Room.{Room}
-use Rattle.room.specs.declared.status.Status.{Status}
-
--- the image opens, and whatever history it stands for, this holds of the state that it opens as
-pub record OpensTo (image : Image) (Is : State → Type 0) : Type 0 where
-  pub may_open : opening_fault image ≡ None
-  pub each : (history drawn : List Commit) (next : ℕ) → Stands image history drawn next → (q : State) × OpensAs image history [] q × Is q
+use Rattle.room.specs.Runs.{OpensTo, RunOf}
 
 -- that many slots are free in an opened state, or fewer: each row of the tables takes one then
 abbrev pub HasFree : ℕ → State → Type 0
@@ -141,31 +129,23 @@ pub record AreMade (sessions commits : ℕ) (entries : List (Step × Note)) : Ty
   pub each : All (Makes commits) threads
   pub agrees : Agrees entries 0 (flat_map (λ receipts. receipts) threads)
 
--- the room has made a run of steps from the image
-abbrev pub HasRunFrom : {D : Type 0} → {G : Ghosts D} → (D → Device) → Image → Room D G → Type 0
-HasRunFrom state image room = (opening : Status) × (entries : List (Step × Note)) × IsAudited state room image opening entries
-
--- the same, and in that run this many threads made this many commits each
-abbrev pub HasMadeFrom : {D : Type 0} → {G : Ghosts D} → (D → Device) → Image → ℕ → ℕ → Room D G → Type 0
-HasMadeFrom state image sessions commits room =
-    (opening : Status) × (entries : List (Step × Note)) × IsAudited state room image opening entries × AreMade sessions commits entries
+-- a run from the image, in which that many threads made that many commits each, comes to a state of which this holds
+abbrev pub MakesTo : Image → ℕ → ℕ → (State → Type 0) → Type 0
+MakesTo image sessions commits Is = ∥ ((entries : List (Step × Note)) × RunOf image entries Is × AreMade sessions commits entries) ∥₁
 
 -- ---- why it is refused
 
 -- a run from the image has an entry that was refused with this fault
-pub record HasRefusal (image : Image) (fault : Fault) : Type 0 where
-  pub entries : List (Step × Note)
-  pub run : IsRunFrom image entries
-  pub place : ℕ
-  pub step : Step
-  pub refused : slice_get entries place ≡ Some (step, Refused fault)
+abbrev pub HasRefusal : Image → Fault → Type 0
+HasRefusal image fault =
+    ∥ ((entries : List (Step × Note)) × RunOf image entries (λ q. ⊤) × (place : ℕ) × (step : Step) × (slice_get entries place ≡ Some (step, Refused fault))) ∥₁
 
 -- Why a load that was begun ended before its commits were made. Memory is lacking. A thread of the engine can't be started. When the
 -- engine is closed its room isn't the one that it was lent, or its steps aren't those of the sessions. A commit reported that nothing
 -- was written. Or a step, of a session or of the committer, was refused with a fault that doesn't pass
 abbrev pub IsEngineFault : Image → Fault → Type 0
 IsEngineFault image fault =
-    (fault ≡ OutOfMemory) ⊎ ((fault ≡ NoThread) ⊎ ((fault ≡ WrongState) ⊎ ((may_pass fault ≡ false) × ∥ HasRefusal image fault ∥₁)))
+    (fault ≡ OutOfMemory) ⊎ ((fault ≡ NoThread) ⊎ ((fault ≡ WrongState) ⊎ ((may_pass fault ≡ false) × HasRefusal image fault)))
 
 -- Why a load ended before its work was done. The image doesn't open. Memory is lacking. The device failed when it was opened, though no
 -- clause shows the failed operation, since the device is gone then. Two slots for each session aren't free. They are, but numbers are

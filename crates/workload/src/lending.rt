@@ -3,8 +3,10 @@ ghost use Rattle.std.specs.List.{Any};
 ghost use Rattle.std.specs.Vec.{vec_capacity};
 ghost use Rattle.base.specs.declared.fault.Fault.TheVariants.{OutOfMemory};
 ghost use Rattle.pmem.specs.Words.{IsAtRest, image_of};
+ghost use Rattle.room.specs.Room.{Shows};
+ghost use Rattle.room.specs.Runs.{OpensTo};
 ghost use Rattle.engine.specs.Origins.{HasHalted, IsFrom};
-ghost use Rattle.workload.specs.Load.{AreMade, HasFree, HasMadeFrom, HasNumbers, IsEngineFault, IsLoadFault, OpensTo};
+ghost use Rattle.workload.specs.Load.{AreMade, HasFree, HasNumbers, IsEngineFault, IsLoadFault, MakesTo};
 ghost use Rattle.workload.specs.Tasks.{AllWork, AreFresh};
 
 use crate::committing::commit_all;
@@ -31,7 +33,7 @@ pub fn lent<
     requires name { history ≡ J.book }
     requires image { image_of (D.state device) ≡ J.image }
     requires at_rest { IsAtRest (D.state device) }
-    ensures made { IfOk result (λ room. ∥ HasMadeFrom D.state (image_of (D.state device)) load.sessions load.commits room ∥₁) }
+    ensures made { IfOk result (λ room. MakesTo (image_of (D.state device)) load.sessions load.commits (Shows D.state room)) }
     ensures has_slots { OnOk result (OpensTo (image_of (D.state device)) (HasFree (2 * load.sessions))) }
     ensures has_numbers { OnOk result (OpensTo (image_of (D.state device)) (HasNumbers (load.sessions * load.commits))) }
     ensures fault { IfErr result (IsLoadFault (image_of (D.state device)) load.sessions load.commits) }

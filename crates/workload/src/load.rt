@@ -19,7 +19,9 @@ pub struct Load {
 
 ghost use Rattle.std.specs.Prelude.{◌*◌, IfErr, IfOk, OnOk};
 ghost use Rattle.pmem.specs.Words.{IsAtRest, image_of};
-ghost use Rattle.workload.specs.Load.{HasFree, HasMadeFrom, HasNumbers, IsLoadFault, OpensTo};
+ghost use Rattle.room.specs.Room.{Shows};
+ghost use Rattle.room.specs.Runs.{OpensTo};
+ghost use Rattle.workload.specs.Load.{HasFree, HasNumbers, IsLoadFault, MakesTo};
 
 /// Opens the device, and lets the threads make their commits while a committer and a collector work. Thread `i`, from 0, puts
 /// the numbers from 1 to `commits` under key `i` of table 1. Each is a row of 8 bytes with the least first, in a commit of its
@@ -32,7 +34,7 @@ pub fn run_load<
 
     // The room shows the state to which a run from the image of this very device led. In it each session made exactly its
     // commits, and all were acknowledged.
-    ensures made { IfOk result (λ room. ∥ HasMadeFrom D.state (image_of (D.state device)) load.sessions load.commits room ∥₁) }
+    ensures made { IfOk result (λ room. MakesTo (image_of (D.state device)) load.sessions load.commits (Shows D.state room)) }
 
     // It is done only if two slots for each session are free, and numbers are left: `SlotsOut` and `TimestampsOut` say that
     // they aren't.

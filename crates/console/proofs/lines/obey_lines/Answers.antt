@@ -7,7 +7,7 @@ use Rattle.machine.specs.Machine.{State}
 use Rattle.base.proofs.Options.{is_some-none}
 use Rattle.command_line.specs.declared.command.Survivor.{Survivor}
 use Rattle.console.specs.BadLine.{IsPassed}
-use Rattle.console.specs.Kept.{Leads}
+use Rattle.console.specs.Kept.{LeadsBy}
 use Rattle.console.specs.Obeyed.{ObeysLine}
 use Rattle.console.proofs.BadLine.{meets, passed-so, passed_on}
 use Rattle.console.proofs.Input.{reading-begins, reading-goes-on, read-so-far, read-to-crash}
@@ -39,7 +39,7 @@ loop-line-preserved g c =
       before.3 ++ made.0,
       appends-more (g.W.Write.contents c.args.output.now) (g.W.Write.contents c.loop-line.output) (g.W.Write.contents c.obey_line.new.output) before.3 made.0 before.4 made.1,
       more-lines g.D.Pmem.state c.args.room.now c.loop-line.room c.obey_line.new.room before.1 c.as_slice.result.now before.3 made.0 None before.5
-          (subst (λ (keeps : Option Survivor). Leads g.D.Pmem.state c.loop-line.room c.obey_line.new.room (λ (q q' : State). ObeysLine q c.as_slice.result.now made.0 keeps q'))
+          (subst (λ (keeps : Option Survivor). LeadsBy g.D.Pmem.state c.loop-line.room c.obey_line.new.room (λ (q q' : State). ObeysLine q c.as_slice.result.now made.0 keeps q'))
           (is_some-none c.in_ok-kept.kept (sym c.is_some.ensures ∙ c.if-is_some.false)) made.2),
       All-cons IsPassed c.as_slice.result.now before.1 (passed-so c.as_slice.result.now c.in_ok-kept.kept (sym c.is_some.ensures ∙ c.if-is_some.false) c.in_ok-kept.ensures.kept) before.6,
       omega (arith, before.7, c.saturating_add-number.ensures),

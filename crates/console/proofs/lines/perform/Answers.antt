@@ -2,14 +2,14 @@ use Rattle.std.proofs.Common.{subst}
 use Rattle.base.specs.declared.step.Step.{Step}
 use Rattle.machine.specs.Machine.{State, Stepped}
 use Rattle.command_line.specs.declared.command.Command.TheVariants as asks
-use Rattle.console.specs.Kept.{Leads}
+use Rattle.console.specs.Kept.{LeadsBy}
 use Rattle.console.proofs.KeptHistory.{leads-step}
 use Rattle.console.proofs.Obeyed.{comes-as}
 use Rattle.console.proofs.lines.perform.Goals as goal
 
 pub returns-in-Step-clause-comes : goal.returns-in-Step-clause-comes
 returns-in-Step-clause-comes g c = comes-as g.D.Pmem.state c.args.room.now c.step.new.self c.args.command.now (asks.Step c.in-Step.asked) c.step.result c.in-Step.is
-    (subst (λ (own : Step). Leads g.D.Pmem.state c.args.room.now c.step.new.self (λ (q q' : State). Stepped q own c.step.result q')) c.from.ensures
+    (subst (λ (own : Step). LeadsBy g.D.Pmem.state c.args.room.now c.step.new.self (λ (q q' : State). Stepped q own c.step.result q')) c.from.ensures
     (leads-step g.D.Pmem.state c.args.room.now c.step.new.self _ c.step.result c.step.ensures.step))
 
 pub returns-in-Commit-clause-comes : goal.returns-in-Commit-clause-comes

@@ -1,16 +1,11 @@
-use Rattle.std.proofs.Common.{◌≡◌, ◌++◌, [], List, ℕ, subst}
-use Rattle.base.specs.Commits.{Commit}
+use Rattle.std.proofs.Common.{◌≡◌, ◌⊎◌, ◌++◌, inl}
 use Rattle.std.specs.Prelude.{None}
-use Rattle.base.specs.Images.{Image, opening_fault}
 use Rattle.machine.specs.Machine.{State}
-use Rattle.machine.specs.Openings.{OpensAs}
-use Rattle.base.specs.Stands.{Stands}
 use Rattle.pmem_model.specs.Sim.{device_of}
 use Rattle.room.specs.Room.{Shows, device_of as device_in}
 use Rattle.console.proofs.BadLine.{ends-at, passed_on, unblamed}
-use Rattle.console.proofs.Lives.{life-of, lives-keep}
+use Rattle.console.proofs.Lives.{file-opened, life-of, lives-keep}
 use Rattle.console.proofs.Obeyed.{appends-more}
-use Rattle.std.proofs.Common.{◌⊎◌, inl}
 use Rattle.base.specs.declared.fault.Fault.TheVariants.{OutOfMemory}
 use Rattle.console.specs.Refusals.{IsClosingFault, IsOpeningFault}
 use Rattle.console.proofs.Refusals.{at-end, fault-on, opening-of-file}
@@ -22,12 +17,6 @@ returns-clause-lives g c =
     let made = c.in_ok-keeps.ensures.obeys in
     let over = c.in_ok-left.ensures.ends in
     record {
-      opens = record {
-        size = c.in_ok-words.ensures.length;
-        image = c.in_ok-words.words.items;
-        holds = c.in_ok-words.ensures.ok;
-        sound = subst (λ (i : Image). opening_fault i ≡ None) c.as_slice.ensures.value c.in_ok-room.ensures.may_open;
-      };
       lines = made.0;
       keeps = c.in_ok-keeps.keeps;
       begun = told.0;
@@ -39,11 +28,8 @@ returns-clause-lives g c =
           over.1;
       device = device_in device_of c.obey_lines.new.room;
       kept = c.in_ok-left.ensures.kept;
-      each = λ image held history drawn next stands.
-          life-of device_of c.in_ok-room.room c.obey_lines.new.room c.args.file.now c.in_ok-words.words.items image history drawn next made.0 c.in_ok-keeps.keeps
-          told.0 made.2 over.0 c.in_ok-left.left.items c.in_ok-words.ensures.ok held stands
-          (subst (λ (i : Image). (past pending : List Commit) (n : ℕ) → Stands i past pending n → (q : State) × OpensAs i past [] q × Shows device_of c.in_ok-room.room q)
-          c.as_slice.ensures.value c.in_ok-room.ensures.shows)
+      opens = life-of device_of c.in_ok-room.room c.obey_lines.new.room c.args.file.now made.0 c.in_ok-keeps.keeps told.0 made.2 over.0 c.in_ok-left.left.items
+          (file-opened c.args.file.now c.in_ok-words.words.items c.as_slice.result.now (Shows device_of c.in_ok-room.room) c.in_ok-words.ensures.length c.in_ok-words.ensures.ok c.as_slice.ensures.value c.in_ok-room.ensures.opens)
           told.2 made.4 over.2;
     }
 
@@ -59,10 +45,9 @@ pub returns-in_err-keeps-clause-bad_line : goal.returns-in_err-keeps-clause-bad_
 returns-in_err-keeps-clause-bad_line g c =
     let told = c.in_ok-show_opened.ensures.printed in
     passed_on c.from_residual-in_err-keeps.result _ _ _ c.from_residual-in_err-keeps.ensures.1
-    (λ at met. ends-at device_of c.in_ok-room.room c.args.file.now c.in_ok-words.words.items (g.R.Read.remaining c.args.input.now) (g.W.Write.contents c.args.output.now)
-    (g.W.Write.contents c.show_opened.new.output) (g.W.Write.contents c.obey_lines.new.output) told.0 at c.in_ok-words.ensures.ok
-    (subst (λ (i : Image). (past pending : List Commit) (n : ℕ) → Stands i past pending n → (q : State) × OpensAs i past [] q × Shows device_of c.in_ok-room.room q)
-    c.as_slice.ensures.value c.in_ok-room.ensures.shows)
+    (λ at met. ends-at device_of c.in_ok-room.room c.args.file.now (g.R.Read.remaining c.args.input.now) (g.W.Write.contents c.args.output.now)
+    (g.W.Write.contents c.show_opened.new.output) (g.W.Write.contents c.obey_lines.new.output) told.0 at
+    (file-opened c.args.file.now c.in_ok-words.words.items c.as_slice.result.now (Shows device_of c.in_ok-room.room) c.in_ok-words.ensures.length c.in_ok-words.ensures.ok c.as_slice.ensures.value c.in_ok-room.ensures.opens)
     told.1 told.2 met)
     c.in_err-keeps.ensures.bad_line
 
@@ -86,9 +71,8 @@ returns-in_err-left-clause-refused g c =
     (λ fault. (fault ≡ OutOfMemory) ⊎ ((c.in_ok-keeps.keeps ≡ None) × (g.W.Write.contents c.end.new.output ≡ g.W.Write.contents c.obey_lines.new.output)
     × ((q : State) → Shows device_of c.obey_lines.new.room q → IsClosingFault q fault)))
     _ c.from_residual-in_err-left.ensures.1
-    (λ fault is. at-end device_of c.in_ok-room.room c.obey_lines.new.room c.args.file.now c.in_ok-words.words.items (g.R.Read.remaining c.args.input.now) (g.W.Write.contents c.args.output.now)
-    (g.W.Write.contents c.show_opened.new.output) (g.W.Write.contents c.obey_lines.new.output) (g.W.Write.contents c.end.new.output) made.0 c.in_ok-keeps.keeps told.0 made.2 fault c.in_ok-words.ensures.ok
-    (subst (λ (i : Image). (past pending : List Commit) (n : ℕ) → Stands i past pending n → (q : State) × OpensAs i past [] q × Shows device_of c.in_ok-room.room q)
-    c.as_slice.ensures.value c.in_ok-room.ensures.shows)
+    (λ fault is. at-end device_of c.in_ok-room.room c.obey_lines.new.room c.args.file.now (g.R.Read.remaining c.args.input.now) (g.W.Write.contents c.args.output.now)
+    (g.W.Write.contents c.show_opened.new.output) (g.W.Write.contents c.obey_lines.new.output) (g.W.Write.contents c.end.new.output) made.0 c.in_ok-keeps.keeps told.0 made.2 fault
+    (file-opened c.args.file.now c.in_ok-words.words.items c.as_slice.result.now (Shows device_of c.in_ok-room.room) c.in_ok-words.ensures.length c.in_ok-words.ensures.ok c.as_slice.ensures.value c.in_ok-room.ensures.opens)
     told.1 told.2 made.1 made.3 made.4 is)
     c.in_err-left.ensures.refused

@@ -8,27 +8,26 @@ use Rattle.command_line.specs.ImageFile.{IsFileOf}
 use Rattle.pmem_model.specs.Sim.{device_of}
 use Rattle.recovery.specs.Read.{IsReadRefusal}
 use Rattle.room.specs.Room.{Shows}
+use Rattle.room.specs.Runs.{OpensTo}
 use Rattle.machine.specs.Machine.{State, StandsClosed}
-use Rattle.workload.specs.Load.{HasFree, HasMadeFrom, HasNumbers, HasRunFrom, OpensTo}
-use Rattle.workload.proofs.Made.{run-of-made}
+use Rattle.workload.specs.Load.{HasFree, HasNumbers, MakesTo}
+use Rattle.workload.proofs.Made.{makes-weaken}
 use Rattle.console.specs.Refusals.{IsClosingFault}
 use Rattle.console.specs.Threads.{IsThreadsFault, threads_text}
 use Rattle.console.proofs.Refusals.{fault-on}
-use Rattle.console.proofs.Working.{keeps-run, late-fault, load-fault, made-to, reading-fault-so}
+use Rattle.console.proofs.Working.{keeps-run, late-fault, load-fault, reading-fault-so}
 use Rattle.console.proofs.threads.run_threads.Goals as goal
 
 pub returns-clause-prints : goal.returns-clause-prints
 returns-clause-prints g c =
-    let free = subst (λ (i : Image). OpensTo i (HasFree (2 * c.args.load.sessions))) c.as_slice.ensures.value c.in_ok-room.ensures.has_slots in
+    let opens = subst (λ (i : Image). OpensTo i (HasFree (2 * c.args.load.sessions))) c.as_slice.ensures.value c.in_ok-room.ensures.has_slots in
     record {
-      opens = record { size = c.in_ok-words.ensures.length; image = c.in_ok-words.words.items; holds = c.in_ok-words.ensures.ok; sound = free.may_open };
-      has_slots = free;
+      opens = record { size = c.in_ok-words.ensures.length; image = c.in_ok-words.words.items; holds = c.in_ok-words.ensures.ok; opens = opens };
       has_numbers = subst (λ (i : Image). OpensTo i (HasNumbers (c.args.load.sessions * c.args.load.commits))) c.as_slice.ensures.value c.in_ok-room.ensures.has_numbers;
       image = c.in_ok-image.image.items;
       of_image = subst (λ (i : Image). IsFileOf i c.in_ok-left.left.items) c.as_slice-3.ensures.value c.in_ok-left.ensures;
-      made = made-to device_of c.in_ok-room.room c.in_ok-words.words.items c.args.load.sessions c.args.load.commits (λ q. StandsClosed q c.in_ok-image.image.items)
-          (subst (λ (i : Image). ∥ HasMadeFrom device_of i c.args.load.sessions c.args.load.commits c.in_ok-room.room ∥₁) c.as_slice.ensures.value c.in_ok-room.ensures.made)
-          c.in_ok-image.ensures.closed;
+      made = makes-weaken c.in_ok-words.words.items c.args.load.sessions c.args.load.commits (Shows device_of c.in_ok-room.room) (λ q. StandsClosed q c.in_ok-image.image.items) c.in_ok-image.ensures.closed
+          (subst (λ (i : Image). MakesTo i c.args.load.sessions c.args.load.commits (Shows device_of c.in_ok-room.room)) c.as_slice.ensures.value c.in_ok-room.ensures.made);
       rows = c.in_ok-report.report.rows.items;
       lists = subst (λ (i : Image). ListsTables i c.in_ok-report.report.rows.items) c.as_slice-2.ensures.value c.in_ok-report.ensures.ok.lists;
       prints = subst (λ (rows : List (Key × List ℕ)). Appends (g.W.Write.contents c.args.output.now) (g.W.Write.contents c.show_threads.new.output) (threads_text c.args.load.sessions c.args.load.commits rows))
@@ -37,8 +36,9 @@ returns-clause-prints g c =
 
 pub returns-clause-keeps : goal.returns-clause-keeps
 returns-clause-keeps g c =
-    keeps-run device_of c.in_ok-room.room c.args.file.now c.in_ok-words.words.items c.in_ok-image.image.items c.in_ok-left.left.items c.in_ok-words.ensures.ok
-    (subst (λ (i : Image). ∥ HasRunFrom device_of i c.in_ok-room.room ∥₁) c.as_slice.ensures.value (run-of-made device_of c.as_slice.result.now c.args.load.sessions c.args.load.commits c.in_ok-room.room c.in_ok-room.ensures.made)) c.in_ok-image.ensures.closed
+    keeps-run c.args.file.now c.in_ok-words.words.items c.in_ok-image.image.items c.in_ok-left.left.items c.args.load.sessions c.args.load.commits c.in_ok-words.ensures.ok
+    (makes-weaken c.in_ok-words.words.items c.args.load.sessions c.args.load.commits (Shows device_of c.in_ok-room.room) (λ q. StandsClosed q c.in_ok-image.image.items) c.in_ok-image.ensures.closed
+    (subst (λ (i : Image). MakesTo i c.args.load.sessions c.args.load.commits (Shows device_of c.in_ok-room.room)) c.as_slice.ensures.value c.in_ok-room.ensures.made))
     (subst (λ (i : Image). IsFileOf i c.in_ok-left.left.items) c.as_slice-3.ensures.value c.in_ok-left.ensures)
 
 pub returns-in_err-room-clause-refused : goal.returns-in_err-room-clause-refused

@@ -3,13 +3,15 @@ use Rattle.base.specs.Images.{Image}
 use Rattle.pmem.specs.Words.{image_of}
 use Rattle.pmem.proofs.Restarted.{image-restarted}
 use Rattle.pmem_model.specs.Sim.{device_of}
-use Rattle.workload.specs.Load.{HasFree, HasMadeFrom, HasNumbers, IsLoadFault, OpensTo}
+use Rattle.room.specs.Room.{Shows}
+use Rattle.room.specs.Runs.{OpensTo}
+use Rattle.workload.specs.Load.{HasFree, HasNumbers, IsLoadFault, MakesTo}
 use Rattle.console.proofs.Working.{load-told}
 use Rattle.console.proofs.threads.worked_on.Goals as goal
 
 pub returns-in-Ok-clause-made : goal.returns-in-Ok-clause-made
 returns-in-Ok-clause-made g c =
-    subst (λ (i : Image). ∥ HasMadeFrom device_of i c.args.load.sessions c.args.load.commits c.in-Ok.room ∥₁) (ap image_of c.in_ok-device.ensures.device ∙ image-restarted c.args.words.now) c.in-Ok.ensures.made
+    subst (λ (i : Image). MakesTo i c.args.load.sessions c.args.load.commits (Shows device_of c.in-Ok.room)) (ap image_of c.in_ok-device.ensures.device ∙ image-restarted c.args.words.now) c.in-Ok.ensures.made
 
 pub returns-in-Ok-clause-has_slots : goal.returns-in-Ok-clause-has_slots
 returns-in-Ok-clause-has_slots g c =

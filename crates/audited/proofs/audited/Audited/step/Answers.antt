@@ -1,7 +1,7 @@
 use Rattle.std.proofs.Common.{rules, ◌++◌, ◌∷◌, [], ap, ◌∙◌, sym, refl}
 use Rattle.std.proofs.Math.Logic.{∥∥₁_map}
 use Rattle.std.proofs.lemmas.Bool.{true≢false}
-use Rattle.audited.proofs.Compose.{IsAudited-step, IsAudited-stays, Stays-step, Stays-same, EndsRun-last, memory_changes_nothing}
+use Rattle.audited.proofs.Compose.{IsAudited-step, IsAudited-stays, Stays-step, Stays-same, last-of-run, memory_changes_nothing}
 use Rattle.audited.proofs.audited.Audited.step.Goals as goal
 
 -- there is no room for an entry
@@ -67,13 +67,12 @@ returns-clause-audited g c = λ image a.
 pub returns-clause-run : goal.returns-clause-run
 returns-clause-run g c =
     let added = c.push_reserved.ensures.items ∙ ap (λ es. es ++ (c.args.step, c.in-Ok.kept) ∷ []) c.reserve.ensures.items in
-    ∥∥₁_map c.args.self.now.audited (λ a.
-    EndsRun-last _ _ _ _ c.args.self.now.entries.items _ c.args.step c.step-reply.result _
-    (IsAudited-step _ _ _ _ _ _ _ c.args.step c.step-reply.result c.in-Ok.kept a.1 c.step-reply.ensures.step c.in-Ok.ensures.ok.0 added)
+    last-of-run _ _ _ c.args.self.now.entries.items _ c.args.step c.step-reply.result _
+    (∥∥₁_map c.args.self.now.audited (λ a. (a.0, IsAudited-step _ _ _ _ _ _ _ c.args.step c.step-reply.result c.in-Ok.kept a.1 c.step-reply.ensures.step c.in-Ok.ensures.ok.0 added)))
     (record {
       kept = λ is. true≢false (sym (c.wants_memory.ensures.1 is) ∙ c.if-wants_memory.false);
       entries = added ∙ ap (λ n. c.args.self.now.entries.items ++ (c.args.step, n) ∷ []) c.in-Ok.ensures.ok.0;
       place = search rules;
       asked = refl;
       note = c.in-Ok.ensures.ok.1;
-    }))
+    })
