@@ -1,7 +1,7 @@
 ghost use Rattle.std.specs.Prelude.{◌≡◌, ℕ, List, ◌+◌, ◌%◌, ◌<◌, ◌^◌, true, false, None, length, is_some, IfErr, IfOk, IsSome, OnErr, OnOk};
 ghost use Rattle.std.proofs.Common.{inl};
-ghost use Rattle.journal.specs.Kept.{HoldsOnly};
-ghost use Rattle.journal.specs.Files.{Opens, StandsAs};
+ghost use Rattle.journal.specs.Files.{Opens};
+ghost use Rattle.journal.specs.ReadBack.{IsReadBack, StandsAsBefore};
 ghost use Rattle.journal.specs.States.{Rests};
 
 use crate::appending::begin_words;
@@ -58,9 +58,11 @@ pub struct Unclosed<S> {
 impl<S: Storage> JournaledImages<S> {
     ghost use Rattle.journal.specs.Images.{IsClosedIn, MayFind, StandsForOne, failure_of, last_image, room_of, storage_of};
 
-    /// Opens a file that holds these words: so many of an image, a journal of so much room, and a tail. What it stands for is
-    /// the image that is kept, and it is brought to rest. Fails as [`image_in`] does, and where a
-    /// write fails: whichever it is, the file stands for that image.
+    /// Opens a file of which these words were read: so many of an image, a journal of so much room, and a tail. The journal and
+    /// the tail are written back and synced before ([`write_back`](crate::write_back)); a word in place may be found otherwise
+    /// until the image is put there. The image that they make is kept, and the file is brought to rest. Fails as [`image_in`]
+    /// does, and if a write fails. If the journal's lines make that image of whatever might be found in place, the file opens
+    /// with that image also then.
     pub fn open(
         alloc: Global,
         storage: S,
@@ -70,12 +72,12 @@ impl<S: Storage> JournaledImages<S> {
     ) -> Result<JournaledImages<S>, Unopened<S>>
     where
         S: Drop,
-        requires holds { HoldsOnly (S.may_hold storage) (length file.now) file.now }
+        requires back { length file.now ≡ words + room + 8 → IsReadBack (S.may_hold storage) words room file.now }
         ensures stands { IfOk result (λ images. Opens words room file.now (last_image images)) }
         ensures found { IfOk result (λ images. (image : List ℕ) → MayFind S.may_hold images image → image ≡ last_image images) }
         ensures room { IfOk result (λ images. room_of images ≡ room) }
         ensures works { IfOk result (λ images. failure_of images ≡ None) }
-        ensures unopened { IfErr result (λ unopened. StandsAs (S.may_hold unopened.storage) words room file.now) }
+        ensures unopened { IfErr result (λ unopened. StandsAsBefore (S.may_hold storage) (S.may_hold unopened.storage) words room file.now) }
     {
         let durable = match image_in(alloc, file, words, room) {
             Ok(durable) => durable,

@@ -1,10 +1,16 @@
+ghost use Rattle.std.specs.Prelude.{ℕ, ◌+◌, ◌<◌, List};
 ghost use Rattle.journal.specs.Entries.{TornIsNone};
+ghost use Rattle.journal.specs.Files.{Opens};
 ghost use Rattle.journal.specs.InPlace.{InPlaceKeeps, InPlaceIsAll};
+ghost use Rattle.journal.specs.Kept.{IsFound};
 ghost use Rattle.journal.specs.LinePayloads.{LinesReturn};
 ghost use Rattle.journal.specs.Opened.{FileStates};
 ghost use Rattle.journal.specs.Passes.{FillingIsNothing, NextIsEmpty};
 ghost use Rattle.journal.specs.Pointwise.{ByPlaces};
+ghost use Rattle.journal.specs.ReadBack.{JournalDecides, StandsStill};
 ghost use Rattle.journal.specs.Several.{AppendIsWhole, NoneIsNothing, ScrubIsNone};
+
+use crate::storage::Storage;
 
 /// Of an entry that was being written, the reader answers it where all of its words are found, and else that there is none.
 pub fn torn_entries_are_seen()
@@ -50,3 +56,24 @@ pub fn stretches_are_by_places()
 pub fn files_are_whole()
     ensures { FileStates }
 {}
+
+/// If the journal decides which image may be found in a storage, and a file was read of it, that file's image is still what is
+/// opened in another storage, as long as each word in place there is one that might be found in the first.
+pub fn decided_files_stand_still<B: Storage, S: Storage>(
+    before: &B,
+    now: &S,
+    file: &[u64],
+    words: usize,
+    room: usize,
+)
+    requires decides { JournalDecides (B.may_hold before.now) words room }
+    requires found { IsFound (B.may_hold before.now) (words + room + 8) file.now }
+    requires within { (word x : ℕ) → word < words → S.may_hold now.now word x → B.may_hold before.now word x }
+    ensures { (image : List ℕ) → Opens words room file.now image → StandsStill (S.may_hold now.now) words room file.now }
+{
+    let _ = before;
+    let _ = now;
+    let _ = file;
+    let _ = words;
+    let _ = room;
+}

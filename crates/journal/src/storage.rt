@@ -1,5 +1,6 @@
 ghost use Rattle.std.specs.Prelude.{◌≡◌, ◌⊎◌, ℕ, ◌+◌, ◌-◌, ◌<◌, ◌≤◌, length, slice_index, OnOk};
 ghost use Rattle.journal.specs.Files.{IsInRun};
+ghost use Rattle.journal.specs.ReadBack.{IsReadBack, IsReadWord};
 
 use std::io;
 
@@ -52,4 +53,15 @@ pub(crate) fn put<S: Storage>(storage: &mut S, start: usize, words: &[u64]) -> i
 {
     storage.write(start, words)?;
     storage.sync()
+}
+
+/// Writes back a file's journal and tail as they were read, behind so many words of an image, and waits until they persist: then
+/// nothing else is found of them. A sync alone isn't enough: after one that failed, the system takes for written what no disk has.
+/// Meanwhile, and also if it fails, each of these words may be found as before or as it was read.
+pub fn write_back<S: Storage>(storage: &mut S, words: usize, file: &[u64]) -> io::Result<()>
+    requires within { words + 8 ≤ length file.now }
+    ensures puts { (word x : ℕ) → S.may_hold storage.new word x → S.may_hold storage.old word x ⊎ IsReadWord words file.now word x }
+    ensures back { OnOk result (IsReadBack (S.may_hold storage.new) words (length file.now - words - 8) file.now) }
+{
+    put(storage, words, &file[words..])
 }
