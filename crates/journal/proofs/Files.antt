@@ -75,7 +75,7 @@ opens-one words room file a b left right = ext_get_or 0 a b (left.size ∙ sym r
 pub found_word : (may_hold : ℕ → ℕ → Type 0) (count : ℕ) (file found : List ℕ) → HoldsOnly may_hold count file → IsFound may_hold count found → (word : ℕ) → word < count → get_or found word 0 ≡ get_or file word 0
 found_word may_hold count file found holds is word lt = holds word (get_or found word 0) lt (is.each word lt)
 
--- the image is in place, and nothing lies over it
+-- the image is in place, and no line is over it
 pub opens-off : (words room : ℕ) (file durable : List ℕ) → length durable ≡ words → ((word : ℕ) → word < words → get_or file word 0 ≡ get_or durable word 0) → lines_in words room file ≡ [] → Opens words room file durable
 opens-off words room file durable size place none = grind (arith)
 
@@ -96,7 +96,7 @@ file-stands may_hold words room file holds is_file image opens = found_opens may
     let same : found ≡ file = ext_get_or 0 found file (is.size ∙ sym is_file.size) (λ at lt. found_word may_hold (length file) file found holds (record { size = is.size ∙ sym is_file.size; each = λ word below. is.each word (omega (arith, below, is_file.size)) }) at (omega (arith, lt, is.size, is_file.size))) in
     subst (λ (f : List ℕ). Opens words room f image) (sym same) opens)
 
--- an image that all stands for is the one that the file stood for
+-- an image that all stands for is the one that the file stands for
 pub opened-stands : (may_hold : ℕ → ℕ → Type 0) (words room : ℕ) (file image : List ℕ) → Opens words room file image → FoundOpens may_hold words room image → StandsAs may_hold words room file
 opened-stands may_hold words room file image opens all is_file other is = subst (λ (l : List ℕ). FoundOpens may_hold words room l) (opens-one words room file image other opens is) all
 
@@ -195,7 +195,7 @@ pub rewritten-stands : (old new : ℕ → ℕ → Type 0) (words room : ℕ) (fi
 rewritten-stands old new words room file image size back opens each still =
     opened-stands new words room file image opens (each (merely (read-covers old words room file image size (back size) still opens)))
 
--- where nothing but what was read may be found of the whole file
+-- if nothing but what was read may be found of the whole file
 pub held-back : (may_hold : ℕ → ℕ → Type 0) (words room : ℕ) (file : List ℕ) → HoldsOnly may_hold (length file) file → length file ≡ words + room + 8 → IsReadBack may_hold words room file
 held-back may_hold words room file holds size word x le lt h = holds word x (omega (arith, lt, size)) h
 

@@ -4,7 +4,7 @@ use Rattle.journal.specs.Kept.{IsFound}
 use Rattle.journal.specs.InPlace.{put_over}
 use Rattle.journal.specs.Files.{lines_in, Opens, StandsAs}
 
--- x is this word of the file, which lies behind so many words of an image
+-- x is this word of the file, and the word is behind an image of `words`
 abbrev pub IsReadWord : ℕ → List ℕ → ℕ → ℕ → Type 0
 IsReadWord words file word x = (words ≤ word) × (word < length file) × (x ≡ slice_index file word)
 

@@ -48,7 +48,7 @@ pub record IsFull (may_hold : ℕ → ℕ → Type 0) (words room : ℕ) (pass :
   pub on : is_on words room here.known.file ≡ true
   pub all : AllOf pass (journal_in words room here.known.file)
 
--- whole entries of this pass, so many words of them, and behind them no word of the pass
+-- whole entries of this pass, which take `position` words, and behind them no word of the pass
 pub record Rests (may_hold : ℕ → ℕ → Type 0) (words room : ℕ) (pass : Bool) (position : ℕ) (durable : List ℕ) : Type 0 where
   pub known : Knows may_hold words room pass durable
   pub on : is_on words room known.file ≡ true

@@ -12,12 +12,12 @@ ghost use Rattle.journal.specs.Several.{AppendIsWhole, NoneIsNothing, ScrubIsNon
 
 use crate::storage::Storage;
 
-/// Of an entry that was being written, the reader answers it where all of its words are found, and else that there is none.
+/// The reader returns an entry that was being written if all of its words are found, and none if not.
 pub fn torn_entries_are_seen()
     ensures { TornIsNone }
 {}
 
-/// While an entry is appended, the entries before it are found, and it too where all of its words are found.
+/// While an entry is appended, the entries before it are found, and it too if all of its words are found.
 pub fn appends_are_whole()
     ensures append { AppendIsWhole }
     ensures nothing { NoneIsNothing }
@@ -46,7 +46,7 @@ pub fn passes_follow()
     ensures next { NextIsEmpty }
 {}
 
-/// What is said of stretches word after word follows from what each place may hold.
+/// What is said about stretches, word after word, follows from what each place may hold.
 pub fn stretches_are_by_places()
     ensures { ByPlaces }
 {}
@@ -57,8 +57,8 @@ pub fn files_are_whole()
     ensures { FileStates }
 {}
 
-/// If the journal decides which image may be found in a storage, and a file was read of it, that file's image is still what is
-/// opened in another storage, as long as each word in place there is one that might be found in the first.
+/// If the journal decides which image is found in a storage, the lines of a file's journal make the same of whatever might be found
+/// in place there. So they do in another storage, if each of its words in place might also be found in the first.
 pub fn decided_files_stand_still<B: Storage, S: Storage>(
     before: &B,
     now: &S,

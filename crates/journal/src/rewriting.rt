@@ -13,9 +13,9 @@ use std::io;
 pub(crate) const MAGIC: u64 = 0x5742_4C2D_4A52_4E31;
 
 /// Brings a file to rest, with its image in place and nothing in the journal, whatever its journal held. The journal and the tail
-/// are known; a word in place may be found otherwise. If the lines of the journal make the image of it anyway, the file opens with
-/// this image at each instant, and also if a write fails. The journal has `room` words, and `pass` is the one in its tail. It makes
-/// four writes, and waits after each: the image in place; then the journal no longer counts; it is cleared; it counts again.
+/// are known; a word in place may be found otherwise. If the lines of the journal make the image of it anyway, the file stands for
+/// this image at each instant, and also if a write fails. The journal has `room` words, and `pass` is the one that it counts in.
+/// Four writes, and a wait after each: the image in place; then the journal no longer counts; it is cleared; it counts again.
 pub fn rewrite<S: Storage>(
     alloc: Global,
     storage: &mut S,
@@ -34,9 +34,8 @@ pub fn rewrite<S: Storage>(
     turn_on(storage, image, room)
 }
 
-/// Brings the image in place, after which the journal counts no more: the file's first words are the image then, whatever
-/// stands behind them. At each instant, and where a write fails, the file stands for this image. Two writes, and a wait after
-/// each.
+/// Brings the image in place, after which the journal no longer counts: the file's first words are the image then, whatever is
+/// behind them. At each instant, and also if a write fails, the file stands for this image. Two writes, and a wait after each.
 pub(crate) fn settle<S: Storage>(
     storage: &mut S,
     image: &[u64],
@@ -102,7 +101,7 @@ fn turn_on<S: Storage>(storage: &mut S, image: &[u64], room: usize) -> io::Resul
 }
 
 /// Begins the next pass over the journal of a file at rest: its image is in place then, and nothing in the journal. At each instant,
-/// and where a write fails, the file stands for this image. Two waits: for the image in place, with the rest of the journal filled,
+/// and also if a write fails, the file stands for this image. Two waits: for the image in place, with the rest of the journal filled,
 /// and for the tail, which names the other pass.
 pub(crate) fn begin_pass<S: Storage>(
     alloc: Global,
