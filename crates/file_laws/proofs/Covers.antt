@@ -70,9 +70,9 @@ no_hand hand e = cc
 numbered-after : (q q' : State) → IsNumbered q → Moves q q' → IsNumbered q'
 numbered-after q q' numbered a hand is = grind (arith, same_hand, no_hand)
 
--- ---- a cover beside a state
+-- ---- a cover and a state
 
--- that of a batch in hand
+-- that of a batch that is being written
 abbrev over : State → Hand → Cover
 over q hand = record { ruled_by = hand.target; commits = q.history ++ hand.commits }
 
@@ -142,7 +142,7 @@ has-over q hand is = subst (λ (o : Option Hand). Contains (present q ∷ of_han
 has-at : (q : State) (cover : Cover) → IsAt q cover → Contains (covers_at q) cover
 has-at q cover a = grind (arith, has-own, has-over)
 
--- what is in hand after a step is laid over what the step leaves
+-- what is being written after a step goes over what the step leaves
 kept-history : (q q' : State) (hand : Hand) → Moves q q' → q'.hand ≡ Some hand → q'.history ≡ q.history
 kept-history q q' hand a is = grind (arith, no_hand)
 
@@ -214,9 +214,9 @@ one-cover q [] (r1 ∷ replies) states numbered run cover other rules rules' sam
 one-cover q (s1 ∷ steps) [] states numbered run cover other rules rules' same = absurd run
 one-cover q (s1 ∷ steps) (r1 ∷ replies) [] numbered run cover other rules rules' same = absurd run
 
--- ---- a close
+-- ---- closing
 
--- the number that a close writes, by what is in hand
+-- the number that closing writes, by what is being written
 closing-some : (q : State) (hand : Hand) → q.hand ≡ Some hand → closing_gate q ≡ q.ruling.gate + 2
 closing-some q hand is = ap (λ (o : Option Hand). q.ruling.gate + cond (is_some o) 2 1) is
 

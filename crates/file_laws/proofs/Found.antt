@@ -1,4 +1,4 @@
--- What is found stands as what a crash at that very moment leaves: the image with the found one's superblock and gates, and the
+-- What is found stands for the same as what a crash at that very moment leaves: the image with the found one's superblock and gates, and the
 -- newest value of every other word, is one that a crash then may leave, and has the same greatest gate.
 use Rattle.std.proofs.Common.{◌≡◌, ◌⊎◌, inl, inr, ℕ, ◌+◌, ◌*◌, ◌/◌, ◌%◌, ◌<◌, ◌≤◌, max, Bool, true, false, cond, not, ◌&&◌, ◌||◌, List, [], ◌∷◌, length, map, fold, get_or, refl, sym, ◌∙◌, ap, subst, arith, lit<, nat_eq, nat_lt, nat_le}
 use Rattle.std.specs.Prelude.{IsTrue, Contains, slice_index}
@@ -131,7 +131,7 @@ module _ (layout : Layout) (device : Device) (since moment : ℕ) (image : Image
     pub gate-same : (ruling mixed).gate ≡ (ruling image).gate
     gate-same = first mixed (ruling_place mixed) ∙ ap (gate_at mixed) place-same ∙ same (place_start (ruling_place image)) (start (ruling_place image) within) ∙ sym (first image (ruling_place image))
 
--- ---- it stands
+-- ---- what it stands for
 
 -- where the image between stands for one of these covers, and the found one stands for that whose gate it has
 stands-from : (q : State) (covers : List Cover) (device : Device) (since moment : ℕ) (image : Image) (found : IsFound q.layout device since moment image)

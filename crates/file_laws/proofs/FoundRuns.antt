@@ -1,4 +1,4 @@
--- What is found after any steps, within one, and at a close.
+-- What is found after any steps, within one, and when it is closed.
 use Rattle.std.proofs.Common.{◌≡◌, ◌⊎◌, inl, inr, ℕ, ◌+◌, ◌<◌, ◌≤◌, false, List, [], ◌∷◌, ◌++◌, sym, ◌∙◌, ap, subst, arith}
 use Rattle.std.specs.Prelude.{Contains}
 use Rattle.std.proofs.lemmas.Bool.{cases_lt}
@@ -32,7 +32,7 @@ use Rattle.room.proofs.Runs.{run-then}
 for-under : (q : State) (cover : Cover) (image : Image) → StandsUnder q cover image → StandsFor cover image
 for-under q cover image under = record { drawn = drawn_of q; next = q.next; stands = under.stands; ruled = under.ruled }
 
--- beside a run, and the close that ends it
+-- for a run, and the closing that ends it
 data Means (q : State) (states : List State) (image : Image) : Type 0 where
   raw : is_formatted image ≡ false → Means q states image
   older : (ruling image).gate < q.ruling.gate → Means q states image
@@ -77,7 +77,7 @@ module _ (q : State) (steps : List Step) (replies : List Reply) (states : List S
       → is_formatted image ≡ false ⊎ ((cover : Cover) → Contains covers cover → (ruling image).gate ≡ cover.ruled_by.gate → StandsFor cover image)
   means-rules covers rules means = elim (for-rule means) [ inl e ↦ inl e | inr for ↦ inr (λ cover has. for cover (rules cover has)) ]
 
-  -- and of those of a close
+  -- and of those of closing
   means-last : Means q states image → is_formatted image ≡ false ⊎ ((cover : Cover) → Contains (closed (final q states) ∷ []) cover → (ruling image).gate ≡ cover.ruled_by.gate → StandsFor cover image)
   means-last means = elim (for-close means) [
     | inl e ↦ inl e
@@ -134,7 +134,7 @@ module _ {D : Type 0} {G : Ghosts D} (state : D → Device) where
       (means-rules q (steps ++ step ∷ []) (replies ++ reply ∷ []) (states ++ q' ∷ []) (shows-numbered state first q shows) whole.run image (covers_within (final q states) q') (rules-last q states q')
       (means-found (state first.device) (state last.device) (final q states).layout since moment q (states ++ q' ∷ []) image comes whole.images to found))
 
-  -- ---- a close
+  -- ---- closing
 
   -- before it, or within
   means-closed : (first last : Room D G) (device : Device) (since moment : ℕ) (steps : List Step) (replies : List Reply) (q : State) (states : List State) (image : Image)
@@ -178,7 +178,7 @@ module _ {D : Type 0} {G : Ghosts D} (state : D → Device) where
       let s : StandsAt q image = shows.stands image (may_leave_now orderly (subst (λ (m : ℕ). LeftAt (state room.device) m image) now might.left)) in
       inr (inr (s.0, s.1, for-under q s.0 image s.2))
 
--- the record that an opening writes has the number after that of the image
+-- the record that is written when it is opened has the number after that of the image
 opened-gate : (image : Image) (history : List Commit) (lost : List ℕ) (q : State) → OpensAs image history lost q → q.ruling.gate ≡ (ruling image).gate + 1
 opened-gate image history lost q (gaps, is, e) = ap (λ (p : State). p.ruling.gate) e
 

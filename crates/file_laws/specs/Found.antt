@@ -1,5 +1,5 @@
 -- What is found of a device whose whole image is kept now and then, as in a file: an image of an earlier moment, with the gates
--- of now. What stands here of the machine alone would belong to its crate: in this one no crate below is proved again for it.
+-- of now. What is said here of the machine alone would belong to its crate: in this one no crate below is proved again for it.
 use Rattle.std.specs.Prelude.{◌≡◌, ◌⊎◌, ℕ, ◌+◌, ◌<◌, ◌≤◌, false, List, [], ◌∷◌, ◌++◌, slice_index, Some, Contains}
 use Rattle.base.specs.declared.step.Step.{Step}
 use Rattle.base.specs.declared.step.Reply.{Reply}
@@ -15,7 +15,7 @@ use Rattle.room.specs.Room.{Shows, RunsTo, device_of}
 
 -- ---- covers of a run
 
--- the batch in hand has the number after that of the state's record
+-- the batch that is being written has the number after that of the state's record
 abbrev pub IsNumbered : State → Type 0
 IsNumbered q = (hand : Hand) → q.hand ≡ Some hand → hand.target.gate ≡ q.ruling.gate + 1
 
@@ -33,7 +33,7 @@ abbrev pub OneCoverAGate : Type 0
 OneCoverAGate = (q : State) (steps : List Step) (replies : List Reply) (states : List State) → IsNumbered q → Run q steps replies states
     → (cover other : Cover) → MayRule q states cover → MayRule q states other → cover.ruled_by.gate ≡ other.ruled_by.gate → cover ≡ other
 
--- the record that a close writes last has a greater gate than all of them
+-- the record that closing writes last has a greater gate than all of them
 abbrev pub ClosesAbove : Type 0
 ClosesAbove = (q : State) (steps : List Step) (replies : List Reply) (states : List State) → IsNumbered q → Run q steps replies states
     → (cover : Cover) → MayRule q states cover → cover.ruled_by.gate < (closed (final q states)).ruled_by.gate
@@ -71,8 +71,8 @@ IsBefore q image = (is_formatted image ≡ false) ⊎ (((ruling image).gate < q.
 abbrev pub ComesFrom : Device → ℕ → State → Type 0
 ComesFrom device since q = (image : Image) → MightHaveLeft device since image → IsBefore q image
 
--- The room showed the state, and the steps led from there. What a crash left before, from that moment on, is of before the
--- state or stands for what it has covered
+-- The room showed the state, and the steps led from there. What a crash left before, from that moment on, is from before
+-- the state or stands for what it has covered
 pub record RunsSince {D : Type 0} {G : Ghosts D} (state : D → Device) (first last : Room D G) (since : ℕ) (steps : List Step) (replies : List Reply) (q : State) (states : List State) : Type 0 where
   pub shows : Shows state first q
   pub comes : ComesFrom (device_of state first) since q

@@ -60,7 +60,7 @@ pub fn journaled_images_stand<I: Images>(
     found.found_image_was_left();
 }
 
-/// So it does at an instant within a close, which left the device as `device`, and after that.
+/// So it does at an instant while the room is closed, which left the device as `device`, and after that.
 pub fn journaled_images_stand_at_a_close<I: Images>(
     first: &Room<JournaledPmem<I>>,
     last: &Room<JournaledPmem<I>>,
@@ -85,8 +85,8 @@ pub fn journaled_images_stand_at_a_close<I: Images>(
     device.found_image_was_left();
 }
 
-/// So does what is found at an instant within an opening, or within a format and the opening after it, when the device was as
-/// `found`: it is what a crash within these leaves, also where one of them fails. `later` is what the device had become then.
+/// So does what is found at an instant while the room is opened, or the device is formatted and then opened, when it was as
+/// `found`: it is what a crash meanwhile leaves, also if one of them fails. `later` is what the device had become then.
 pub fn journaled_images_stand_at_an_opening<I: Images>(
     unformatted: &JournaledPmem<I>,
     device: &JournaledPmem<I>,

@@ -16,15 +16,15 @@ ghost use Rattle.room.specs.Room.{Shows, StepsTo, device_of};
 use pmem::Pmem;
 use room::Room;
 
-/// Of all records that may rule along a run, two with one number are one, over the same commits. The record that a close
-/// writes last has a greater number than all of them.
+/// Of all records that may rule along a run, two with one number are one, over the same commits. The record that
+/// closing writes last has a greater number than all of them.
 pub fn each_gate_has_one_cover()
     ensures one { OneCoverAGate }
     ensures close { ClosesAbove }
 {}
 
-/// An image of an earlier moment, whose superblock and gates are such as a crash at this moment leaves, stands as what a
-/// crash at this moment leaves: between two steps for the state that the room shows, and within a step as that says.
+/// An image of an earlier moment, whose superblock and gates are such as a crash at this moment leaves, stands for the
+/// same as what a crash at this moment leaves: between two steps for the state that the room shows, and within a step as that says.
 pub fn found_images_stand<D: Pmem>(first: &Room<D>, next: &Room<D>, last: &Room<D>)
     ensures now { (since : ℕ) (steps : List Step) (replies : List Reply) (q : State) (states : List State) (image : Image)
         → RunsSince D.state first.now last.now since steps replies q states
@@ -53,7 +53,7 @@ pub fn found_images_stand_at_a_close<D: Pmem>(first: &Room<D>, last: &Room<D>, d
         → StandsClosed (final q states) image }
 {}
 
-/// What was left before the state that a room shows is of before it, or stands for what it has covered: since that very
+/// What was left before the state that a room shows is from before it, or stands for what it has covered: since that very
 /// moment, since the room's device was opened, or since that was formatted where it held nothing.
 pub fn rooms_come_from_their_openings<D: Pmem>(unformatted: &D, device: &D, room: &Room<D>)
     ensures shown { (q : State) → Shows D.state room.now q → ComesFrom (device_of D.state room.now) (device_of D.state room.now).clock q }

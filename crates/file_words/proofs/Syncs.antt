@@ -10,8 +10,8 @@ pub sync-found : (calls calls' : List Call) (ok : Bool) → calls' ≡ Syncing o
 sync-found calls calls' ok is word x held = after calls ok word x (subst (λ (c : List Call). HasAfter Anything Held c word x) is held)
 
 -- a word before the new end
-pub sized : (view : View) (calls calls' : List Call) (count : ℕ) → calls' ≡ Sizing count ∷ calls → (word x : ℕ) → word < count → HasAfter Anything view calls' word x → HasAfter Anything view calls word x
-sized view calls calls' count is word x lt held = elim (subst (λ (c : List Call). HasAfter Anything view c word x) is held) [
+pub sized : (view : View) (calls calls' : List Call) (count : ℕ) (ok : Bool) → calls' ≡ Sizing count ok ∷ calls → (word x : ℕ) → word < count → HasAfter Anything view calls' word x → HasAfter Anything view calls word x
+sized view calls calls' count ok is word x lt held = elim (subst (λ (c : List Call). HasAfter Anything view c word x) is held) [
   | inl behind ↦ absurd (omega (arith, behind, lt))
   | inr was ↦ was
 ]

@@ -4,11 +4,11 @@ use Rattle.std.proofs.Common.{inl, inr}
 use Rattle.byteorder.specs.Endian.{little_number}
 
 -- A call. Writing: from a word on, a number of words, which are the first of these bytes; whether it succeeded. Syncing: whether it
--- succeeded. Sizing: how many words the file is to have.
+-- succeeded. Sizing: how many words the file was to have; whether it succeeded.
 pub data Call : Type 0 where
   Writing : ℕ → ℕ → List ℕ → Bool → Call
   Syncing : Bool → Call
-  Sizing : ℕ → Call
+  Sizing : ℕ → Bool → Call
 
 -- a word as it was written last, or as it may be found once all has stopped
 pub data View : Type 0 where
@@ -38,7 +38,7 @@ HasAfter before Shown (Writing start count bytes false ∷ calls) word x = HasAf
 HasAfter before Held (Writing start count bytes ok ∷ calls) word x = HasAfter before Held calls word x ⊎ IsPut start count bytes word x
 HasAfter before view (Syncing true ∷ calls) word x = HasAfter before Shown calls word x
 HasAfter before view (Syncing false ∷ calls) word x = HasAfter before Held calls word x
-HasAfter before view (Sizing count ∷ calls) word x = (count ≤ word) ⊎ HasAfter before view calls word x
+HasAfter before view (Sizing count ok ∷ calls) word x = (count ≤ word) ⊎ HasAfter before view calls word x
 
 -- what was written last may be found. (A law of an impl may cite lemmas of specs/ alone.)
 pub shown_is_held : (before : ℕ → ℕ → Type 0) (calls : List Call) (word x : ℕ) → HasAfter before Shown calls word x → HasAfter before Held calls word x
@@ -49,5 +49,5 @@ shown_is_held before (Writing start count bytes false ∷ calls) word x (inl sho
 shown_is_held before (Writing start count bytes false ∷ calls) word x (inr put) = inr put
 shown_is_held before (Syncing true ∷ calls) word x shown = shown
 shown_is_held before (Syncing false ∷ calls) word x held = held
-shown_is_held before (Sizing count ∷ calls) word x (inl behind) = inl behind
-shown_is_held before (Sizing count ∷ calls) word x (inr shown) = inr (shown_is_held before calls word x shown)
+shown_is_held before (Sizing count ok ∷ calls) word x (inl behind) = inl behind
+shown_is_held before (Sizing count ok ∷ calls) word x (inr shown) = inr (shown_is_held before calls word x shown)

@@ -13,8 +13,8 @@ pub enum Account {
     Wrote(Snapshot<Account>, Snapshot<usize>, Snapshot<usize>, Snapshot<Vec<u8>>, Snapshot<bool>),
     /// Whether the sync succeeded.
     Synced(Snapshot<Account>, Snapshot<bool>),
-    /// How many words the file was to have.
-    Sized(Snapshot<Account>, Snapshot<usize>),
+    /// How many words the file was to have, and whether that succeeded.
+    Sized(Snapshot<Account>, Snapshot<usize>, Snapshot<bool>),
 }
 
 impl Account {
@@ -48,10 +48,10 @@ impl Account {
     }
 
     /// Adds a change of the length to this number of words.
-    pub(crate) fn note_size(&mut self, count: usize)
-        ensures { calls_of self.new ≡ Sizing count ∷ calls_of self.old }
+    pub(crate) fn note_size(&mut self, count: usize, is_ok: bool)
+        ensures { calls_of self.new ≡ Sizing count is_ok ∷ calls_of self.old }
     {
         let before = Snapshot::of(&*self);
-        *self = Account::Sized(before, Snapshot::of(&count));
+        *self = Account::Sized(before, Snapshot::of(&count), Snapshot::of(&is_ok));
     }
 }

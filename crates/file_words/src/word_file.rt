@@ -28,7 +28,7 @@ impl WordFile {
     ghost use Rattle.std.specs.Prelude.{◌≡◌, ◌⊎◌, ℕ, ◌+◌, ◌-◌, ◌*◌, ◌<◌, ◌≤◌, [], ◌∷◌, length, slice_index, is_ok, IfOk, OnOk};
     ghost use Rattle.journal.specs.Files.{IsInRun};
     ghost use Rattle.file_words.specs.Accounts.{Sizing, Syncing, Writing};
-    ghost use Rattle.file_words.specs.Calls.{account_of, calls_of, held_by, shown_by};
+    ghost use Rattle.file_words.specs.Calls.{IsCutTo, account_of, calls_of, held_by, shown_by};
 
     /// A file of which nothing is known.
     pub fn new(alloc: Global, file: File) -> io::Result<WordFile>
@@ -152,6 +152,7 @@ impl WordFile {
     pub fn cut(&mut self, words: usize) -> io::Result<()>
         ensures found { (word x : ℕ) → word < words → held_by (account_of self.new) word x → held_by (account_of self.old) word x }
         ensures synced { OnOk result ((word x : ℕ) → word < words → held_by (account_of self.new) word x → shown_by (account_of self.old) word x) }
+        ensures cut { OnOk result (IsCutTo words (account_of self.new)) }
     {
         self.resize(words)?;
         self.sync_all()
@@ -159,13 +160,13 @@ impl WordFile {
 
     // Gives it `words` words. It is trusted that `set_len` changes none of these that it has already.
     fn resize(&mut self, words: usize) -> io::Result<()>
-        ensures { calls_of self.new.account ≡ Sizing words ∷ calls_of self.old.account }
+        ensures { calls_of self.new.account ≡ Sizing words (is_ok result) ∷ calls_of self.old.account }
     {
         let done = match byte_of(words) {
             Ok(size) => self.file.set_len(size),
             Err(error) => Err(error),
         };
-        self.account.note_size(words);
+        self.account.note_size(words, done.is_ok());
         done
     }
 
@@ -176,6 +177,13 @@ impl WordFile {
         let done = self.file.sync_all();
         self.account.note_sync(done.is_ok());
         done
+    }
+
+    /// What was done to it.
+    pub fn into_account(self) -> Account
+        ensures { result ≡ account_of self }
+    {
+        self.account
     }
 
     /// Whether a name leads to the file.

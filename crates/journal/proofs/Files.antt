@@ -1,17 +1,18 @@
 -- What is found of a file, and what a run of words makes of it.
-use Rattle.std.proofs.Common.{Result, ◌≡◌, ◌≢◌, ◌⊎◌, inl, inr, ℕ, zero, suc, ◌+◌, ◌-◌, ◌/◌, ◌<◌, ◌≤◌, Bool, true, cond, ◌==◌, List, [], ◌++◌, length, drop, replicate, get_or, refl, sym, ◌∙◌, ap, subst, arith}
+use Rattle.std.proofs.Common.{Result, ◌≡◌, ◌≢◌, ◌⊎◌, inl, inr, ℕ, zero, suc, ◌+◌, ◌-◌, ◌/◌, ◌<◌, ◌≤◌, Bool, true, cond, ◌==◌, List, [], ◌++◌, length, drop, replicate, set, get_or, refl, sym, ◌∙◌, ap, subst, arith}
 use Rattle.std.specs.Prelude.{OnOk}
 use Rattle.std.proofs.Math.Logic.{∥∥₁_elim, ∥∥₁_prop}
 use Rattle.std.proofs.lemmas.Grind.{merely}
 use Rattle.std.proofs.lemmas.Bool.{cases_eq, cases_lt, eq-eqb, ne_eqb}
-use Rattle.std.proofs.lemmas.List.{length-take, length-drop, length-append, length-replicate, get_or-take, get_or-drop, get_or-replicate, get_or_append_left, get_or-append-add, ext_get_or}
+use Rattle.std.proofs.lemmas.List.{length-take, length-drop, length-append, length-replicate, length-set, get_or-take, get_or-drop, get_or-replicate, get_or-set_same, get_or-set_other, get_or_append_left, get_or-append-add, ext_get_or}
 use Rattle.journal.specs.declared.line.Line.{Line}
 use Rattle.journal.specs.Kept.{HoldsOnly, IsFound}
 use Rattle.journal.specs.Entries.{NoneOf}
 use Rattle.journal.specs.InPlace.{put_over}
 use Rattle.journal.specs.Opened.{lines_found}
 use Rattle.journal.specs.Files.{magic, pass_word, pass_of, tail_of, journal_in, is_on, lines_in, IsInRun, IsStoodFor, MayBe, Opens, FoundOpens, StandsAs}
-use Rattle.journal.specs.States.{Knows, IsInPlace, IsOff, IsClear, Rests}
+use Rattle.journal.specs.ReadBack.{IsReadBack, StandsStill, StandsAsBefore, Covers, JournalDecides}
+use Rattle.journal.specs.States.{Knows, KnowsJournal, IsInPlace, IsOff, IsClear, Rests}
 use Rattle.journal.specs.LinePayloads.{lines_of}
 use Rattle.journal.specs.Passes.{joined}
 use Rattle.journal.proofs.Several.{none_more}
@@ -74,7 +75,7 @@ opens-one words room file a b left right = ext_get_or 0 a b (left.size ∙ sym r
 pub found_word : (may_hold : ℕ → ℕ → Type 0) (count : ℕ) (file found : List ℕ) → HoldsOnly may_hold count file → IsFound may_hold count found → (word : ℕ) → word < count → get_or found word 0 ≡ get_or file word 0
 found_word may_hold count file found holds is word lt = holds word (get_or found word 0) lt (is.each word lt)
 
--- the image is in place, and nothing lies over it
+-- the image is in place, and no line is over it
 pub opens-off : (words room : ℕ) (file durable : List ℕ) → length durable ≡ words → ((word : ℕ) → word < words → get_or file word 0 ≡ get_or durable word 0) → lines_in words room file ≡ [] → Opens words room file durable
 opens-off words room file durable size place none = grind (arith)
 
@@ -95,7 +96,7 @@ file-stands may_hold words room file holds is_file image opens = found_opens may
     let same : found ≡ file = ext_get_or 0 found file (is.size ∙ sym is_file.size) (λ at lt. found_word may_hold (length file) file found holds (record { size = is.size ∙ sym is_file.size; each = λ word below. is.each word (omega (arith, below, is_file.size)) }) at (omega (arith, lt, is.size, is_file.size))) in
     subst (λ (f : List ℕ). Opens words room f image) (sym same) opens)
 
--- an image that all stands for is the one that the file stood for
+-- an image that all stands for is the one that the file stands for
 pub opened-stands : (may_hold : ℕ → ℕ → Type 0) (words room : ℕ) (file image : List ℕ) → Opens words room file image → FoundOpens may_hold words room image → StandsAs may_hold words room file
 opened-stands may_hold words room file image opens all is_file other is = subst (λ (l : List ℕ). FoundOpens may_hold words room l) (opens-one words room file image other opens is) all
 
@@ -112,24 +113,39 @@ pub found_beside : (old new : ℕ → ℕ → Type 0) (count start : ℕ) (news 
     → (word : ℕ) → word < count → (get_or found word 0 ≡ get_or file word 0) ⊎ IsInRun start news word (get_or found word 0)
 found_beside old new count start news file found holds puts is word lt = grind (arith)
 
-pub place-opens : (old new : ℕ → ℕ → Type 0) (words room : ℕ) (pass : Bool) (durable : List ℕ) → Knows old words room pass durable → Puts old new 0 durable → FoundOpens new words room durable
-place-opens old new words room pass durable known puts = found_opens new words room durable (λ found is.
-    let size : length durable ≡ words = known.opens.size in
-    let beside = found_beside old new (words + room + 8) 0 durable known.file found known.holds puts is in
-    let lines : lines_in words room found ≡ lines_in words room known.file = same_lines words room known.file found known.size is.size (λ at le lt. elim (beside at lt) [
-      | inl same ↦ same
+pub place-opens : (old new : ℕ → ℕ → Type 0) (words room : ℕ) (durable : List ℕ) → Covers old words room durable → Puts old new 0 durable → FoundOpens new words room durable
+place-opens old new words room durable covers puts = found_opens new words room durable (λ found is.
+    let file : List ℕ = covers.file in
+    let size : length durable ≡ words = covers.opens.size in
+    let lines : lines_in words room found ≡ lines_in words room file = same_lines words room file found covers.size is.size (λ at le lt. elim (puts at (get_or found at 0) (is.each at lt)) [
+      | inl held ↦ covers.behind at (get_or found at 0) le lt held
       | inr put ↦ absurd (omega (arith, put.1, le, size))
     ]) in
-    let stays : (word : ℕ) → word < words → get_or durable word 0 ≡ put_over (lines_in words room found) word (get_or found word 0) = λ word lt.
-    known.opens.each word lt
-    ∙ sym (in_place-keeps (lines_in words room known.file) word (get_or known.file word 0) (get_or found word 0) (elim (beside word (omega (arith, lt))) [
-      | inl same ↦ inl same
-      | inr put ↦ inr (put.2 ∙ along durable (word - 0) word (less_zero word) ∙ known.opens.each word lt)
-    ]))
-    ∙ ap (λ (l : List Line). put_over l word (get_or found word 0)) (sym lines) in
-    record { size = size; each = stays })
+    let stays : (word : ℕ) → word < words → put_over (lines_in words room file) word (get_or found word 0) ≡ put_over (lines_in words room file) word (get_or file word 0) = λ word lt.
+    elim (puts word (get_or found word 0) (is.each word (omega (arith, lt)))) [
+      | inl held ↦ covers.still word (get_or found word 0) lt held
+      | inr put ↦ in_place-keeps (lines_in words room file) word (get_or file word 0) (get_or found word 0) (inr (put.2 ∙ along durable (word - 0) word (less_zero word) ∙ covers.opens.each word lt))
+    ] in
+    record { size = size; each = λ word lt. covers.opens.each word lt ∙ sym (stays word lt) ∙ ap (λ (l : List Line). put_over l word (get_or found word 0)) (sym lines) })
 
-pub place-kept : (old new : ℕ → ℕ → Type 0) (words room : ℕ) (pass : Bool) (durable : List ℕ) → Knows old words room pass durable → Puts old new 0 durable → Keeps new 0 durable → IsInPlace new words room pass durable
+-- while nothing is put
+pub covers-opens : (may_hold : ℕ → ℕ → Type 0) (words room : ℕ) (durable : List ℕ) → Covers may_hold words room durable → FoundOpens may_hold words room durable
+covers-opens may_hold words room durable covers = place-opens may_hold may_hold words room durable covers (λ word x h. inl h)
+
+-- a file that is known has its journal known, and its words in place
+pub known-journal : (may_hold : ℕ → ℕ → Type 0) (words room : ℕ) (pass : Bool) (durable : List ℕ) → Knows may_hold words room pass durable → KnowsJournal may_hold words room pass durable
+known-journal may_hold words room pass durable known = record { file = known.file; size = known.size; behind = λ word x le lt h. known.holds word x lt h; opens = known.opens; pass_is = known.pass_is }
+
+pub known-covers : (may_hold : ℕ → ℕ → Type 0) (words room : ℕ) (pass : Bool) (durable : List ℕ) → Knows may_hold words room pass durable → Covers may_hold words room durable
+known-covers may_hold words room pass durable known = record {
+  file = known.file;
+  size = known.size;
+  behind = λ word x le lt h. known.holds word x lt h;
+  opens = known.opens;
+  still = λ word x lt h. ap (λ (v : ℕ). put_over (lines_in words room known.file) word v) (known.holds word x (omega (arith, lt)) h);
+}
+
+pub place-kept : (old new : ℕ → ℕ → Type 0) (words room : ℕ) (pass : Bool) (durable : List ℕ) → KnowsJournal old words room pass durable → Puts old new 0 durable → Keeps new 0 durable → IsInPlace new words room pass durable
 place-kept old new words room pass durable known puts keeps =
     let was : length durable ≡ words = known.opens.size in
     let file : List ℕ = durable ++ drop words known.file in
@@ -145,7 +161,7 @@ place-kept old new words room pass durable known puts keeps =
         holds = λ word x lt h. elim (cases_lt word words) [
           | inl below ↦ keeps word x (omega arith) (omega (arith, below, was)) h ∙ along durable (word - 0) word (less_zero word) ∙ sym (left word below)
           | inr above ↦ elim (puts word x h) [
-            | inl held ↦ known.holds word x lt held ∙ sym (right word above)
+            | inl held ↦ known.behind word x above lt held ∙ sym (right word above)
             | inr put ↦ absurd (omega (arith, put.1, above, was))
           ]
         ];
@@ -162,6 +178,55 @@ place-kept old new words room pass durable known puts keeps =
       };
       place = left;
     }
+
+-- ---- a file of which the journal is known
+
+read-covers : (may_hold : ℕ → ℕ → Type 0) (words room : ℕ) (file image : List ℕ) → length file ≡ words + room + 8 → IsReadBack may_hold words room file → StandsStill may_hold words room file
+    → Opens words room file image → Covers may_hold words room image
+read-covers may_hold words room file image size back still opens = record { file = file; size = size; behind = back; opens = opens; still = still }
+
+-- nothing is written to it
+pub read-stands : (may_hold : ℕ → ℕ → Type 0) (words room : ℕ) (file : List ℕ) → (length file ≡ words + room + 8 → IsReadBack may_hold words room file) → StandsAsBefore may_hold may_hold words room file
+read-stands may_hold words room file back still is_file image opens = covers-opens may_hold words room image (read-covers may_hold words room file image is_file.size (back is_file.size) still opens)
+
+-- it is brought to rest, or a write fails
+pub rewritten-stands : (old new : ℕ → ℕ → Type 0) (words room : ℕ) (file image : List ℕ) → length file ≡ words + room + 8 → (length file ≡ words + room + 8 → IsReadBack old words room file) → Opens words room file image
+    → (∥ Covers old words room image ∥₁ → FoundOpens new words room image) → StandsAsBefore old new words room file
+rewritten-stands old new words room file image size back opens each still =
+    opened-stands new words room file image opens (each (merely (read-covers old words room file image size (back size) still opens)))
+
+-- if nothing but what was read may be found of the whole file
+pub held-back : (may_hold : ℕ → ℕ → Type 0) (words room : ℕ) (file : List ℕ) → HoldsOnly may_hold (length file) file → length file ≡ words + room + 8 → IsReadBack may_hold words room file
+held-back may_hold words room file holds size word x le lt h = holds word x (omega (arith, lt, size)) h
+
+held-still : (may_hold : ℕ → ℕ → Type 0) (words room : ℕ) (file : List ℕ) → HoldsOnly may_hold (length file) file → length file ≡ words + room + 8 → StandsStill may_hold words room file
+held-still may_hold words room file holds size word x lt h = ap (λ (v : ℕ). put_over (lines_in words room file) word v) (holds word x (omega (arith, lt, size)) h)
+
+pub held-stands : (before now : ℕ → ℕ → Type 0) (words room : ℕ) (file : List ℕ) → HoldsOnly before (length file) file → StandsAsBefore before now words room file → StandsAs now words room file
+held-stands before now words room file holds stands is_file = stands (held-still before words room file holds is_file.size) is_file
+
+-- what was written back is the journal and the tail of a file of this length
+pub written-back : (may_hold : ℕ → ℕ → Type 0) (words room : ℕ) (file : List ℕ) → IsReadBack may_hold words (length file - words - 8) file → length file ≡ words + room + 8 → IsReadBack may_hold words room file
+written-back may_hold words room file back size word x le lt h = back word x le (omega (arith, lt, size)) h
+
+-- another word in place, which might be found too, changes nothing
+pub decided-stands_still : (before now : ℕ → ℕ → Type 0) (words room : ℕ) (file image : List ℕ) → JournalDecides before words room → IsFound before (words + room + 8) file → Opens words room file image
+    → ((word x : ℕ) → word < words → now word x → before word x) → StandsStill now words room file
+decided-stands_still before now words room file image decides found opens within word x lt held =
+    let other : List ℕ = set file word x in
+    let size : length other ≡ words + room + 8 = length-set file word x ∙ found.size in
+    let here : get_or other word 0 ≡ x = get_or-set_same file word x 0 (omega (arith, lt, found.size)) in
+    let beside : (at : ℕ) → at ≢ word → get_or other at 0 ≡ get_or file at 0 = λ at ne. grind (arith, get_or-set_other) in
+    let is : IsFound before (words + room + 8) other = record {
+      size = size;
+      each = λ at below. elim (cases_eq at word) [
+        | inl same ↦ subst (λ (n : ℕ). before n (get_or other n 0)) (sym same) (subst (λ (v : ℕ). before word v) (sym here) (within word x lt held))
+        | inr ne ↦ subst (λ (v : ℕ). before at v) (sym (beside at ne)) (found.each at below)
+      ];
+    } in
+    let behind : (at : ℕ) → words ≤ at → at < words + room + 8 → get_or other at 0 ≡ get_or file at 0 = λ at le below. beside at (λ e. omega (arith, e, le, lt)) in
+    let lines : lines_in words room other ≡ lines_in words room file = same_lines words room file other found.size size behind in
+    (λ i. put_over (sym lines i) word (sym here i)) ∙ sym ((decides file other image found is behind opens).each word lt) ∙ opens.each word lt
 
 -- ---- the journal counts no more
 

@@ -6,7 +6,7 @@ use Rattle.journal.specs.declared.line.Line.{Line}
 use Rattle.journal.specs.LinePayloads.{line_of, lines_of}
 use Rattle.journal.specs.InPlace.{put_over}
 
--- so many words of a line are put
+-- this many words of a line are put
 pub record IsPlacing (old now : List ℕ) (line : Line) (place : ℕ) : Type 0 where
   pub size : length now ≡ length old
   pub own : (word : ℕ) → word / 8 ≡ line.number → word % 8 < place → get_or now word 0 ≡ get_or line.words (word % 8) 0
@@ -22,7 +22,7 @@ over-more : (lines : List Line) (line : Line) (word v : ℕ) → put_over (lines
 over-more [] line word v = refl
 over-more (first ∷ lines) line word v = over-more lines line word _
 
--- so many lines are put over the image, one after the other
+-- these lines are put over the image, one after the other
 pub record ArePlaced (old now : List ℕ) (lines : List Line) : Type 0 where
   pub size : length now ≡ length old
   pub each : (word : ℕ) → word < length old → get_or now word 0 ≡ put_over lines word (get_or old word 0)

@@ -14,7 +14,7 @@ marks_read : (pass : Bool) (payloads : List ℕ) → payloads_of (marks pass pay
 marks_read pass [] = refl
 marks_read pass (payload ∷ payloads) = λ i. half pass payload i ∷ marks_read pass payloads i
 
--- a whole entry is read, and then what stands behind it
+-- a whole entry is read, and then what is behind it
 pub one_more : (pass : Bool) (most : ℕ) (payloads rest : List ℕ) → read_most pass (suc most) (entry pass payloads ++ rest) ≡ payloads ∷ read_most pass most rest
 one_more pass most payloads rest = grind (arith, length-map, take_at, drop_at, length-append, marks_are, marks_read)
 

@@ -29,7 +29,7 @@ journal_in words room file = take room (drop words file)
 abbrev pub is_on : ℕ → ℕ → List ℕ → Bool
 is_on words room file = slice_index file (words + room) == magic
 
--- the lines that lie over the image in place
+-- the lines that are over the image in place
 abbrev pub lines_in : ℕ → ℕ → List ℕ → List Line
 lines_in words room file = if is_on words room file then lines_found (pass_of (slice_index file (words + room + 3))) (journal_in words room file) else []
 
@@ -60,7 +60,7 @@ MayBe may_hold room durable image = (image ≡ durable) ⊎ IsStoodFor may_hold 
 abbrev pub StandsAmong : (ℕ → ℕ → Type 0) → (ℕ → ℕ → Type 0) → ℕ → List ℕ → Type 0
 StandsAmong before now room durable = (image : List ℕ) → IsStoodFor now (length durable) room image → MayBe before room durable image
 
--- a file of so many words has an image of so many, a journal of so much room, and a tail
+-- a file of `count` words has an image of `words`, a journal of `room`, and a tail
 pub record IsFile (words room count : ℕ) : Type 0 where
   pub whole : words % 8 ≡ 0
   pub fits : words + room + 8 < 2 ^ 58

@@ -10,7 +10,7 @@ use Rattle.journal.specs.declared.storage.Storage.{Ghosts}
 abbrev pub last_image : {S P : Type 0} → {H : Ghosts S P} → JournaledImages S P H → List ℕ
 last_image images = images.written.items
 
--- so many words the journal has
+-- how many words the journal has
 abbrev pub room_of : {S P : Type 0} → {H : Ghosts S P} → JournaledImages S P H → ℕ
 room_of images = images.room
 

@@ -12,11 +12,11 @@ abbrev pub is_put_at : List Line → ℕ → Bool
 is_put_at [] number = false
 is_put_at (line ∷ lines) number = (line.number == number) || is_put_at lines number
 
--- nothing but these values is found of the first so many words
+-- nothing but these values is found of the first `count` words
 abbrev pub HoldsOnly : (ℕ → ℕ → Type 0) → ℕ → List ℕ → Type 0
 HoldsOnly may_hold count words = (word x : ℕ) → word < count → may_hold word x → x ≡ slice_index words word
 
--- an image of so many words, each of which may be found with its value
+-- an image of `count` words, each of which may be found with its value
 pub record IsFound (may_hold : ℕ → ℕ → Type 0) (count : ℕ) (image : List ℕ) : Type 0 where
   pub size : length image ≡ count
   pub each : (word : ℕ) → word < count → may_hold word (slice_index image word)

@@ -8,6 +8,7 @@ pub mod Opened
 pub mod Reading
 pub mod Kept
 pub mod Files
+pub mod ReadBack
 pub mod States
 pub mod Changes
 pub mod Images

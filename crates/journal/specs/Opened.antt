@@ -19,7 +19,7 @@ abbrev pub all_lines : List (List Line) → List Line
 all_lines [] = []
 all_lines (lines ∷ entries) = lines ++ all_lines entries
 
--- a journal of these entries, and what stands behind it
+-- a journal of these entries, and what is behind it
 abbrev pub journal_of : Bool → List (List Line) → List ℕ → List ℕ
 journal_of pass entries behind = journal pass (map payloads_of_lines entries) ++ behind
 

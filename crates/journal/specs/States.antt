@@ -8,6 +8,15 @@ use Rattle.journal.specs.LinePayloads.{payloads_of_lines}
 use Rattle.journal.specs.Kept.{HoldsOnly}
 use Rattle.journal.specs.Opened.{all_lines, journal_of, AreLines}
 use Rattle.journal.specs.Files.{pass_word, tail_of, journal_in, is_on, Opens}
+use Rattle.journal.specs.ReadBack.{IsReadBack}
+
+-- one journal is known to be there, with a tail of this pass, and words in place with which it stands for this image
+pub record KnowsJournal (may_hold : ℕ → ℕ → Type 0) (words room : ℕ) (pass : Bool) (durable : List ℕ) : Type 0 where
+  pub file : List ℕ
+  pub size : length file ≡ words + room + 8
+  pub behind : IsReadBack may_hold words room file
+  pub opens : Opens words room file durable
+  pub pass_is : is_on words room file ≡ true → slice_index file (words + room + 3) ≡ pass_word pass
 
 -- one file is known to be there, and it stands for this image
 pub record Knows (may_hold : ℕ → ℕ → Type 0) (words room : ℕ) (pass : Bool) (durable : List ℕ) : Type 0 where
@@ -39,7 +48,7 @@ pub record IsFull (may_hold : ℕ → ℕ → Type 0) (words room : ℕ) (pass :
   pub on : is_on words room here.known.file ≡ true
   pub all : AllOf pass (journal_in words room here.known.file)
 
--- whole entries of this pass, so many words of them, and behind them no word of the pass
+-- whole entries of this pass, which take `position` words, and behind them no word of the pass
 pub record Rests (may_hold : ℕ → ℕ → Type 0) (words room : ℕ) (pass : Bool) (position : ℕ) (durable : List ℕ) : Type 0 where
   pub known : Knows may_hold words room pass durable
   pub on : is_on words room known.file ≡ true

@@ -13,10 +13,10 @@ use std::alloc::Global;
 use std::io;
 use std::io::ErrorKind;
 
-/// Writes these words in place of those that are durable, from which they differ in the lines of these numbers alone, as an entry
-/// at this position of the journal, and returns the position behind it. It is one write: a sync makes them durable. Where it has no
-/// room the image is put in place before, and it begins the next pass. At each instant, and where a write fails, the file stands for
-/// the durable words or for these, and once it is synced for these.
+/// Replaces the durable words by these, which differ from them in the lines of these numbers alone: writes an entry at this position
+/// of the journal, and returns the position behind it. It is one write: a sync makes them durable. If the entry has no room, the
+/// image is put in place before, and it begins the next pass. At each instant, and also if a write fails, the file stands for the
+/// durable words or for these, and once it is synced for these.
 pub(crate) fn begin_words<S: Storage>(
     alloc: Global,
     storage: &mut S,

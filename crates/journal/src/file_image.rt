@@ -11,9 +11,9 @@ use std::alloc::Global;
 use std::io;
 use std::io::ErrorKind;
 
-/// The image that a file stands for: its first words, and over them the lines of the journal's entries, where it counts. Fails
-/// with `InvalidInput` where a file of an image of so many words and a journal of so much room has another length, and with
-/// `InvalidData` where its pass is none.
+/// The image that a file stands for: its first words, and over them the lines of the journal's entries, if the journal counts.
+/// Fails with `InvalidInput` if a file with an image of `words` and a journal of `room` has another length, and with `InvalidData`
+/// if the tail names no pass.
 pub fn image_in(alloc: Global, file: &[u64], words: usize, room: usize) -> io::Result<Vec<u64>>
     ensures file { OnOk result (IsFile words room (length file.now)) }
     ensures pass { OnOk result (slice_index file.now (words + room + 3) < 2) }
@@ -67,7 +67,7 @@ fn is_tail(words: &[u64]) -> bool
 // As many words of an image, or of a journal, are in no memory.
 const TOO_MANY: usize = 1 << 58;
 
-// Whether a file of so many words has an image of so many, and a journal of so much room.
+// Whether a file of `count` words has an image of `words`, and a journal of `room`.
 fn is_file(words: usize, room: usize, count: usize) -> bool
     ensures { IsTrue result ↔ IsFile words room count }
 {
@@ -102,7 +102,7 @@ pub(crate) fn put_each(image: &mut Vec<u64>, lines: &[Line])
     }
 }
 
-// Puts the line over the image, where it lies within it.
+// Puts the line over the image, if it is within it.
 fn put_line(image: &mut Vec<u64>, line: &Line)
     requires { length image.old.items % 8 ≡ 0 }
     ensures size { length image.new.items ≡ length image.old.items }

@@ -3,9 +3,9 @@ ghost use Rattle.journal.specs.Changes.{DiffersIn};
 
 use std::io;
 
-/// Where images are kept, each as a whole.
+/// A place in which images are kept, each as a whole.
 pub trait Images {
-    /// A sync of the image that was begun, which is made where the images aren't at hand.
+    /// A sync of the image that was begun, which is made while the images aren't at hand.
     type Pending: Drop;
 
     /// This image may be found, once the process or the machine has stopped.
@@ -18,7 +18,7 @@ pub trait Images {
     ghost has_failed: { Self → Type 0 };
 
     /// Writes the image, which differs from the one that was written last in the lines of these numbers alone, and doesn't wait
-    /// until it persists. From then on, also where it fails, one that might be found before or this one may be found.
+    /// until it persists. From then on, also if it fails, one that might be found before or this one may be found.
     fn begin(&mut self, words: &Vec<u64>, lines: &[usize]) -> io::Result<()>
         requires differs { (image : List ℕ) → shows self.old image → DiffersIn lines.now words.now.items image }
         ensures whole { (image : List ℕ) → may_hold self.new image → may_hold self.old image ⊎ (image ≡ words.now.items) }

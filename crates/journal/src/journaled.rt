@@ -1,7 +1,7 @@
 ghost use Rattle.std.specs.Prelude.{◌≡◌, ℕ, List, ◌+◌, ◌%◌, ◌<◌, ◌^◌, true, false, None, length, is_some, IfErr, IfOk, IsSome, OnErr, OnOk};
 ghost use Rattle.std.proofs.Common.{inl};
-ghost use Rattle.journal.specs.Kept.{HoldsOnly};
-ghost use Rattle.journal.specs.Files.{Opens, StandsAs};
+ghost use Rattle.journal.specs.Files.{Opens};
+ghost use Rattle.journal.specs.ReadBack.{IsReadBack, StandsAsBefore};
 ghost use Rattle.journal.specs.States.{Rests};
 
 use crate::appending::begin_words;
@@ -15,7 +15,7 @@ use std::io;
 use std::io::ErrorKind;
 
 /// Images that are kept in a file: one in place, and behind it a journal, to which each further one appends the lines that
-/// changed. So a keep is one write, and one wait until it persists; where the journal is full, two waits more.
+/// changed. So a keep is one write, and one wait until it persists; if the journal is full, two waits more.
 #[derive(Drop)]
 pub struct JournaledImages<S: Storage> {
     alloc: Global,
@@ -24,7 +24,7 @@ pub struct JournaledImages<S: Storage> {
     // The image that was written last.
     written: Vec<u64>,
 
-    // So many words the journal has, and so far it is written.
+    // How many words the journal has, and how far it is written.
     room: usize,
     position: Position,
 
@@ -58,9 +58,11 @@ pub struct Unclosed<S> {
 impl<S: Storage> JournaledImages<S> {
     ghost use Rattle.journal.specs.Images.{IsClosedIn, MayFind, StandsForOne, failure_of, last_image, room_of, storage_of};
 
-    /// Opens a file that holds these words: so many of an image, a journal of so much room, and a tail. What it stands for is
-    /// the image that is kept, and it is brought to rest. Fails as [`image_in`] does, and where a
-    /// write fails: whichever it is, the file stands for that image.
+    /// Opens a file of which these words were read: an image of `words`, a journal of `room`, and a tail. The journal and the tail
+    /// have been written back and synced before, as by [`write_back`](crate::write_back); a word in place may still be found
+    /// otherwise. The image that the file stands for is put in place, and the file is brought to rest. Fails as [`image_in`]
+    /// does, and if a write fails. Then the file still stands for that image, if the journal's lines made the same of whatever might
+    /// be found in place before.
     pub fn open(
         alloc: Global,
         storage: S,
@@ -70,12 +72,12 @@ impl<S: Storage> JournaledImages<S> {
     ) -> Result<JournaledImages<S>, Unopened<S>>
     where
         S: Drop,
-        requires holds { HoldsOnly (S.may_hold storage) (length file.now) file.now }
+        requires back { length file.now ≡ words + room + 8 → IsReadBack (S.may_hold storage) words room file.now }
         ensures stands { IfOk result (λ images. Opens words room file.now (last_image images)) }
         ensures found { IfOk result (λ images. (image : List ℕ) → MayFind S.may_hold images image → image ≡ last_image images) }
         ensures room { IfOk result (λ images. room_of images ≡ room) }
         ensures works { IfOk result (λ images. failure_of images ≡ None) }
-        ensures unopened { IfErr result (λ unopened. StandsAs (S.may_hold unopened.storage) words room file.now) }
+        ensures unopened { IfErr result (λ unopened. StandsAsBefore (S.may_hold storage) (S.may_hold unopened.storage) words room file.now) }
     {
         let durable = match image_in(alloc, file, words, room) {
             Ok(durable) => durable,
@@ -115,15 +117,15 @@ impl<S: Storage> JournaledImages<S> {
         self.failure
     }
 
-    /// Hands out where it is kept, as it is: an opening reads it.
+    /// Hands out where it is kept, as it is: it is read when it is opened.
     pub fn release(self) -> S
         ensures { result ≡ storage_of self }
     {
         self.storage
     }
 
-    /// Brings the image in place, and hands out where it is kept: the file's first words alone are the image then. Fails where an
-    /// image isn't kept, and where a write fails: whichever it is, the file stands for an image that might have been found before.
+    /// Brings the image in place, and hands out where it is kept: the file's first words alone are the image then. Fails if an
+    /// image isn't kept, and if a write fails: in both cases the file stands for an image that might have been found before.
     pub fn close(self) -> Result<S, Unclosed<S>>
     where
         S: Drop,

@@ -1,17 +1,23 @@
+ghost use Rattle.std.specs.Prelude.{ℕ, ◌+◌, ◌<◌, List};
 ghost use Rattle.journal.specs.Entries.{TornIsNone};
+ghost use Rattle.journal.specs.Files.{Opens};
 ghost use Rattle.journal.specs.InPlace.{InPlaceKeeps, InPlaceIsAll};
+ghost use Rattle.journal.specs.Kept.{IsFound};
 ghost use Rattle.journal.specs.LinePayloads.{LinesReturn};
 ghost use Rattle.journal.specs.Opened.{FileStates};
 ghost use Rattle.journal.specs.Passes.{FillingIsNothing, NextIsEmpty};
 ghost use Rattle.journal.specs.Pointwise.{ByPlaces};
+ghost use Rattle.journal.specs.ReadBack.{JournalDecides, StandsStill};
 ghost use Rattle.journal.specs.Several.{AppendIsWhole, NoneIsNothing, ScrubIsNone};
 
-/// Of an entry that was being written, the reader answers it where all of its words are found, and else that there is none.
+use crate::storage::Storage;
+
+/// The reader returns an entry that was being written if all of its words are found, and none if not.
 pub fn torn_entries_are_seen()
     ensures { TornIsNone }
 {}
 
-/// While an entry is appended, the entries before it are found, and it too where all of its words are found.
+/// While an entry is appended, the entries before it are found, and it too if all of its words are found.
 pub fn appends_are_whole()
     ensures append { AppendIsWhole }
     ensures nothing { NoneIsNothing }
@@ -40,7 +46,7 @@ pub fn passes_follow()
     ensures next { NextIsEmpty }
 {}
 
-/// What is said of stretches word after word follows from what each place may hold.
+/// What is said about stretches, word after word, follows from what each place may hold.
 pub fn stretches_are_by_places()
     ensures { ByPlaces }
 {}
@@ -50,3 +56,24 @@ pub fn stretches_are_by_places()
 pub fn files_are_whole()
     ensures { FileStates }
 {}
+
+/// If the journal decides which image is found in a storage, the lines of a file's journal make the same of whatever might be found
+/// in place there. So they do in another storage, if each of its words in place might also be found in the first.
+pub fn decided_files_stand_still<B: Storage, S: Storage>(
+    before: &B,
+    now: &S,
+    file: &[u64],
+    words: usize,
+    room: usize,
+)
+    requires decides { JournalDecides (B.may_hold before.now) words room }
+    requires found { IsFound (B.may_hold before.now) (words + room + 8) file.now }
+    requires within { (word x : ℕ) → word < words → S.may_hold now.now word x → B.may_hold before.now word x }
+    ensures { (image : List ℕ) → Opens words room file.now image → StandsStill (S.may_hold now.now) words room file.now }
+{
+    let _ = before;
+    let _ = now;
+    let _ = file;
+    let _ = words;
+    let _ = room;
+}

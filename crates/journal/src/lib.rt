@@ -20,9 +20,10 @@ pub use images::{Images, Nowhere};
 pub use journal::read_journal;
 pub use journaled::{JournaledImages, Unclosed, Unopened};
 pub use law::{
-    appends_are_whole, files_are_whole, images_in_place_stay, lines_return, passes_follow,
-    scrubbed_entries_stay_torn, stretches_are_by_places, torn_entries_are_seen,
+    appends_are_whole, decided_files_stand_still, files_are_whole, images_in_place_stay,
+    lines_return, passes_follow, scrubbed_entries_stay_torn, stretches_are_by_places,
+    torn_entries_are_seen,
 };
 pub use line::{Line, entry_of, line_of};
 pub use rewriting::rewrite;
-pub use storage::Storage;
+pub use storage::{Storage, write_back};

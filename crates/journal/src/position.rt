@@ -1,4 +1,4 @@
-/// How far a journal is written: so many words of it are whole entries of this pass.
+/// How far a journal is written: its first `words` are whole entries of this pass.
 #[derive(Clone, Copy, Debug)]
 pub(crate) struct Position {
     pub(crate) pass: bool,

@@ -1,6 +1,7 @@
 ghost use Rattle.std.specs.Prelude.{◌≡◌, ◌⊎◌, ℕ, ◌+◌, ◌≤◌, ◌<◌, ◌^◌, true, not, length, OnOk};
 ghost use Rattle.journal.specs.Files.{tail_of, FoundOpens};
-ghost use Rattle.journal.specs.States.{Knows, IsInPlace, IsOff, IsClear, IsFull, Rests};
+ghost use Rattle.journal.specs.ReadBack.{Covers};
+ghost use Rattle.journal.specs.States.{Knows, KnowsJournal, IsInPlace, IsOff, IsClear, IsFull, Rests};
 
 use crate::entry::bit_of;
 use crate::position::Position;
@@ -11,9 +12,10 @@ use std::io;
 // The tail's first word while the journal counts: its letters, in a file, are WBL-JRN1 from the last to the first.
 pub(crate) const MAGIC: u64 = 0x5742_4C2D_4A52_4E31;
 
-/// Brings a file to rest, with its image in place and nothing in the journal, whatever its journal held. At each instant, and
-/// where a write fails, the file stands for this image. The journal has `room` words, and `pass` is the one that it counts in.
-/// Four writes, and a wait after each: the image in place; then the journal counts no more; it is cleared; it counts again.
+/// Brings a file to rest, with its image in place and nothing in the journal, whatever its journal held. The journal and the tail
+/// are known; a word in place may be found otherwise. If the lines of the journal make the image of it anyway, the file stands for
+/// this image at each instant, and also if a write fails. The journal has `room` words, and `pass` is the one that it counts in.
+/// Four writes, and a wait after each: the image in place; then the journal no longer counts; it is cleared; it counts again.
 pub fn rewrite<S: Storage>(
     alloc: Global,
     storage: &mut S,
@@ -22,18 +24,18 @@ pub fn rewrite<S: Storage>(
     pass: bool,
 ) -> io::Result<()>
     requires fits { length image.now + room + 8 < 2 ^ 63 }
-    requires known { ∥ Knows (S.may_hold storage.old) (length image.now) room pass image.now ∥₁ }
-    ensures opens { FoundOpens (S.may_hold storage.new) (length image.now) room image.now }
+    requires known { ∥ KnowsJournal (S.may_hold storage.old) (length image.now) room pass image.now ∥₁ }
+    ensures opens { ∥ Covers (S.may_hold storage.old) (length image.now) room image.now ∥₁ → FoundOpens (S.may_hold storage.new) (length image.now) room image.now }
     ensures rests { OnOk result (∥ Rests (S.may_hold storage.new) (length image.now) room true 0 image.now ∥₁) }
 {
-    settle(storage, image, room, pass)?;
+    put_in_place(storage, image, room, pass)?;
+    turn_off(storage, image, room, pass)?;
     clear(alloc, storage, image, room)?;
     turn_on(storage, image, room)
 }
 
-/// Brings the image in place, after which the journal counts no more: the file's first words are the image then, whatever
-/// stands behind them. At each instant, and where a write fails, the file stands for this image. Two writes, and a wait after
-/// each.
+/// Brings the image in place, after which the journal no longer counts: the file's first words are the image then, whatever is
+/// behind them. At each instant, and also if a write fails, the file stands for this image. Two writes, and a wait after each.
 pub(crate) fn settle<S: Storage>(
     storage: &mut S,
     image: &[u64],
@@ -49,15 +51,15 @@ pub(crate) fn settle<S: Storage>(
     turn_off(storage, image, room, pass)
 }
 
-// Puts the image in place.
+// Puts the image in place: then each word of it is known, whatever it was.
 fn put_in_place<S: Storage>(
     storage: &mut S,
     image: &[u64],
     room: usize,
     pass: bool,
 ) -> io::Result<()>
-    requires { ∥ Knows (S.may_hold storage.old) (length image.now) room pass image.now ∥₁ }
-    ensures opens { FoundOpens (S.may_hold storage.new) (length image.now) room image.now }
+    requires known { ∥ KnowsJournal (S.may_hold storage.old) (length image.now) room pass image.now ∥₁ }
+    ensures opens { ∥ Covers (S.may_hold storage.old) (length image.now) room image.now ∥₁ → FoundOpens (S.may_hold storage.new) (length image.now) room image.now }
     ensures done { OnOk result (∥ IsInPlace (S.may_hold storage.new) (length image.now) room pass image.now ∥₁) }
 {
     put(storage, 0, image)
@@ -99,7 +101,7 @@ fn turn_on<S: Storage>(storage: &mut S, image: &[u64], room: usize) -> io::Resul
 }
 
 /// Begins the next pass over the journal of a file at rest: its image is in place then, and nothing in the journal. At each instant,
-/// and where a write fails, the file stands for this image. Two waits: for the image in place, with the rest of the journal filled,
+/// and also if a write fails, the file stands for this image. Two waits: for the image in place, with the rest of the journal filled,
 /// and for the tail, which names the other pass.
 pub(crate) fn begin_pass<S: Storage>(
     alloc: Global,

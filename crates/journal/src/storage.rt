@@ -1,11 +1,12 @@
 ghost use Rattle.std.specs.Prelude.{◌≡◌, ◌⊎◌, ℕ, ◌+◌, ◌-◌, ◌<◌, ◌≤◌, length, slice_index, OnOk};
 ghost use Rattle.journal.specs.Files.{IsInRun};
+ghost use Rattle.journal.specs.ReadBack.{IsReadBack, IsReadWord};
 
 use std::io;
 
-/// Where words are kept, numbered from 0 on.
+/// A place in which words are kept, numbered from 0 on.
 pub trait Storage {
-    /// A sync of what was written, which is made where the storage isn't at hand.
+    /// A sync of what was written, which is made while the storage isn't at hand.
     type Pending: Drop;
 
     /// A word may be found with this value, once the process or the machine has stopped.
@@ -14,8 +15,8 @@ pub trait Storage {
     /// A word has this value by what was written last: it is found so, once a sync has succeeded.
     ghost shows: { Self → ℕ → ℕ → Type 0 };
 
-    /// Writes these words, the first as this one. From then on, also where it fails, each of them may be found as it was or as it
-    /// was to be, until a sync succeeds.
+    /// Writes these words, the first as this one. From then on, also if it fails, each of them may be found as it was or as it was
+    /// to be, until a sync succeeds.
     fn write(&mut self, start: usize, words: &[u64]) -> io::Result<()>
         ensures found { (word x : ℕ) → may_hold self.new word x → may_hold self.old word x ⊎ IsInRun start words.now word x }
         ensures others { (word x : ℕ) → shows self.new word x → shows self.old word x ⊎ IsInRun start words.now word x }
@@ -43,7 +44,7 @@ pub trait Storage {
     ghost shown_is_found: { (storage : Self) (word x : ℕ) → shows storage word x → may_hold storage word x };
 }
 
-/// Writes these words, and waits until they persist. Meanwhile, and where it fails, each of them may be found as it was or as it
+/// Writes these words, and waits until they persist. Meanwhile, and also if it fails, each of them may be found as it was or as it
 /// was to be; once it succeeded, as it was to be, and each other word as it was written last.
 pub(crate) fn put<S: Storage>(storage: &mut S, start: usize, words: &[u64]) -> io::Result<()>
     ensures puts { (word x : ℕ) → S.may_hold storage.new word x → S.may_hold storage.old word x ⊎ IsInRun start words.now word x }
@@ -52,4 +53,15 @@ pub(crate) fn put<S: Storage>(storage: &mut S, start: usize, words: &[u64]) -> i
 {
     storage.write(start, words)?;
     storage.sync()
+}
+
+/// Writes back a file's journal and tail as they were read, behind an image of `words`, and waits until they persist: then nothing
+/// else is found of them. A sync alone isn't enough: after one that failed, the system takes for written what no disk has.
+/// Meanwhile, and also if it fails, each of these words may be found as before or as it was read.
+pub fn write_back<S: Storage>(storage: &mut S, words: usize, file: &[u64]) -> io::Result<()>
+    requires within { words + 8 ≤ length file.now }
+    ensures puts { (word x : ℕ) → S.may_hold storage.new word x → S.may_hold storage.old word x ⊎ IsReadWord words file.now word x }
+    ensures back { OnOk result (IsReadBack (S.may_hold storage.new) words (length file.now - words - 8) file.now) }
+{
+    put(storage, words, &file[words..])
 }

@@ -177,7 +177,7 @@ fn close<R: Wait + Drop>(
 ) -> Result<bool, Failure> {
     let reason = match database.close() {
         Ok(device) => match device.close() {
-            Ok(()) => return Ok(answered?.was_refused),
+            Ok(_) => return Ok(answered?.was_refused),
             Err(error) if error.kind() == io::ErrorKind::NotFound => return Err(Failure::Unlinked),
             Err(error) => Reason::Io(error),
         },

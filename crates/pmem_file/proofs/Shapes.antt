@@ -83,7 +83,7 @@ growing asked a words image shape fits size length_is place none is places_are =
     (opens-off shape.words shape.room words image length_is place (lines-off shape.words shape.room words (λ e. zero-magic (sym none ∙ e))))
     is places_are
 
--- ---- where nothing was ever kept
+-- ---- nothing was ever kept
 
 pub blank : (a : Layout) (image : List ℕ) (start : ℕ) → length image ≡ total_words a → get_or image 0 0 ≡ 0 → start ≡ slot_start a 0
     → ((word : ℕ) → word < length (take (length image - start) (drop start image)) → get_or (take (length image - start) (drop start image)) word 0 ≡ 0) → IsBlank a image

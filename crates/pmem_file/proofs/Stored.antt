@@ -5,7 +5,7 @@ use Rattle.journal.specs.Files.{IsInRun}
 use Rattle.pmem_file.specs.declared.part.Part.{Part}
 use Rattle.pmem_file.specs.declared.part.Part.TheVariants.{All as AllWords, Words}
 
--- so many of the words are put, as far as the part has them
+-- the words before this place are put, as far as the part has them
 pub record IsStoring (part : Part) (old now words : List ℕ) (start place : ℕ) : Type 0 where
   pub size : length now ≡ length old
   pub puts : (word : ℕ) → IsInRun start words word (get_or now word 0) ⊎ (get_or now word 0 ≡ get_or old word 0)

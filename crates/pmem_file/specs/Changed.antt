@@ -5,7 +5,7 @@ use Rattle.pmem_file.specs.Journaled.{is_gate_line}
 use Rattle.pmem_file.specs.declared.changed.Mark.{Mark}
 use Rattle.pmem_file.specs.declared.changed.Mark.TheVariants.{Unchanged, Plain, Gates}
 
--- the lines that are listed, each below a number, of a device with so many places for records
+-- the lines that are listed, each below a number, of a device with this number of places for records
 pub record Changes : Type 0 where
   pub lines : List ℕ
   pub count : ℕ

@@ -39,6 +39,14 @@ MayFind may_hold device image = may_hold device.images image
 abbrev pub failure_of : {S P Q : Type 0} → {G : StorageGhosts S P} → {H : Ghosts (JournaledImages S P G) Q} → JournaledPmem (JournaledImages S P G) Q H → Option Error
 failure_of device = journal.failure_of device.images
 
+-- the image that was written last
+abbrev pub last_image : {S P Q : Type 0} → {G : StorageGhosts S P} → {H : Ghosts (JournaledImages S P G) Q} → JournaledPmem (JournaledImages S P G) Q H → List ℕ
+last_image device = journal.last_image device.images
+
+-- the image may be found, once all has stopped, if this is what is found of the words
+abbrev pub MayFindIn : {S P Q : Type 0} → {G : StorageGhosts S P} → {H : Ghosts (JournaledImages S P G) Q} → (S → ℕ → ℕ → Type 0) → JournaledPmem (JournaledImages S P G) Q H → List ℕ → Type 0
+MayFindIn may_hold device image = journal.MayFind may_hold device.images image
+
 -- where they are kept
 abbrev pub storage_of : {S P Q : Type 0} → {G : StorageGhosts S P} → {H : Ghosts (JournaledImages S P G) Q} → JournaledPmem (JournaledImages S P G) Q H → S
 storage_of device = journal.storage_of device.images

@@ -16,11 +16,11 @@ pub record IsBlank (a : Layout) (words : List ℕ) : Type 0 where
   pub first : slice_index words 0 ≡ 0
   pub slots : (word : ℕ) → slot_start a 0 ≤ word → word < total_words a → slice_index words word ≡ 0
 
--- the words are an image of this layout; where nothing was ever kept in them, of the one that is asked for, if one is
+-- the words are an image of this layout; if nothing was ever kept in them, of the one that is asked for, if one is
 abbrev pub IsImageOf : Option Layout → Layout → List ℕ → Type 0
 IsImageOf asked a words = IsLaidOut a words ⊎ ((asked ≡ Some a) × IsBlank a words)
 
--- the words are such an image, and so many places for records are those of its layout
+-- the words are such an image, and this number of places for records is that of its layout
 pub record HasItsPlaces (asked : Option Layout) (words : List ℕ) (places : ℕ) : Type 0 where
   pub layout : Layout
   pub image : IsImageOf asked layout words
@@ -42,12 +42,12 @@ pub record HasShape (asked : Option Layout) (words : List ℕ) (shape : Shape) :
   pub opens : Opens shape.words shape.room (padded shape words) image
   pub has_places : HasItsPlaces asked image shape.places
 
--- how many words a journal has room for at least: for an entry of all lines of an image of so many, in whole lines
+-- how many words a journal has room for at least: for an entry of all lines of an image of `words`, in whole lines
 abbrev pub least_room : ℕ → ℕ
 least_room words = (9 * (words / 8) + 23) / 8 * 8
 
--- each of these words is 0, or the one that the first tail of a file has there, behind an image of so many words and a journal of so
--- much room; its first is 0, so it doesn't count yet
+-- each of these words is 0, or the one that the first tail of a file has there, behind an image of `size` words and a journal of
+-- `room`; its first is 0, so it doesn't count yet
 pub record IsFirstTail (size room : ℕ) (tail : List ℕ) : Type 0 where
   pub first : slice_index tail 0 ≡ 0
   pub names : (word : ℕ) → word < length tail → (slice_index tail word ≡ 0) ⊎ (slice_index tail word ≡ slice_index (tail_of 0 size room true) word)
@@ -96,7 +96,7 @@ pub record IsGrowing (asked : Option Layout) (words : List ℕ) : Type 0 where
   pub named : IsTrue (is_in_limits (layout_of words)) → layout_of words ≡ layout
   pub behind : IsNothingBehind (total_words layout) room (drop (total_words layout) words)
 
--- behind an image of so many words, which the superblock in place names, a journal was being made
+-- behind an image of `size` words, which the superblock in place names, a journal was being made
 pub record IsGrown (size : ℕ) (words : List ℕ) : Type 0 where
   pub some : 5 ≤ length words
   pub limits : IsTrue (is_in_limits (layout_of words))
@@ -106,7 +106,7 @@ pub record IsGrown (size : ℕ) (words : List ℕ) : Type 0 where
   pub whole_is : length words ≡ size + room + 8
   pub behind : IsNothingBehind size room (drop size words)
 
--- one of these, or an image alone, as a close leaves it
+-- one of these, or an image alone, as closing leaves it
 abbrev pub IsOurs : Option Layout → List ℕ → Type 0
 IsOurs asked words = ((layout : Layout) × IsImageOf asked layout words) ⊎ (IsJournaled asked words ⊎ IsGrowing asked words)
 

@@ -1,8 +1,11 @@
-ghost use Rattle.std.specs.Prelude.{◌≡◌, ◌≤◌, ◌<◌, ◌^◌, length, None, Some, IfOk};
+ghost use Rattle.std.specs.Prelude.{◌≡◌, ℕ, ◌≤◌, ◌<◌, ◌^◌, List, length, None, Some, IfOk};
 ghost use Rattle.journal.specs.Files.{Opens};
 ghost use Rattle.pmem.specs.Device.{restarted};
 ghost use Rattle.pmem.specs.Words.{IsAtRest, image_of};
-ghost use Rattle.pmem_file.specs.Devices.{failure_of, places_of, state_of};
+ghost use Rattle.pmem_file.specs.Devices.{MayFindIn, failure_of, last_image, places_of, state_of};
+ghost use Rattle.file_words.specs.Calls.{IsCutTo, held_by};
+ghost use Rattle.journal.specs.Kept.{HoldsOnly};
+ghost use Rattle.pmem_file.specs.Files.{held_in};
 ghost use Rattle.pmem_file.specs.Shapes.{HasItsPlaces, padded, whole};
 
 use crate::journaled::JournaledPmem;
@@ -12,8 +15,8 @@ use crate::opening::{
 use crate::shape::{Found, Shape};
 use crate::storage::FileStorage;
 use base::geometry::Geometry;
-use journal::{JournaledImages, Storage};
-use pmem::Pmem;
+use file_words::Account;
+use journal::{JournaledImages, write_back};
 use std::alloc::Global;
 use std::fs::File;
 use std::io;
@@ -23,11 +26,11 @@ use std::rt::Files;
 pub type FileDevice = JournaledPmem<JournaledImages<FileStorage>>;
 
 impl JournaledPmem<JournaledImages<FileStorage>> {
-    /// Opens the file and locks it against other processes; where it is empty or missing it gets the words of a new image of
-    /// this geometry, all 0. An image of any geometry is opened, and so is one of this geometry whose format was cut short:
-    /// its word 0 is 0 then, as that of a new one. It gets a journal behind it, where none is there; one that is there is
-    /// read, whatever stopped who wrote it. To any other file nothing is written. What the file holds is written back and
-    /// synced before it is taken for persistent: a process that was killed may have left words that no disk has yet.
+    /// Opens the file and locks it against other processes. If it is empty or missing, it gets the words of a new image of this
+    /// geometry, all 0. An image of any geometry is opened, and so is one of this geometry whose format was cut short: its word 0
+    /// is 0 then, as that of a new one. It gets a journal behind it, if there is none; one that is there is read, whatever
+    /// stopped the program that wrote it. To any other file nothing is written. Of a file of which nothing is known no other image
+    /// may be found then: its journal and tail are written back and synced first, and the image after them.
     pub fn open<R: Files<File = File>>(
         rt: &R,
         alloc: Global,
@@ -37,13 +40,14 @@ impl JournaledPmem<JournaledImages<FileStorage>> {
         ensures rest { IfOk result (λ device. IsAtRest (state_of device)) }
         ensures device { IfOk result (λ device. state_of device ≡ restarted (image_of (state_of device))) }
         ensures works { IfOk result (λ device. failure_of device ≡ None) }
+        ensures found { IfOk result (λ device. (image : List ℕ) → MayFindIn held_in device image → image ≡ image_of (state_of device)) }
         ensures layout { IfOk result (λ device. HasItsPlaces (Some geometry) (image_of (state_of device)) (places_of device)) }
     {
         open_as(rt, alloc, name, Some(geometry))
     }
 
     /// Opens the file as [`FileDevice::open`] does, if an image is in it, of whatever geometry. No file is made: a missing or
-    /// an empty one is `Missing`. One whose format was cut short is refused as any that is no image.
+    /// an empty one is `Missing`. One whose format was cut short is refused, as any that isn't an image.
     pub fn open_existing<R: Files<File = File>>(
         rt: &R,
         alloc: Global,
@@ -52,16 +56,20 @@ impl JournaledPmem<JournaledImages<FileStorage>> {
         ensures rest { IfOk result (λ device. IsAtRest (state_of device)) }
         ensures device { IfOk result (λ device. state_of device ≡ restarted (image_of (state_of device))) }
         ensures works { IfOk result (λ device. failure_of device ≡ None) }
+        ensures found { IfOk result (λ device. (image : List ℕ) → MayFindIn held_in device image → image ≡ image_of (state_of device)) }
         ensures layout { IfOk result (λ device. HasItsPlaces None (image_of (state_of device)) (places_of device)) }
     {
         open_as(rt, alloc, name, None)
     }
 
-    /// Closes the file: it holds the image alone, without a journal. Fails where an image wasn't kept, and where a write
-    /// fails; the next opening reads the journal then. Fails with `NotFound` where no name names the file any more: then what it
-    /// holds is gone.
-    pub fn close(self) -> io::Result<()> {
-        let words = self.words();
+    /// Closes the file: it holds the image alone, without a journal. Returns what was done to it. Fails if an image wasn't kept,
+    /// and if a write fails; the journal is read then when it is opened again. Fails with `NotFound` if no name leads to the file
+    /// any more: then what it holds is gone.
+    pub fn close(self) -> io::Result<Account>
+        ensures left { IfOk result (λ account. HoldsOnly (held_by account) (length (last_image self)) (last_image self)) }
+        ensures cut { IfOk result (IsCutTo (length (last_image self))) }
+    {
+        let words = self.image().len();
         match self.into_storage() {
             Ok(storage) => storage.close(words),
             Err(unclosed) => Err(unclosed.error),
@@ -69,7 +77,7 @@ impl JournaledPmem<JournaledImages<FileStorage>> {
     }
 }
 
-// Opens the file. Where it is empty or missing it gets the words of a new image of the geometry that is asked for, if one is.
+// Opens the file. If it is empty or missing, it gets the words of a new image of the geometry that is asked for, if one is.
 #[tactic(auto, using(crate::proofs::Shapes::begun))]
 fn open_as<R: Files<File = File>>(
     rt: &R,
@@ -80,6 +88,7 @@ fn open_as<R: Files<File = File>>(
     ensures rest { IfOk result (λ device. IsAtRest (state_of device)) }
     ensures device { IfOk result (λ device. state_of device ≡ restarted (image_of (state_of device))) }
     ensures works { IfOk result (λ device. failure_of device ≡ None) }
+    ensures found { IfOk result (λ device. (image : List ℕ) → MayFindIn held_in device image → image ≡ image_of (state_of device)) }
     ensures layout { IfOk result (λ device. HasItsPlaces asked (image_of (state_of device)) (places_of device)) }
 {
     let held = hold_standard_streams(rt, alloc)?;
@@ -110,11 +119,12 @@ fn open_found(
     ensures rest { IfOk result (λ device. IsAtRest (state_of device)) }
     ensures device { IfOk result (λ device. state_of device ≡ restarted (image_of (state_of device))) }
     ensures works { IfOk result (λ device. failure_of device ≡ None) }
+    ensures found { IfOk result (λ device. (image : List ℕ) → MayFindIn held_in device image → image ≡ image_of (state_of device)) }
     ensures stands { IfOk result (λ device. Opens shape.words shape.room (padded shape found.words.items) (image_of (state_of device))) }
     ensures places { IfOk result (λ device. places_of device ≡ shape.places) }
 {
     let mut storage = FileStorage::new(alloc, file, held)?;
-    storage.grow(found.count(), shape.whole())?;
+    storage.grow(alloc, found.count(), shape.whole())?;
     let words = found.into_words(shape)?;
     write_back(&mut storage, shape.words, words.as_slice())?;
     let opened = JournaledPmem::over(
@@ -129,14 +139,4 @@ fn open_found(
         Ok(device) => Ok(device),
         Err(unopened) => Err(unopened.error),
     }
-}
-
-// Writes back the journal and the tail as they were read, behind so many words of an image, and waits until they persist: what
-// is known of them is then what was read. A sync alone isn't enough, since after one that failed the system takes for written
-// what no disk has.
-fn write_back(storage: &mut FileStorage, words: usize, file: &[u64]) -> io::Result<()>
-    requires { words ≤ length file.now }
-{
-    storage.write(words, &file[words..])?;
-    storage.sync()
 }

@@ -6,7 +6,7 @@ ghost use Rattle.pmem_file.specs.Journaled.{is_gate, is_gate_line};
 pub(crate) fn is_gate(places: usize, word: usize) -> bool
     ensures { result ≡ is_gate places word }
 {
-    // Most words lie behind all places.
+    // Most words are behind all places.
     if word / 32 > places {
         return false;
     }

@@ -69,7 +69,7 @@ impl<I: Images> JournaledPmem<I> {
     ghost use Rattle.pmem_file.specs.Devices.{MayFind, images_of, kept_at, places_of, state_of};
 
     /// A device at rest with these words, as the image that is kept there has them, and with this number of places for records.
-    /// Where memory is refused, the images are returned.
+    /// If memory is refused, the images are returned.
     pub fn new(
         alloc: Global,
         words: Vec<u64>,
@@ -133,8 +133,8 @@ impl<I: Images> JournaledPmem<I> {
         Fault::Device
     }
 
-    // A store that may be the first to its line since an image was written, or of a gate. Whether there was memory for it: a
-    // result would want a place in memory at each store.
+    // A store that may be the first to its line since an image was written, or of a gate. Returns whether there was memory for it:
+    // a result would need a place in memory at each store.
     #[cold]
     #[inline(never)]
     fn store_first(&mut self, word: usize, value: u64) -> bool
@@ -194,8 +194,7 @@ impl<I: Images> JournaledPmem<I> {
         }
     }
 
-    // A fence beside which a gate may be stored. Whether it succeeds: a result would want a place in memory at each operation
-    // beside it.
+    // A fence at which a gate may be stored. Returns whether it succeeds: a result would need a place in memory at each operation.
     #[cold]
     #[inline(never)]
     fn is_fenced(&mut self, actor: u8) -> bool
@@ -272,14 +271,16 @@ impl<I: Images> JournaledPmem<I> {
 }
 
 impl<S: Storage> JournaledPmem<JournaledImages<S>> {
-    ghost use Rattle.journal.specs.Files.{Opens, StandsAs};
+    ghost use Rattle.std.specs.Prelude.{◌+◌};
+    ghost use Rattle.journal.specs.Files.{Opens};
+    ghost use Rattle.journal.specs.ReadBack.{IsReadBack, StandsAsBefore};
     ghost use Rattle.pmem.specs.Device.{restarted};
     ghost use Rattle.pmem.specs.Words.{IsAtRest, image_of};
-    ghost use Rattle.pmem_file.specs.Devices.{IsClosedIn, StandsForOne, failure_of, places_of, state_of, storage_of};
+    ghost use Rattle.pmem_file.specs.Devices.{IsClosedIn, MayFindIn, StandsForOne, failure_of, last_image, places_of, state_of, storage_of};
 
-    /// A device at rest with the image that a file of these words stands for: so many of an image, a journal of so much room,
-    /// and a tail. It has this number of places for records. Fails as [`JournaledImages::open`] does, and the file stands for
-    /// that image then too.
+    /// A device at rest with the image that a file of these words stands for: an image of `words`, a journal of `room`, and a tail.
+    /// The journal and the tail have been written back and synced before. It has this number of places for records. Fails as
+    /// [`JournaledImages::open`] does, and leaves then what that leaves.
     pub fn over(
         alloc: Global,
         storage: S,
@@ -290,13 +291,14 @@ impl<S: Storage> JournaledPmem<JournaledImages<S>> {
     ) -> Result<Self, Unopened<S>>
     where
         S: Drop,
-        requires holds { HoldsOnly (S.may_hold storage) (length file.now) file.now }
+        requires back { length file.now ≡ words + room + 8 → IsReadBack (S.may_hold storage) words room file.now }
         ensures rest { IfOk result (λ device. IsAtRest (state_of device)) }
         ensures device { IfOk result (λ device. state_of device ≡ restarted (image_of (state_of device))) }
         ensures stands { IfOk result (λ device. Opens words room file.now (image_of (state_of device))) }
         ensures places { IfOk result (λ device. places_of device ≡ places) }
         ensures works { IfOk result (λ device. failure_of device ≡ None) }
-        ensures unopened { IfErr result (λ unopened. StandsAs (S.may_hold unopened.storage) words room file.now) }
+        ensures found { IfOk result (λ device. (image : List ℕ) → MayFindIn S.may_hold device image → image ≡ image_of (state_of device)) }
+        ensures unopened { IfErr result (λ unopened. StandsAsBefore (S.may_hold storage) (S.may_hold unopened.storage) words room file.now) }
     {
         let images = JournaledImages::open(alloc, storage, file, words, room)?;
         let Ok(image) = Vec::from_slice(alloc, images.image()) else {
@@ -308,6 +310,13 @@ impl<S: Storage> JournaledPmem<JournaledImages<S>> {
         }
     }
 
+    /// The image that was written last.
+    pub fn image(&self) -> &[u64]
+        ensures { result.now ≡ last_image self.now }
+    {
+        self.images.image()
+    }
+
     /// Why an image wasn't kept, if one wasn't. No fence succeeds since then.
     pub fn failure(&self) -> Option<io::Error>
         ensures { result ≡ failure_of self.now }
@@ -315,7 +324,7 @@ impl<S: Storage> JournaledPmem<JournaledImages<S>> {
         self.images.failure()
     }
 
-    /// Where its image is kept, as it is: what was stored since the last fence of a gate isn't there.
+    /// Returns its image's storage, as it is: what was stored since the last fence of a gate isn't there.
     pub fn release(self) -> S
         ensures { result ≡ storage_of self }
     {
@@ -385,7 +394,7 @@ impl<I: Images> Pmem for JournaledPmem<I> {
         self.words[word]
     }
 
-    // It fails only where there is no memory. Most stores are to a line that was stored to before, and holds no gate.
+    // It fails only if there is no memory. Most stores are to a line that was stored to before, and holds no gate.
     fn store(&mut self, word: usize, value: u64) -> Result<(), Fault> {
         if self.changed.has_plain(word / 8) {
             self.words[word] = value;
@@ -399,7 +408,7 @@ impl<I: Images> Pmem for JournaledPmem<I> {
         }
     }
 
-    // It fails only where there is no memory.
+    // It fails only if there is no memory.
     fn flush(&mut self, actor: Actor, line: usize) -> Result<(), Fault> {
         let actor = actor.number;
         match self.flushed.push(Flushed { actor, line }) {
@@ -433,7 +442,7 @@ impl<I: Images> Pmem for JournaledPmem<I> {
 impl<I: Images> SyncAhead for JournaledPmem<I> {
     type Pending = I::Pending;
 
-    // Where the fence would make a gate durable the image is written here. Where that fails, so does the fence.
+    // If the fence would make a gate durable, the image is written here. If that fails, so does the fence.
     fn begin_sync(&mut self, actor: Actor) -> Option<I::Pending> {
         if self.failed || !self.is_gate_unwritten || !self.makes_a_gate_durable(actor.number) {
             return None;

@@ -35,8 +35,8 @@ impl MemoryStorage {
         }
     }
 
-    /// The same, with so many writes and syncs until each further one fails. Of each eight words of a write that fails this part is
-    /// written.
+    /// The same, but after this number of writes and syncs each further one fails. Of each eight words of a write that fails this part
+    /// is written.
     pub fn failing_after(self, calls: usize, torn: Part) -> MemoryStorage
         ensures words { stored_in result ≡ stored_in self }
         ensures calls { calls_left_in result ≡ Some calls }
@@ -150,7 +150,7 @@ impl Storage for MemoryStorage {
     }
 }
 
-// Writes this part of each eight of the words, the first one here. `None` where one lies outside, and then nothing is written.
+// Writes this part of each eight of the words, the first one here. `None` if one is outside, and then nothing is written.
 fn write_words(into: &mut Vec<u64>, start: usize, words: &[u64], part: Part) -> Option<()>
     ensures puts { (word : ℕ) → IsInRun start words.now word (slice_index into.new.items word) ⊎ (slice_index into.new.items word ≡ slice_index into.old.items word) }
     ensures whole { OnSome result (part ≡ AllWords → (word : ℕ) → start ≤ word → word < start + length words.now → slice_index into.new.items word ≡ slice_index words.now (word - start)) }

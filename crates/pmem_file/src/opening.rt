@@ -57,7 +57,7 @@ fn is_standard(file: &File) -> bool {
     file.as_raw_fd() <= 2
 }
 
-// Opens the file and locks it. Where it is missing, it is made if it may be. Whether it was made.
+// Opens the file and locks it. If it is missing, it is made if it may be. Returns whether it was made, too.
 pub(crate) fn open_alone<R: Files<File = File>>(
     rt: &R,
     name: &str,
@@ -105,8 +105,8 @@ fn lock(file: &File) -> Result<(), OpenError> {
     }
 }
 
-// Syncs the folder of a new file. Where that fails, one that was made here is taken away again: it might not be found any more,
-// and while its folder may not be read it would meet the same for ever.
+// Syncs the folder of a new file. If that fails, one that was made here is removed again: it might not be found any more, and as long
+// as its folder may not be read, opening it would fail for the same reason.
 pub(crate) fn sync_new_folder<R: Files<File = File>>(
     rt: &R,
     alloc: Global,
@@ -121,7 +121,7 @@ pub(crate) fn sync_new_folder<R: Files<File = File>>(
     synced
 }
 
-// A new name persists once its folder is synced: the one that the file lies in, wherever links lead.
+// A new name persists once its folder is synced: the one that has the file, wherever links lead.
 fn sync_folder<R: Files<File = File>>(rt: &R, alloc: Global, name: &str) -> io::Result<()> {
     let mut folder = rt.canonicalize(alloc, name)?;
     folder.pop();

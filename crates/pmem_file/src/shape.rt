@@ -26,11 +26,11 @@ const MOST_BYTES: u64 = 17_860_992;
 // A journal of 1 MiB has room for two thousand commits of a row each, and only then the image is written in place.
 const LEAST_ROOM: usize = 131_072;
 
-// One of 4 MiB is long enough for any image: with more, an opening would take longer, and no commit less.
+// One of 4 MiB is long enough for any image: with more, opening would take longer, and no commit less.
 const AMPLE_ROOM: usize = 524_288;
 
-/// What a file holds: an image of so many words, which has so many places for records, and a journal of so much room behind
-/// it, which may be missing.
+/// What a file holds: an image, with its number of words and of places for records, and a journal behind it with its room, which may
+/// be missing.
 #[derive(Clone, Copy, Debug)]
 pub(crate) struct Shape {
     pub(crate) words: usize,
@@ -76,8 +76,8 @@ impl Shape {
     }
 }
 
-// How much room a journal is made with: for three entries of all lines, so that the image is written in place once for so many words
-// of entries, if an ample one has as much; and at least for one.
+// How much room a journal is made with: for three entries of all lines, so that the image is written in place once for that many
+// words of entries, if an ample one has as much; and at least for one.
 fn room_behind(words: usize) -> usize
     requires { words < 2 ^ 32 }
     ensures { result ≡ room_made words }
@@ -145,7 +145,7 @@ impl Found {
     }
 
     /// What the file holds. A file that is empty, or in which nothing was ever kept, is one of the geometry that is asked for; with
-    /// none asked for, an empty one is missing. Any file is refused that is no image of ours, or has more or less than one.
+    /// none asked for, an empty one is missing. Any file is refused that isn't an image of ours, or has more or less than one.
     pub(crate) fn shape(&self, alloc: Global, asked: &Option<Geometry>) -> Result<Shape, OpenError>
         ensures ok { IfOk result (HasShape asked.now self.now.words.items) }
         ensures empty { self.now.length ≡ 0 → length self.now.words.items ≡ 0 → OnSome asked.now (IsOk result) }
@@ -235,7 +235,7 @@ fn new_shape(asked: &Option<Geometry>, file: &[u64]) -> Result<Shape, OpenError>
     }
 }
 
-// Whether an entry of some lines begins behind so many words of an image: how many payloads it has, and the bit of its pass.
+// Whether an entry of some lines begins behind an image of `words`: how many payloads it has, and the bit of its pass.
 fn begins_entry(file: &[u64], words: usize) -> bool {
     match file.get(words) {
         Some(first) => *first > 1 && *first % 18 <= 1 && *first / 18 <= (words / 8) as u64,
@@ -243,8 +243,8 @@ fn begins_entry(file: &[u64], words: usize) -> bool {
     }
 }
 
-// What the file of these words holds, if it is one of ours: an image alone, as a close leaves it, one with a journal, or one
-// that was being made longer.
+// What the file of these words holds, if it is one of ours: an image alone, as closing leaves it, one with a journal, or
+// one that was being made longer.
 fn shape_in(alloc: Global, file: &[u64], asked: &Option<Geometry>) -> io::Result<Option<Shape>>
     ensures some { IfOk result (λ found. IfSome found (HasShape asked.now file.now)) }
     ensures none { IfOk result (λ found. IfNone found (¬ IsOurs asked.now file.now)) }
@@ -259,7 +259,7 @@ fn shape_in(alloc: Global, file: &[u64], asked: &Option<Geometry>) -> io::Result
     }
 }
 
-// The shape of a file with a tail. `None` where what it stands for is no image, or an entry of all lines doesn't fit.
+// The shape of a file with a tail. `None` if what it stands for isn't an image, or an entry of all lines doesn't fit.
 #[tactic(auto, using(crate::proofs::Shapes::journaled))]
 fn journaled_shape(
     alloc: Global,
@@ -384,7 +384,7 @@ fn is_first_tail(tail: &[u64], shape: Shape) -> bool
         .all(|(word, name)| *word == 0 || word == name)
 }
 
-// The layout of an image of these words. Where nothing was ever kept in it that is the one that is asked for.
+// The layout of an image of these words. If nothing was ever kept in it, that is the one that is asked for.
 fn layout_of(alloc: Global, image: &[u64], asked: &Option<Geometry>) -> io::Result<Option<Geometry>>
     ensures some { IfOk result (λ found. IfSome found (λ own. IsImageOf asked.now own image.now)) }
     ensures none { IfOk result (λ found. IfNone found ((own : Layout) → ¬ IsImageOf asked.now own image.now)) }
@@ -443,7 +443,7 @@ fn own_geometry(file: &[u64]) -> Option<Geometry>
     Geometry::of_version(version, slots, places, window).ok()
 }
 
-/// The bytes of so many words.
+/// The bytes of `words` words.
 pub(crate) fn bytes_of(words: usize) -> u64
     ensures { words < 2 ^ 61 → result ≡ 8 * words }
 {

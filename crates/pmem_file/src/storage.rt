@@ -1,26 +1,18 @@
-use byteorder::{ByteOrder, LittleEndian};
+use file_words::{Account, WordFile};
 use journal::Storage;
 use std::alloc::Global;
 use std::fs::File;
 use std::io;
 use std::os::fd::AsRawFd;
-use std::os::unix::fs::{FileExt, MetadataExt};
 
-// The words that one write takes. A put of fewer is one write.
-const MOST_WORDS: usize = 8_192;
-
-const WORD_BYTES: usize = 8;
-
-/// A file that holds words in order, 8 bytes each, the lowest byte first. No other process has it open so.
+/// A file that holds words, and the account of what was done to it.
 #[derive(Drop)]
 pub struct FileStorage {
-    file: File,
+    file: WordFile,
 
     // They have the numbers of the standard streams, as far as these are closed: what is printed never goes into the file.
     held: Vec<File>,
 
-    // The bytes of a write.
-    bytes: Vec<u8>,
     apart: Apart,
 
     // The same open file, for a sync that is made apart, while none is.
@@ -49,75 +41,38 @@ pub struct FileSync {
 }
 
 impl FileStorage {
+    ghost use Rattle.std.specs.Prelude.{ℕ, ◌<◌, IfOk};
+    ghost use Rattle.file_words.specs.Calls.{IsCutTo, held_by};
+    ghost use Rattle.pmem_file.specs.Files.{held_in};
+
     pub(crate) fn new(alloc: Global, file: File, held: Vec<File>) -> io::Result<FileStorage> {
-        let bytes = Vec::from_elem(alloc, 0, MOST_WORDS * WORD_BYTES)?;
         Ok(FileStorage {
             other: Some(file.try_clone()?),
-            file,
+            file: WordFile::new(alloc, file)?,
             held,
-            bytes,
             apart: Apart::None,
         })
     }
 
-    /// Makes it so many words long, with zeros behind those that it has. Where these have no place on the disk it stays as long
-    /// as it was.
-    pub(crate) fn grow(&mut self, from: usize, to: usize) -> io::Result<()> {
-        if from >= to {
-            return Ok(());
-        }
-        let filled = self.fill(from, to);
-        if filled.is_err() {
-            let _ = self.file.set_len(byte_of(from)?);
-        }
-        filled
+    /// Makes it `to` words long, with zeros behind those that it has, which are `from`. If these have no room on the disk, it stays
+    /// as long as it was.
+    pub(crate) fn grow(&mut self, alloc: Global, from: usize, to: usize) -> io::Result<()> {
+        self.file.grow(alloc, from, to)
     }
 
-    // Writes zeros from this word on up to that one, which is to be the end.
-    fn fill(&mut self, from: usize, to: usize) -> io::Result<()> {
-        self.file.set_len(byte_of(to)?)?;
-        self.bytes.as_mut_slice().fill(0);
-        for at in (from..to).step_by(MOST_WORDS) {
-            let size = (to - at).min(MOST_WORDS) * WORD_BYTES;
-            let Some(zeros) = self.bytes.get(..size) else {
-                return Err(io::Error::from(io::ErrorKind::InvalidInput));
-            };
-            self.file.write_all_at(zeros, byte_of(at)?)?;
-        }
-        Ok(())
-    }
-
-    /// Cuts off what stands behind so many words, and waits until that persists. Fails with `NotFound` where no name names the
+    /// Cuts off what is behind the first `words` words, and waits until that persists. Fails with `NotFound` if no name leads to the
     /// file any more.
-    pub(crate) fn close(&self, words: usize) -> io::Result<()> {
-        self.file.set_len(byte_of(words)?)?;
-        self.file.sync_all()?;
-        if self.file.metadata()?.nlink() == 0 {
+    pub(crate) fn close(self, words: usize) -> io::Result<Account>
+        ensures found { IfOk result (λ account. (word x : ℕ) → word < words → held_by account word x → held_in self word x) }
+        ensures cut { IfOk result (IsCutTo words) }
+    {
+        let mut file = self.file;
+        file.cut(words)?;
+        if !file.is_named()? {
             return Err(io::Error::from(io::ErrorKind::NotFound));
         }
-        Ok(())
+        Ok(file.into_account())
     }
-
-    fn write_words(&mut self, start: usize, words: &[u64]) -> io::Result<()> {
-        let mut at = byte_of(start)?;
-        for part in words.chunks(MOST_WORDS) {
-            let size = part.len() * WORD_BYTES;
-            if size > self.bytes.len() {
-                return Err(io::Error::from(io::ErrorKind::InvalidInput));
-            }
-            let bytes = &mut self.bytes.as_mut_slice()[..size];
-            LittleEndian::write_u64_into(part, bytes);
-            self.file.write_all_at(bytes, at)?;
-            at = at.saturating_add(size as u64);
-        }
-        Ok(())
-    }
-}
-
-// Where the word begins.
-fn byte_of(word: usize) -> io::Result<u64> {
-    let byte = (word as u64).checked_mul(WORD_BYTES as u64);
-    byte.ok_or(io::Error::from(io::ErrorKind::InvalidInput))
 }
 
 // While a sync is made apart.
@@ -128,12 +83,13 @@ fn busy() -> io::Error {
 impl Storage for FileStorage {
     type Pending = FileSync;
 
-    // No clause says what a file holds: that it meets `write` and `sync` is trusted of the system, and not claimed here.
-    ghost may_hold = { λ _ _ _. ⊥ };
+    ghost use Rattle.pmem_file.specs.Files.{held_in, shown_in, shown_in_is_held};
 
-    ghost shows = { λ _ _ _. ⊥ };
+    ghost may_hold = { held_in };
 
-    ghost shown_is_found = { λ _ _ _ shown. shown };
+    ghost shows = { shown_in };
+
+    ghost shown_is_found = { shown_in_is_held };
 
     fn write(&mut self, start: usize, words: &[u64]) -> io::Result<()> {
         match self.apart {
@@ -141,16 +97,16 @@ impl Storage for FileStorage {
             Apart::Ended(Err(error)) => Err(error),
             Apart::None | Apart::Ended(Ok(())) => {
                 self.apart = Apart::None;
-                self.write_words(start, words)
+                self.file.write(start, words)
             }
         }
     }
 
     fn sync(&mut self) -> io::Result<()> {
         match self.apart {
-            Apart::None => self.file.sync_data(),
+            Apart::None => self.file.sync(),
             Apart::Out(_) => Err(busy()),
-            Apart::Ended(ended) => ended,
+            Apart::Ended(ended) => self.file.note(ended),
         }
     }
 
@@ -163,11 +119,14 @@ impl Storage for FileStorage {
         Some(FileSync { file, ended: None })
     }
 
+    // One that failed stays so: after it the system takes for written what the disk does not have.
     fn sync_apart(pending: &mut FileSync) {
-        pending.ended = Some(pending.file.sync_data());
+        if !matches!(pending.ended, Some(Err(_))) {
+            pending.ended = Some(pending.file.sync_data());
+        }
     }
 
-    // One that wasn't made leaves the next sync to make its own; one of another file is none of this one.
+    // If it wasn't made, the next sync makes its own. One of another file changes nothing here.
     fn take_back(&mut self, pending: FileSync) {
         let FileSync { file, ended } = pending;
         if !matches!(self.apart, Apart::Out(number) if number == file.as_raw_fd()) {

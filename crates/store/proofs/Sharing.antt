@@ -4,9 +4,9 @@ use denote.Param.Send.{IsSync, sendable}
 use Rattle.std.proofs.Crossing.{crosses}
 use Rattle.std.proofs.MapsCrossing.{crosses as maps}
 use Rattle.database.proofs.database.Database.TheSendSync as database
-use Rattle.pmem_file.proofs.storage.FileStorage.TheSendSync as storage
+use Rattle.pmem_file.proofs.Sharing as storage
 use Rattle.pmem_file.below.journal.proofs.journaled.JournaledImages.TheSendSync as images
 use Rattle.store.specs.contracts.store.Store.{the_row}
 
 pub store_sync : (R : RattleType) → IsSync R → IsSync (the_row R)
-store_sync R y = search (sendable, crosses, maps, database.the_field_sync, images.the_field_send, storage.the_send) depth 60 fits 20000
+store_sync R y = search (sendable, crosses, maps, database.the_field_sync, images.the_field_send, storage.storage_send) depth 60 fits 20000

@@ -267,7 +267,7 @@ impl<R: Wait + Drop> Store<R> {
         let Store { name, database, .. } = self;
         match database.close() {
             Ok(device) => match device.close() {
-                Ok(()) => Ok(()),
+                Ok(_) => Ok(()),
                 Err(cause) => Err(StoreError::Lost { name, cause }),
             },
             Err(Refused { fault, device }) => Err(not_closed(name, device, fault)),

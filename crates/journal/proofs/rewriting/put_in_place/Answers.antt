@@ -4,15 +4,15 @@ use Rattle.journal.proofs.Files.{place-opens, place-kept, merely-opens, on_ok}
 use Rattle.journal.proofs.rewriting.put_in_place.Goals as goal
 
 pub returns-clause-opens : goal.returns-clause-opens
-returns-clause-opens g c =
+returns-clause-opens g c covers =
     let image = c.args.image.now in
     let old = g.S.Storage.may_hold c.args.storage.now in
     let new = g.S.Storage.may_hold c.put.new.storage in
-    merely-opens new (length image) c.args.room image c.requires (λ known. place-opens old new (length image) c.args.room c.args.pass image known c.put.ensures.puts)
+    merely-opens new (length image) c.args.room image covers (λ known. place-opens old new (length image) c.args.room image known c.put.ensures.puts)
 
 pub returns-clause-done : goal.returns-clause-done
 returns-clause-done g c =
     let image = c.args.image.now in
     let old = g.S.Storage.may_hold c.args.storage.now in
     let new = g.S.Storage.may_hold c.put.new.storage in
-    on_ok c.put.result (λ kept. ∥∥₁_map c.requires (λ known. place-kept old new (length image) c.args.room c.args.pass image known c.put.ensures.puts kept)) c.put.ensures.kept
+    on_ok c.put.result (λ kept. ∥∥₁_map c.requires.known (λ known. place-kept old new (length image) c.args.room c.args.pass image known c.put.ensures.puts kept)) c.put.ensures.kept

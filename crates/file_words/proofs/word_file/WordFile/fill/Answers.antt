@@ -6,18 +6,18 @@ use Rattle.file_words.proofs.Writes.{all-zero, before-part, begins, filling-more
 use Rattle.file_words.proofs.word_file.WordFile.fill.Goals as goal
 
 pub returns-in_err-resize-clause-found : goal.returns-in_err-resize-clause-found
-returns-in_err-resize-clause-found c word x lt held = sized Held _ _ _ c.resize.ensures word x (omega (arith, lt, c.requires)) held
+returns-in_err-resize-clause-found c word x lt held = sized Held _ _ _ _ c.resize.ensures word x (omega (arith, lt, c.requires)) held
 
 pub returns-in_err-resize-clause-others : goal.returns-in_err-resize-clause-others
-returns-in_err-resize-clause-others c word x lt shown = sized Shown _ _ _ c.resize.ensures word x (omega (arith, lt, c.requires)) shown
+returns-in_err-resize-clause-others c word x lt shown = sized Shown _ _ _ _ c.resize.ensures word x (omega (arith, lt, c.requires)) shown
 
 pub loop-at-init : goal.loop-at-init
 loop-at-init c =
     let le : c.args.from ≤ c.args.to = omega (arith, c.requires) in
     let nothing : ℕ = 0 in
     let first = begins _ _ _ _ c.args.from c.args.to le
-    (λ word x lt held. sized Held _ _ _ c.resize.ensures word x (omega (arith, lt, c.requires)) held)
-    (λ word x lt shown. sized Shown _ _ _ c.resize.ensures word x (omega (arith, lt, c.requires)) shown) in
+    (λ word x lt held. sized Held _ _ _ _ c.resize.ensures word x (omega (arith, lt, c.requires)) held)
+    (λ word x lt shown. sized Shown _ _ _ _ c.resize.ensures word x (omega (arith, lt, c.requires)) shown) in
     let is : c.in_ok-zeros.zeros.items ≡ replicate 8192 nothing = search rules in
     (first, all-zero c.in_ok-zeros.zeros.items 8192 is, ap length is ∙ length-replicate 8192 nothing)
 

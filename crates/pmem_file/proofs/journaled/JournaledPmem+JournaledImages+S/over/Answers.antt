@@ -1,5 +1,6 @@
 use Rattle.std.proofs.Common.{◌≡◌, ◌∙◌, ℕ, List, sym, ap, subst}
 use Rattle.journal.specs.Files.{MayBe, Opens, StandsAs}
+use Rattle.journal.specs.Images.{last_image, room_of, storage_of}
 use Rattle.journal.proofs.Files.{only-stands}
 use Rattle.pmem.specs.Device.{restarted}
 use Rattle.pmem.specs.Words.{image_of}
@@ -16,6 +17,13 @@ returns-in-Ok-new-clause-stands g c =
     let is : image_of (device_of c.in-Ok-new.device.trace) ≡ c.in_ok-images.images.written.items =
     ap image_of c.in-Ok-new.ensures.device ∙ image-restarted c.in-Ok.image.items ∙ (c.in-Ok.ensures.items ∙ c.image.ensures) in
     subst P (sym is) c.in_ok-images.ensures.stands
+
+pub returns-in-Ok-new-clause-found : goal.returns-in-Ok-new-clause-found
+returns-in-Ok-new-clause-found g c image may =
+    let hold = g.S.Storage.may_hold in
+    let is : image_of (device_of c.in-Ok-new.device.trace) ≡ c.in_ok-images.images.written.items =
+    ap image_of c.in-Ok-new.ensures.device ∙ image-restarted c.in-Ok.image.items ∙ (c.in-Ok.ensures.items ∙ c.image.ensures) in
+    c.in_ok-images.ensures.found image (subst (λ i. MayBe (hold (storage_of i)) (room_of i) (last_image i) image) c.in-Ok-new.ensures.keeps may) ∙ sym is
 
 pub returns-in-Ok-new-clause-device : goal.returns-in-Ok-new-clause-device
 returns-in-Ok-new-clause-device g c =
@@ -37,14 +45,14 @@ kept may_hold words room named file image is opens only =
     only-stands may_hold words room file image opens (subst F is only)
 
 pub returns-in_default-clause-unopened : goal.returns-in_default-clause-unopened
-returns-in_default-clause-unopened g c =
+returns-in_default-clause-unopened g c still =
     let images = c.in_ok-images.images in
     let hold = g.S.Storage.may_hold in
     moved hold images.storage c.unopened.result.storage c.args.words c.args.room c.args.file.now c.unopened.ensures
     (kept (hold images.storage) c.args.words c.args.room images.room c.args.file.now images.written.items c.in_ok-images.ensures.room c.in_ok-images.ensures.stands c.in_ok-images.ensures.found)
 
 pub returns-in-Err-clause-unopened : goal.returns-in-Err-clause-unopened
-returns-in-Err-clause-unopened g c =
+returns-in-Err-clause-unopened g c still =
     let images = c.in_ok-images.images in
     let hold = g.S.Storage.may_hold in
     moved hold images.storage c.unopened-in-Err.result.storage c.args.words c.args.room c.args.file.now (c.unopened-in-Err.ensures ∙ ap (λ i. i.storage) c.in-Err.ensures.images)
