@@ -228,28 +228,28 @@ decided-stands_still before now words room file image decides found opens within
     let lines : lines_in words room other ≡ lines_in words room file = same_lines words room file other found.size size behind in
     (λ i. put_over (sym lines i) word (sym here i)) ∙ sym ((decides file other image found is behind opens).each word lt) ∙ opens.each word lt
 
--- ---- the journal counts no more
+-- ---- the journal counts no more, whatever the tail names
 
-pub off-opens : (old new : ℕ → ℕ → Type 0) (words room : ℕ) (pass : Bool) (durable : List ℕ) → IsInPlace old words room pass durable → Puts old new (words + room) (tail_of 0 words room pass) → FoundOpens new words room durable
-off-opens old new words room pass durable here puts = found_opens new words room durable (λ found is. by_test found is (cases_eq (get_or found (words + room) 0) magic))
+pub off-opens : (a b : ℕ) (old new : ℕ → ℕ → Type 0) (words room : ℕ) (pass : Bool) (durable : List ℕ) → IsInPlace old words room pass durable → Puts old new (words + room) (tail_of 0 a b pass) → FoundOpens new words room durable
+off-opens a b old new words room pass durable here puts = found_opens new words room durable (λ found is. by_test found is (cases_eq (get_or found (words + room) 0) magic))
   where
     by_test : (found : List ℕ) → IsFound new (words + room + 8) found → (get_or found (words + room) 0 ≡ magic) ⊎ (get_or found (words + room) 0 ≢ magic) → Opens words room found durable
     by_test found is (inr off) = grind (arith, lines-off)
     by_test found is (inl on) =
         let file : List ℕ = here.known.file in
-        let beside = found_beside old new (words + room + 8) (words + room) (tail_of 0 words room pass) file found here.known.holds puts is in
+        let beside = found_beside old new (words + room + 8) (words + room) (tail_of 0 a b pass) file found here.known.holds puts is in
         let before : (word : ℕ) → word < words + room → get_or found word 0 ≡ get_or file word 0 = λ word lt. elim (beside word (omega (arith, lt))) [
           | inl same ↦ same
           | inr put ↦ absurd (omega (arith, put.0, lt))
         ] in
         let was_on : is_on words room file ≡ true = elim (beside (words + room) (omega arith)) [
           | inl same ↦ eq-eqb (get_or file (words + room) 0) magic (sym same ∙ on)
-          | inr put ↦ absurd (zero-magic (sym (sym on ∙ put.2 ∙ at_run (tail_of 0 words room pass) (words + room) (words + room) 0 (omega arith))))
+          | inr put ↦ absurd (zero-magic (sym (sym on ∙ put.2 ∙ at_run (tail_of 0 a b pass) (words + room) (words + room) 0 (omega arith))))
         ] in
         let was_pass = here.known.pass_is was_on in
         let is_pass : get_or found (words + room + 3) 0 ≡ pass_word pass = elim (beside (words + room + 3) (omega arith)) [
           | inl same ↦ same ∙ was_pass
-          | inr put ↦ put.2 ∙ at_run (tail_of 0 words room pass) (words + room) (words + room + 3) 3 (omega arith)
+          | inr put ↦ put.2 ∙ at_run (tail_of 0 a b pass) (words + room) (words + room + 3) 3 (omega arith)
         ] in
         let lines : lines_in words room found ≡ lines_in words room file =
         lines-on words room pass found (eq-eqb (get_or found (words + room) 0) magic on) is_pass
@@ -260,9 +260,9 @@ off-opens old new words room pass durable here puts = found_opens new words room
           each = λ word lt. here.known.opens.each word lt ∙ (λ i. put_over (sym lines i) word (sym (before word (omega (arith, lt))) i));
         }
 
-pub off-kept : (old new : ℕ → ℕ → Type 0) (words room : ℕ) (pass : Bool) (durable : List ℕ) → IsInPlace old words room pass durable → Puts old new (words + room) (tail_of 0 words room pass)
-    → Keeps new (words + room) (tail_of 0 words room pass) → IsOff new words room durable
-off-kept old new words room pass durable here puts keeps = grind (arith)
+pub off-kept : (a b : ℕ) (old new : ℕ → ℕ → Type 0) (words room : ℕ) (pass : Bool) (durable : List ℕ) → IsInPlace old words room pass durable → Puts old new (words + room) (tail_of 0 a b pass)
+    → Keeps new (words + room) (tail_of 0 a b pass) → IsOff new words room durable
+off-kept a b old new words room pass durable here puts keeps = grind (arith)
 
 -- ---- nothing is left in it
 

@@ -14,3 +14,4 @@ pub mod Placed
 pub mod Settled
 pub mod Within
 pub mod Turned
+pub mod Tails

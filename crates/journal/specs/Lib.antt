@@ -10,5 +10,6 @@ pub mod Kept
 pub mod Files
 pub mod ReadBack
 pub mod States
+pub mod Tails
 pub mod Changes
 pub mod Images

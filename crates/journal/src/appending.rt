@@ -1,6 +1,7 @@
 ghost use Rattle.std.specs.Prelude.{◌≡◌, ℕ, ◌+◌, ◌*◌, ◌/◌, ◌%◌, ◌<◌, ◌≤◌, ◌^◌, List, [], ◌∷◌, ◌++◌, length, IfOk, OnOk, OnErr};
 ghost use Rattle.journal.specs.Files.{FoundEither};
 ghost use Rattle.journal.specs.States.{Rests};
+ghost use Rattle.journal.specs.Tails.{NamesAsBefore};
 ghost use Rattle.journal.specs.Changes.{AreChanged, AreFound, DiffersIn};
 
 use crate::eight::eight_at;
@@ -34,6 +35,7 @@ pub(crate) fn begin_words<S: Storage>(
     ensures rests { IfOk result (λ next. ∥ Rests (S.shows storage.new) (length durable.old.items) room next.pass next.words words.now ∥₁) }
     ensures durable { OnOk result (durable.new.items ≡ words.now) }
     ensures err { OnErr result (durable.new.items ≡ durable.old.items) }
+    ensures tail { NamesAsBefore (S.may_hold storage.old) (S.may_hold storage.new) (length durable.old.items) room }
 {
     let changed = changed_lines(alloc, durable.as_slice(), words, numbers)?;
     let next = write_changed(
@@ -110,6 +112,7 @@ fn write_changed<S: Storage>(
     requires known { ∥ Rests (S.may_hold storage.old) (length durable.now) room position.pass position.words durable.now ∥₁ }
     ensures either { FoundEither (S.may_hold storage.new) (length durable.now) room durable.now words.now }
     ensures rests { IfOk result (λ next. ∥ Rests (S.shows storage.new) (length durable.now) room next.pass next.words words.now ∥₁) }
+    ensures tail { NamesAsBefore (S.may_hold storage.old) (S.may_hold storage.new) (length durable.now) room }
 {
     if changed.is_empty() {
         return Ok(position);
@@ -147,6 +150,7 @@ fn append<S: Storage>(
     requires known { ∥ Rests (S.may_hold storage.old) (length durable.now) room position.pass position.words durable.now ∥₁ }
     ensures either { FoundEither (S.may_hold storage.new) (length durable.now) room durable.now words.now }
     ensures rests { IfOk result (λ next. ∥ Rests (S.shows storage.new) (length durable.now) room next.pass next.words words.now ∥₁) }
+    ensures tail { NamesAsBefore (S.may_hold storage.old) (S.may_hold storage.new) (length durable.now) room }
 {
     let entry = entry_of(alloc, changed, position.pass)?;
     storage.write(durable.len() + position.words, entry.as_slice())?;

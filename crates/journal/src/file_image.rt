@@ -1,4 +1,4 @@
-ghost use Rattle.std.specs.Prelude.{◌≡◌, ℕ, ◌+◌, ◌*◌, ◌/◌, ◌%◌, ◌<◌, ◌≤◌, [], ◌∷◌, ◌↔◌, length, slice_index, IfOk, IfErr, IfSome, IsNone, OnOk, IsTrue};
+ghost use Rattle.std.specs.Prelude.{◌≡◌, ℕ, ◌+◌, ◌*◌, ◌/◌, ◌%◌, ◌<◌, ◌≤◌, [], ◌∷◌, ◌↔◌, length, slice_index, IfOk, IfErr, IfSome, IsNone, OnOk, IsTrue, Some};
 ghost use Rattle.std.specs.IoError.{error_kind};
 ghost use Rattle.journal.specs.LinePayloads.{lines_of};
 ghost use Rattle.journal.specs.InPlace.{put_over};
@@ -38,10 +38,12 @@ pub fn image_in(alloc: Global, file: &[u64], words: usize, room: usize) -> io::R
 
 /// How many words the image has, and how much room the journal, of a file that ends with a tail, whether the journal counts or
 /// not.
+#[tactic(auto, using(crate::proofs::Tails::named_one))]
 pub fn extent_of(file: &[u64]) -> Option<(usize, usize)>
     ensures size { IfSome result (λ found. IsFile found.0 found.1 (length file.now)) }
     ensures tail { IfSome result (λ found. HasTail found.0 found.1 file.now) }
     ensures none { IsNone result → (words room : ℕ) → IsFile words room (length file.now) → HasTail words room file.now → ⊥ }
+    ensures named { (words room : ℕ) → IsFile words room (length file.now) → HasTail words room file.now → result ≡ Some (words, room) }
 {
     let start = file.len().checked_sub(8)?;
     let (words, room) = (file[start + 1] as usize, file[start + 2] as usize);

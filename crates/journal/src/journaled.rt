@@ -3,6 +3,7 @@ ghost use Rattle.std.proofs.Common.{inl};
 ghost use Rattle.journal.specs.Files.{Opens};
 ghost use Rattle.journal.specs.ReadBack.{IsReadBack, StandsAsBefore};
 ghost use Rattle.journal.specs.States.{Rests};
+ghost use Rattle.journal.specs.Tails.{BeginsAsRead, NamesAsRead, NamesBoth};
 
 use crate::appending::begin_words;
 use crate::file_image::image_in;
@@ -39,6 +40,7 @@ pub struct JournaledImages<S: Storage> {
     ghost noted: { is_some failure ≡ failed },
     ghost rests: { failed ≡ false → is_begun ≡ false → ∥ Rests (S.may_hold storage) (length written.items) room position.pass position.words written.items ∥₁ },
     ghost begun: { failed ≡ false → is_begun ≡ true → ∥ Rests (S.shows storage) (length written.items) room position.pass position.words written.items ∥₁ },
+    ghost named: { NamesBoth (S.may_hold storage) (length written.items) room },
 }
 
 /// Why a file isn't opened, and the file.
@@ -62,7 +64,8 @@ impl<S: Storage> JournaledImages<S> {
     /// have been written back and synced before, as by [`write_back`](crate::write_back); a word in place may still be found
     /// otherwise. The image that the file stands for is put in place, and the file is brought to rest. Fails as [`image_in`]
     /// does, and if a write fails. Then the file still stands for that image, if the journal's lines made the same of whatever might
-    /// be found in place before.
+    /// be found in place before. Once it succeeded, the tail names the words and the room at each instant, so the next opening finds
+    /// both; if it fails the tail does so too, if it did when it was read.
     pub fn open(
         alloc: Global,
         storage: S,
@@ -78,6 +81,9 @@ impl<S: Storage> JournaledImages<S> {
         ensures room { IfOk result (λ images. room_of images ≡ room) }
         ensures works { IfOk result (λ images. failure_of images ≡ None) }
         ensures unopened { IfErr result (λ unopened. StandsAsBefore (S.may_hold storage) (S.may_hold unopened.storage) words room file.now) }
+        ensures named { IfOk result (λ images. NamesBoth (S.may_hold (storage_of images)) words room) }
+        ensures tail { IfErr result (λ unopened. NamesAsRead (S.may_hold unopened.storage) words room file.now) }
+        ensures first { IfErr result (λ unopened. BeginsAsRead (S.may_hold unopened.storage) words room file.now) }
     {
         let durable = match image_in(alloc, file, words, room) {
             Ok(durable) => durable,
@@ -125,12 +131,15 @@ impl<S: Storage> JournaledImages<S> {
     }
 
     /// Brings the image in place, and hands out where it is kept: the file's first words alone are the image then. Fails if an
-    /// image isn't kept, and if a write fails: in both cases the file stands for an image that might have been found before.
+    /// image isn't kept, and if a write fails: in both cases the file stands for an image that might have been found before. Until
+    /// the file is cut, its tail names the words and the room.
     pub fn close(self) -> Result<S, Unclosed<S>>
     where
         S: Drop,
         ensures closed { IfOk result (λ storage. ∥ IsClosedIn S.may_hold self storage ∥₁) }
         ensures unclosed { IfErr result (λ unclosed. StandsForOne S.may_hold self unclosed.storage) }
+        ensures named { IfOk result (λ storage. NamesBoth (S.may_hold storage) (length (last_image self)) (room_of self)) }
+        ensures tail { IfErr result (λ unclosed. NamesBoth (S.may_hold unclosed.storage) (length (last_image self)) (room_of self)) }
     {
         if self.failed || self.is_begun {
             return Err(Unclosed {

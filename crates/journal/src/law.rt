@@ -1,6 +1,7 @@
-ghost use Rattle.std.specs.Prelude.{ℕ, ◌+◌, ◌<◌, List};
+ghost use Rattle.std.specs.Prelude.{◌≡◌, ◌⊎◌, ℕ, ◌+◌, ◌<◌, List, length, IfSome, Some};
 ghost use Rattle.journal.specs.Entries.{TornIsNone};
-ghost use Rattle.journal.specs.Files.{Opens};
+ghost use Rattle.journal.specs.Files.{HasTail, IsFile, Opens};
+ghost use Rattle.journal.specs.Images.{last_image, room_of, storage_of};
 ghost use Rattle.journal.specs.InPlace.{InPlaceKeeps, InPlaceIsAll};
 ghost use Rattle.journal.specs.Kept.{IsFound};
 ghost use Rattle.journal.specs.LinePayloads.{LinesReturn};
@@ -9,7 +10,10 @@ ghost use Rattle.journal.specs.Passes.{FillingIsNothing, NextIsEmpty};
 ghost use Rattle.journal.specs.Pointwise.{ByPlaces};
 ghost use Rattle.journal.specs.ReadBack.{JournalDecides, StandsStill};
 ghost use Rattle.journal.specs.Several.{AppendIsWhole, NoneIsNothing, ScrubIsNone};
+ghost use Rattle.journal.specs.Tails.{BeginsTail, HoldsFirst, NamesBoth};
 
+use crate::file_image::extent_of;
+use crate::journaled::JournaledImages;
 use crate::storage::Storage;
 
 /// The reader returns an entry that was being written if all of its words are found, and none if not.
@@ -76,4 +80,39 @@ pub fn decided_files_stand_still<B: Storage, S: Storage>(
     let _ = file;
     let _ = words;
     let _ = room;
+}
+
+/// Any file that may be found of images, once all has stopped, has a tail that names how many words they have and how much room
+/// the journal has. So the next opening finds the same two.
+pub fn left_files_name_their_shape<S: Storage>(
+    images: &JournaledImages<S>,
+    file: &[u64],
+) -> Option<(usize, usize)>
+    requires found { IsFound (S.may_hold (storage_of images.now)) (length (last_image images.now) + room_of images.now + 8) file.now }
+    ensures file { IsFile (length (last_image images.now)) (room_of images.now) (length file.now) }
+    ensures tail { HasTail (length (last_image images.now)) (room_of images.now) file.now }
+    ensures same { result ≡ Some (length (last_image images.now), room_of images.now) }
+{
+    let _ = images;
+    extent_of(file)
+}
+
+/// Any file that may be found after a stop while it was first opened has behind its image only words that are written there first,
+/// or a tail that names both. So no tail in it names other words, or another room.
+pub fn begun_files_name_no_other<S: Storage>(
+    storage: &S,
+    file: &[u64],
+    words: usize,
+    room: usize,
+) -> Option<(usize, usize)>
+    requires file { IsFile words room (length file.now) }
+    requires first { HoldsFirst (S.may_hold storage.now) words room ⊎ NamesBoth (S.may_hold storage.now) words room }
+    requires found { IsFound (S.may_hold storage.now) (words + room + 8) file.now }
+    ensures begun { BeginsTail words room file.now ⊎ HasTail words room file.now }
+    ensures same { IfSome result (λ found. found ≡ (words, room)) }
+{
+    let _ = storage;
+    let _ = words;
+    let _ = room;
+    extent_of(file)
 }

@@ -2,6 +2,7 @@ ghost use Rattle.std.specs.Prelude.{◌≡◌, ◌⊎◌, ℕ, ◌+◌, ◌≤�
 ghost use Rattle.journal.specs.Files.{tail_of, FoundOpens};
 ghost use Rattle.journal.specs.ReadBack.{Covers};
 ghost use Rattle.journal.specs.States.{Knows, KnowsJournal, IsInPlace, IsOff, IsClear, IsFull, Rests};
+ghost use Rattle.journal.specs.Tails.{HoldsFirst, NamesBoth, NamesAsBefore};
 
 use crate::entry::bit_of;
 use crate::position::Position;
@@ -27,6 +28,9 @@ pub fn rewrite<S: Storage>(
     requires known { ∥ KnowsJournal (S.may_hold storage.old) (length image.now) room pass image.now ∥₁ }
     ensures opens { ∥ Covers (S.may_hold storage.old) (length image.now) room image.now ∥₁ → FoundOpens (S.may_hold storage.new) (length image.now) room image.now }
     ensures rests { OnOk result (∥ Rests (S.may_hold storage.new) (length image.now) room true 0 image.now ∥₁) }
+    ensures tail { NamesAsBefore (S.may_hold storage.old) (S.may_hold storage.new) (length image.now) room }
+    ensures named { OnOk result (NamesBoth (S.may_hold storage.new) (length image.now) room) }
+    ensures first { pass ≡ true → HoldsFirst (S.may_hold storage.old) (length image.now) room → HoldsFirst (S.may_hold storage.new) (length image.now) room ⊎ NamesBoth (S.may_hold storage.new) (length image.now) room }
 {
     put_in_place(storage, image, room, pass)?;
     turn_off(storage, image, room, pass)?;
@@ -46,6 +50,7 @@ pub(crate) fn settle<S: Storage>(
     requires known { ∥ Knows (S.may_hold storage.old) (length image.now) room pass image.now ∥₁ }
     ensures opens { FoundOpens (S.may_hold storage.new) (length image.now) room image.now }
     ensures off { OnOk result (∥ IsOff (S.may_hold storage.new) (length image.now) room image.now ∥₁) }
+    ensures tail { NamesAsBefore (S.may_hold storage.old) (S.may_hold storage.new) (length image.now) room }
 {
     put_in_place(storage, image, room, pass)?;
     turn_off(storage, image, room, pass)
@@ -61,6 +66,8 @@ fn put_in_place<S: Storage>(
     requires known { ∥ KnowsJournal (S.may_hold storage.old) (length image.now) room pass image.now ∥₁ }
     ensures opens { ∥ Covers (S.may_hold storage.old) (length image.now) room image.now ∥₁ → FoundOpens (S.may_hold storage.new) (length image.now) room image.now }
     ensures done { OnOk result (∥ IsInPlace (S.may_hold storage.new) (length image.now) room pass image.now ∥₁) }
+    ensures tail { NamesAsBefore (S.may_hold storage.old) (S.may_hold storage.new) (length image.now) room }
+    ensures first { HoldsFirst (S.may_hold storage.old) (length image.now) room → HoldsFirst (S.may_hold storage.new) (length image.now) room }
 {
     put(storage, 0, image)
 }
@@ -71,6 +78,8 @@ fn turn_off<S: Storage>(storage: &mut S, image: &[u64], room: usize, pass: bool)
     requires known { ∥ IsInPlace (S.may_hold storage.old) (length image.now) room pass image.now ∥₁ }
     ensures opens { FoundOpens (S.may_hold storage.new) (length image.now) room image.now }
     ensures done { OnOk result (∥ IsOff (S.may_hold storage.new) (length image.now) room image.now ∥₁) }
+    ensures tail { NamesAsBefore (S.may_hold storage.old) (S.may_hold storage.new) (length image.now) room }
+    ensures first { pass ≡ true → HoldsFirst (S.may_hold storage.old) (length image.now) room → HoldsFirst (S.may_hold storage.new) (length image.now) room }
 {
     let words = image.len();
     put(storage, words + room, &tail(0, words, room, pass))
@@ -82,6 +91,9 @@ fn clear<S: Storage>(alloc: Global, storage: &mut S, image: &[u64], room: usize)
     requires known { ∥ IsOff (S.may_hold storage.old) (length image.now) room image.now ∥₁ }
     ensures opens { FoundOpens (S.may_hold storage.new) (length image.now) room image.now }
     ensures done { OnOk result (∥ IsClear (S.may_hold storage.new) (length image.now) room image.now ∥₁) }
+    ensures tail { NamesAsBefore (S.may_hold storage.old) (S.may_hold storage.new) (length image.now) room }
+    ensures named { OnOk result (NamesBoth (S.may_hold storage.new) (length image.now) room) }
+    ensures first { HoldsFirst (S.may_hold storage.old) (length image.now) room → HoldsFirst (S.may_hold storage.new) (length image.now) room }
 {
     let words = image.len();
     let mut rest = Vec::from_elem(alloc, 0, room)?;
@@ -95,6 +107,7 @@ fn turn_on<S: Storage>(storage: &mut S, image: &[u64], room: usize) -> io::Resul
     requires known { ∥ IsClear (S.may_hold storage.old) (length image.now) room image.now ∥₁ }
     ensures opens { FoundOpens (S.may_hold storage.new) (length image.now) room image.now }
     ensures done { OnOk result (∥ Rests (S.may_hold storage.new) (length image.now) room true 0 image.now ∥₁) }
+    ensures tail { NamesAsBefore (S.may_hold storage.old) (S.may_hold storage.new) (length image.now) room }
 {
     let words = image.len();
     put(storage, words + room, &tail(MAGIC, words, room, true))
@@ -115,6 +128,7 @@ pub(crate) fn begin_pass<S: Storage>(
     requires known { ∥ Rests (S.may_hold storage.old) (length image.now) room position.pass position.words image.now ∥₁ }
     ensures opens { FoundOpens (S.may_hold storage.new) (length image.now) room image.now }
     ensures rests { OnOk result (∥ Rests (S.may_hold storage.new) (length image.now) room (not position.pass) 0 image.now ∥₁) }
+    ensures tail { NamesAsBefore (S.may_hold storage.old) (S.may_hold storage.new) (length image.now) room }
 {
     fill(alloc, storage, image, room, position)?;
     turn(storage, image, room, position.pass)
@@ -133,6 +147,7 @@ fn fill<S: Storage>(
     requires known { ∥ Rests (S.may_hold storage.old) (length image.now) room position.pass position.words image.now ∥₁ }
     ensures opens { FoundOpens (S.may_hold storage.new) (length image.now) room image.now }
     ensures done { OnOk result (∥ IsFull (S.may_hold storage.new) (length image.now) room position.pass image.now ∥₁) }
+    ensures tail { NamesAsBefore (S.may_hold storage.old) (S.may_hold storage.new) (length image.now) room }
 {
     let rest = Vec::from_elem(alloc, bit_of(position.pass), room - position.words)?;
     storage.write(image.len() + position.words, rest.as_slice())?;
@@ -145,6 +160,7 @@ fn turn<S: Storage>(storage: &mut S, image: &[u64], room: usize, pass: bool) -> 
     requires known { ∥ IsFull (S.may_hold storage.old) (length image.now) room pass image.now ∥₁ }
     ensures opens { FoundOpens (S.may_hold storage.new) (length image.now) room image.now }
     ensures done { OnOk result (∥ Rests (S.may_hold storage.new) (length image.now) room (not pass) 0 image.now ∥₁) }
+    ensures tail { NamesAsBefore (S.may_hold storage.old) (S.may_hold storage.new) (length image.now) room }
 {
     let words = image.len();
     put(storage, words + room, &tail(MAGIC, words, room, !pass))

@@ -8,9 +8,10 @@ use Rattle.base.specs.Images.{layout_of, has_good_geometry}
 use Rattle.base.specs.Layout.{Layout, is_in_limits, slot_start, total_words}
 use Rattle.journal.specs.Files.{magic, HasTail, IsFile, Opens}
 use Rattle.journal.proofs.Files.{lines-off, opens-off, opens-one}
+use Rattle.journal.proofs.Tails.{named_one}
 use Rattle.log_area.specs.Rulings.{IsLaidOut}
 use Rattle.pmem_file.specs.declared.shape.Shape.{Shape}
-use Rattle.pmem_file.specs.Shapes.{IsBlank, IsImageOf, HasItsPlaces, HasShape, IsMadeFor, IsGrown, IsGrowing, IsNothingBehind, IsOurs, least_room, room_made, room_older, whole, padded}
+use Rattle.pmem_file.specs.Shapes.{IsBlank, IsImageOf, HasItsPlaces, HasShape, IsMadeFor, IsGrown, IsGrowing, IsNothingBehind, IsOurs, KeepsNames, least_room, room_made, room_older, whole, padded}
 
 zero-magic : 0 ≢ magic
 zero-magic e = omega (arith, e)
@@ -238,6 +239,27 @@ pub none-of : {P Q : Type 0} (found : Result (Option Shape) Error) → (P → Q)
 none-of (Ok (Some shape)) to none = tt
 none-of (Ok None) to none = to none
 none-of (Err error) to none = tt
+
+-- ---- the words and the room that a tail names
+
+pub names-alone : (asked : Option Layout) (own : Layout) (file : List ℕ) (shape : Shape) → IsImageOf asked own file → KeepsNames asked file shape
+names-alone asked own file shape is size room sized tail not_alone = absurd (not_alone own is)
+
+pub names-tail : {E : Type 0} (asked : Option Layout) (file : List ℕ) (a b : ℕ) (found : Result (Option Shape) E) → IsFile a b (length file) → HasTail a b file
+    → IfOk found (λ o. IfSome o (λ shape. (shape.words ≡ a) × (shape.room ≡ b))) → IfOk found (λ o. IfSome o (KeepsNames asked file))
+names-tail asked file a b (Ok (Some shape)) sized tail is = λ size room other named not_alone.
+    let one = named_one size room a b file other named sized tail in
+    (is.0 ∙ one.0, is.1 ∙ one.1)
+names-tail asked file a b (Ok None) sized tail is = tt
+names-tail asked file a b (Err error) sized tail is = tt
+
+pub names-none : {E : Type 0} (asked : Option Layout) (file : List ℕ) (found : Result (Option Shape) E) → ((size room : ℕ) → IsFile size room (length file) → HasTail size room file → ⊥) → IfOk found (λ o. IfSome o (KeepsNames asked file))
+names-none asked file (Ok (Some shape)) none = λ size room sized tail not_alone. absurd (none size room sized tail)
+names-none asked file (Ok None) none = tt
+names-none asked file (Err error) none = tt
+
+pub names_nothing : (asked : Option Layout) (file : List ℕ) (shape : Shape) → length file ≡ 0 → KeepsNames asked file shape
+names_nothing asked file shape nothing size room sized tail not_alone = omega (arith, nothing, sized.size)
 
 -- no words are those of a file of ours only where a layout is asked for
 pub no-ours-empty : (asked : Option Layout) (words : List ℕ) → asked ≡ None → length words ≡ 0 → ¬ IsOurs asked words

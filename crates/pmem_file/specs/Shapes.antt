@@ -42,6 +42,11 @@ pub record HasShape (asked : Option Layout) (words : List ℕ) (shape : Shape) :
   pub opens : Opens shape.words shape.room (padded shape words) image
   pub has_places : HasItsPlaces asked image shape.places
 
+-- if a tail at the end of the words names how many the image has and how much room the journal has, the shape has these, unless all
+-- the words are an image alone
+abbrev pub KeepsNames : Option Layout → List ℕ → Shape → Type 0
+KeepsNames asked words shape = (size room : ℕ) → IsFile size room (length words) → HasTail size room words → ((own : Layout) → ¬ IsImageOf asked own words) → (shape.words ≡ size) × (shape.room ≡ room)
+
 -- how many words a journal has room for at least: for an entry of all lines of an image of `words`, in whole lines
 abbrev pub least_room : ℕ → ℕ
 least_room words = (9 * (words / 8) + 23) / 8 * 8

@@ -4,16 +4,20 @@ ghost use Rattle.std.specs.declared.io.ErrorKind.TheVariants.{OutOfMemory};
 ghost use Rattle.base.specs.Layout.{Layout, is_in_limits};
 ghost use Rattle.base.specs.Images.{layout_of};
 ghost use Rattle.journal.specs.Files.{HasTail, IsFile, Opens};
+ghost use Rattle.journal.specs.Images.{last_image, room_of, storage_of};
+ghost use Rattle.journal.specs.Kept.{IsFound};
 ghost use Rattle.log_area.specs.Rulings.{IsLaidOut, layout_damage};
 ghost use Rattle.pmem_file.specs.declared.opening.OpenError.{OpenError};
-ghost use Rattle.pmem_file.specs.Shapes.{HasShape, IsBlank, IsFirstTail, IsForMemory, IsGrowing, IsGrown, IsImageOf, IsNothingBehind, IsOurs, least_room, room_made, whole};
+ghost use Rattle.pmem_file.specs.Shapes.{HasShape, IsBlank, IsFirstTail, IsForMemory, IsGrowing, IsGrown, IsImageOf, IsNothingBehind, IsOurs, KeepsNames, least_room, room_made, whole};
 
 use crate::journaled::JournaledPmem;
 use crate::opening::OpenError;
 use base::fault::Fault;
 use base::geometry::Geometry;
 use byteorder::{ByteOrder, LittleEndian};
-use journal::{Nowhere, extent_of, image_in};
+use journal::{
+    JournaledImages, Nowhere, Storage, extent_of, image_in, left_files_name_their_shape,
+};
 use log_area::read_geometry;
 use std::alloc::Global;
 use std::fs::File;
@@ -109,7 +113,7 @@ pub(crate) struct Found {
 impl Found {
     ghost use Rattle.std.specs.Prelude.{◌≡◌, ◌↔◌, ◌*◌, ◌<◌, ◌≤◌, ◌^◌, length, Err, IfErr, IfNone, IfOk, IsOk, IsTrue, OnSome};
     ghost use Rattle.pmem_file.specs.declared.opening.OpenError.{OpenError};
-    ghost use Rattle.pmem_file.specs.Shapes.{HasShape, IsForMemory, IsOurs, padded, whole};
+    ghost use Rattle.pmem_file.specs.Shapes.{HasShape, IsForMemory, IsOurs, KeepsNames, padded, whole};
 
     pub(crate) fn read(alloc: Global, file: &File) -> io::Result<Found> {
         let length = file.metadata()?.len();
@@ -151,6 +155,7 @@ impl Found {
         ensures empty { self.now.length ≡ 0 → length self.now.words.items ≡ 0 → OnSome asked.now (IsOk result) }
         ensures missing { self.now.length ≡ 0 → length self.now.words.items ≡ 0 → IfNone asked.now (result ≡ Err OpenError.Missing) }
         ensures ours { self.now.length ≡ 8 * length self.now.words.items → length self.now.words.items < 2 ^ 61 → IsOurs asked.now self.now.words.items → IfErr result IsForMemory }
+        ensures named { IfOk result (KeepsNames asked.now self.now.words.items) }
     {
         if self.is_empty() {
             return new_shape(asked, self.words.as_slice());
@@ -221,13 +226,14 @@ impl Found {
 }
 
 // Of a file without words.
-#[tactic(auto, using(crate::proofs::Shapes::nothing))]
+#[tactic(auto, using(crate::proofs::Shapes::nothing, crate::proofs::Shapes::names_nothing))]
 fn new_shape(asked: &Option<Geometry>, file: &[u64]) -> Result<Shape, OpenError>
     requires { length file.now ≡ 0 }
     ensures ok { IfOk result (HasShape asked.now file.now) }
     ensures empty { OnSome asked.now (IsOk result) }
     ensures missing { IfNone asked.now (result ≡ Err OpenError.Missing) }
     ensures ours { IsOurs asked.now file.now → IfErr result IsForMemory }
+    ensures named { IfOk result (KeepsNames asked.now file.now) }
 {
     match asked {
         Some(geometry) => Ok(Shape::new(*geometry)),
@@ -249,6 +255,7 @@ fn shape_in(alloc: Global, file: &[u64], asked: &Option<Geometry>) -> io::Result
     ensures some { IfOk result (λ found. IfSome found (HasShape asked.now file.now)) }
     ensures none { IfOk result (λ found. IfNone found (¬ IsOurs asked.now file.now)) }
     ensures memory { IfErr result (λ error. error_kind error ≡ OutOfMemory) }
+    ensures named { IfOk result (λ found. IfSome found (KeepsNames asked.now file.now)) }
 {
     match layout_of(alloc, file, asked)? {
         Some(own) => Ok(Some(Shape::new(own))),
@@ -273,6 +280,7 @@ fn journaled_shape(
     ensures some { IfOk result (λ found. IfSome found (HasShape asked.now file.now)) }
     ensures none { IfOk result (λ found. IfNone found ((image : List ℕ) (own : Layout) → least_room words ≤ room → Opens words room file.now image → ¬ IsImageOf asked.now own image)) }
     ensures memory { IfErr result (λ error. error_kind error ≡ OutOfMemory) }
+    ensures named { IfOk result (λ found. IfSome found (λ shape. (shape.words ≡ words) × (shape.room ≡ room))) }
 {
     if room < least_room(words) {
         return Ok(None);
@@ -284,6 +292,26 @@ fn journaled_shape(
             room,
             places: own.places() as usize,
         })),
+        None => Ok(None),
+    }
+}
+
+/// Opening a file that may be found of images, once all has stopped, finds the words and the room that they have, unless the whole
+/// file is an image alone. `None` if it isn't a file of ours.
+pub fn left_files_keep_their_shape<S: Storage>(
+    alloc: Global,
+    images: &JournaledImages<S>,
+    file: &[u64],
+    asked: &Option<Geometry>,
+) -> io::Result<Option<(usize, usize)>>
+    requires found { IsFound (S.may_hold (storage_of images.now)) (length (last_image images.now) + room_of images.now + 8) file.now }
+    requires alone { (own : Layout) → ¬ IsImageOf asked.now own file.now }
+    ensures same { IfOk result (λ found. IfSome found (λ names. names ≡ (length (last_image images.now), room_of images.now))) }
+    ensures none { IfOk result (λ found. IfNone found (¬ IsOurs asked.now file.now)) }
+{
+    let _ = left_files_name_their_shape(images, file);
+    match shape_in(alloc, file, asked)? {
+        Some(shape) => Ok(Some((shape.words, shape.room))),
         None => Ok(None),
     }
 }

@@ -4,6 +4,7 @@ use Rattle.journal.specs.States.{Rests}
 use Rattle.journal.proofs.Changes.{entry_size}
 use Rattle.journal.proofs.Within.{rests_within}
 use Rattle.journal.proofs.Appended.{rests-either, append-either, append-kept}
+use Rattle.journal.proofs.Tails.{names_appended}
 use Rattle.journal.proofs.appending.append.Goals as goal
 
 pub returns-in_err-entry-clause-either : goal.returns-in_err-entry-clause-either
@@ -53,3 +54,23 @@ returns-clause-rests g c =
     append-kept old new (length durable) c.args.room c.args.position.pass c.args.position.words durable words lines r changed.lines_are
     (omega (arith, entry_size c.args.position.pass lines changed.lines_are, c.requires.within)) c.requires.same (λ word lt. changed.makes word (omega (arith, lt, c.requires.same)))
     (rw is at c.write.ensures.others) (rw is at c.in_ok-write.ensures.written))))
+
+pub returns-in_err-write-clause-tail : goal.returns-in_err-write-clause-tail
+returns-in_err-write-clause-tail g c =
+    let words = length c.args.durable.now in
+    let lines = c.args.changed.now in
+    let position = c.args.position in
+    let old = g.S.Storage.may_hold c.args.storage.now in
+    let new = g.S.Storage.may_hold c.write.new.self in
+    let is = c.as_slice.ensures.value ∙ c.in_ok-entry.ensures in
+    names_appended old new words c.args.room position.words position.pass lines c.requires.changed.lines_are c.requires.within (rw is at c.write.ensures.found)
+
+pub returns-clause-tail : goal.returns-clause-tail
+returns-clause-tail g c =
+    let words = length c.args.durable.now in
+    let lines = c.args.changed.now in
+    let position = c.args.position in
+    let old = g.S.Storage.may_hold c.args.storage.now in
+    let new = g.S.Storage.may_hold c.write.new.self in
+    let is = c.as_slice.ensures.value ∙ c.in_ok-entry.ensures in
+    names_appended old new words c.args.room position.words position.pass lines c.requires.changed.lines_are c.requires.within (rw is at c.write.ensures.found)

@@ -1,6 +1,7 @@
 use Rattle.std.proofs.Common.{inl, ◌≡◌, ◌++◌, ◌∙◌, length}
 use Rattle.std.proofs.Math.Logic.{∥∥₁_map}
 use Rattle.journal.proofs.Files.{clear as cleared, clear-opens, clear-kept, merely-opens, on_ok}
+use Rattle.journal.proofs.Tails.{names_cleared, names_clear, first_cleared}
 use Rattle.journal.proofs.rewriting.clear.Goals as goal
 
 pub returns-in_err-rest-clause-opens : goal.returns-in_err-rest-clause-opens
@@ -32,3 +33,29 @@ returns-clause-done g c =
     let new = g.S.Storage.may_hold c.put.new.storage in
     let is : c.as_slice.result.now ≡ cleared words c.args.room = c.as_slice.ensures.value ∙ c.in_ok-extend_from_slice.ensures.items ∙ (λ i. c.in_ok-rest.ensures.items_if_clones_equal (λ y e. e) i ++ c.tail.ensures i) in
     on_ok c.put.result (λ kept. ∥∥₁_map c.requires.known (λ known. clear-kept old new words c.args.room image known (rw is at c.put.ensures.puts) kept)) (rw is at c.put.ensures.kept)
+
+pub returns-clause-tail : goal.returns-clause-tail
+returns-clause-tail g c =
+    let image = c.args.image.now in
+    let words = length image in
+    let old = g.S.Storage.may_hold c.args.storage.now in
+    let new = g.S.Storage.may_hold c.put.new.storage in
+    let is : c.as_slice.result.now ≡ cleared words c.args.room = c.as_slice.ensures.value ∙ c.in_ok-extend_from_slice.ensures.items ∙ (λ i. c.in_ok-rest.ensures.items_if_clones_equal (λ y e. e) i ++ c.tail.ensures i) in
+    names_cleared old new words c.args.room (rw is at c.put.ensures.puts)
+
+pub returns-clause-named : goal.returns-clause-named
+returns-clause-named g c =
+    let image = c.args.image.now in
+    let words = length image in
+    let new = g.S.Storage.may_hold c.put.new.storage in
+    let is : c.as_slice.result.now ≡ cleared words c.args.room = c.as_slice.ensures.value ∙ c.in_ok-extend_from_slice.ensures.items ∙ (λ i. c.in_ok-rest.ensures.items_if_clones_equal (λ y e. e) i ++ c.tail.ensures i) in
+    on_ok c.put.result (names_clear new words c.args.room) (rw is at c.put.ensures.kept)
+
+pub returns-clause-first : goal.returns-clause-first
+returns-clause-first g c =
+    let image = c.args.image.now in
+    let words = length image in
+    let old = g.S.Storage.may_hold c.args.storage.now in
+    let new = g.S.Storage.may_hold c.put.new.storage in
+    let is : c.as_slice.result.now ≡ cleared words c.args.room = c.as_slice.ensures.value ∙ c.in_ok-extend_from_slice.ensures.items ∙ (λ i. c.in_ok-rest.ensures.items_if_clones_equal (λ y e. e) i ++ c.tail.ensures i) in
+    first_cleared old new words c.args.room (rw is at c.put.ensures.puts)

@@ -1,8 +1,9 @@
-use Rattle.std.proofs.Common.{◌≡◌, ◌∙◌, inl, inr, ◌-◌, ℕ, length, replicate, ap}
+use Rattle.std.proofs.Common.{◌≡◌, ◌∙◌, inl, inr, ◌-◌, ℕ, length, replicate, ap, arith}
 use Rattle.std.proofs.Math.Logic.{∥∥₁_map}
 use Rattle.journal.proofs.Files.{known-opens, merely-opens}
 use Rattle.journal.proofs.Within.{both_ok}
 use Rattle.journal.proofs.Turned.{fillings, fill-opens, fill-kept}
+use Rattle.journal.proofs.Tails.{names_before, names_filled}
 use Rattle.journal.proofs.rewriting.fill.Goals as goal
 
 pub returns-in_err-rest-clause-opens : goal.returns-in_err-rest-clause-opens
@@ -58,3 +59,28 @@ returns-clause-done g c =
     let keeps = rw is at c.in_ok-write.ensures.written in
     both_ok c.put.result (λ kept before. ∥∥₁_map c.requires.known (λ known.
     fill-kept old shown mid new words room position.pass position.words image c.requires.within (g.met.S.Storage.shown_is_found c.args.storage.now) known puts keeps before kept)) c.put.ensures.kept c.put.ensures.shown
+
+pub returns-in_err-write-clause-tail : goal.returns-in_err-write-clause-tail
+returns-in_err-write-clause-tail g c =
+    let image = c.args.image.now in
+    let words = length image in
+    let room = c.args.room in
+    let position = c.args.position in
+    let old = g.S.Storage.may_hold c.args.storage.now in
+    let new = g.S.Storage.may_hold c.write.new.self in
+    let is : c.as_slice.result.now ≡ fillings position.pass (room - position.words) =
+    c.as_slice.ensures.value ∙ c.in_ok-rest.ensures.items_if_clones_equal (λ y e. e) ∙ ap (λ (v : ℕ). replicate (room - position.words) v) c.bit_of.ensures in
+    names_filled old new words room position.words position.pass c.requires.within (rw is at c.write.ensures.found)
+
+pub returns-clause-tail : goal.returns-clause-tail
+returns-clause-tail g c names =
+    let image = c.args.image.now in
+    let words = length image in
+    let room = c.args.room in
+    let position = c.args.position in
+    let old = g.S.Storage.may_hold c.args.storage.now in
+    let mid = g.S.Storage.may_hold c.write.new.self in
+    let new = g.S.Storage.may_hold c.put.new.storage in
+    let is : c.as_slice.result.now ≡ fillings position.pass (room - position.words) =
+    c.as_slice.ensures.value ∙ c.in_ok-rest.ensures.items_if_clones_equal (λ y e. e) ∙ ap (λ (v : ℕ). replicate (room - position.words) v) c.bit_of.ensures in
+    names_before mid new words room 0 image (omega arith) c.put.ensures.puts (names_filled old mid words room position.words position.pass c.requires.within (rw is at c.write.ensures.found) names)

@@ -1,6 +1,7 @@
-use Rattle.std.proofs.Common.{length}
+use Rattle.std.proofs.Common.{length, arith}
 use Rattle.std.proofs.Math.Logic.{∥∥₁_map}
 use Rattle.journal.proofs.Files.{place-opens, place-kept, merely-opens, on_ok}
+use Rattle.journal.proofs.Tails.{names_before, first_before}
 use Rattle.journal.proofs.rewriting.put_in_place.Goals as goal
 
 pub returns-clause-opens : goal.returns-clause-opens
@@ -16,3 +17,17 @@ returns-clause-done g c =
     let old = g.S.Storage.may_hold c.args.storage.now in
     let new = g.S.Storage.may_hold c.put.new.storage in
     on_ok c.put.result (λ kept. ∥∥₁_map c.requires.known (λ known. place-kept old new (length image) c.args.room c.args.pass image known c.put.ensures.puts kept)) c.put.ensures.kept
+
+pub returns-clause-tail : goal.returns-clause-tail
+returns-clause-tail g c =
+    let image = c.args.image.now in
+    let old = g.S.Storage.may_hold c.args.storage.now in
+    let new = g.S.Storage.may_hold c.put.new.storage in
+    names_before old new (length image) c.args.room 0 image (omega arith) c.put.ensures.puts
+
+pub returns-clause-first : goal.returns-clause-first
+returns-clause-first g c =
+    let image = c.args.image.now in
+    let old = g.S.Storage.may_hold c.args.storage.now in
+    let new = g.S.Storage.may_hold c.put.new.storage in
+    first_before old new (length image) c.args.room 0 image (omega arith) c.put.ensures.puts

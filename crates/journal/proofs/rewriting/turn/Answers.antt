@@ -1,7 +1,9 @@
-use Rattle.std.proofs.Common.{length}
+use Rattle.std.proofs.Common.{length, inr, refl, not}
 use Rattle.std.proofs.Math.Logic.{∥∥₁_map}
 use Rattle.journal.proofs.Files.{merely-opens, on_ok}
 use Rattle.journal.proofs.Turned.{turn-opens, turn-kept}
+use Rattle.journal.specs.Files.{magic}
+use Rattle.journal.proofs.Tails.{names_over}
 use Rattle.journal.proofs.rewriting.turn.Goals as goal
 
 pub returns-clause-opens : goal.returns-clause-opens
@@ -19,3 +21,10 @@ returns-clause-done g c =
     let old = g.S.Storage.may_hold c.args.storage.now in
     let new = g.S.Storage.may_hold c.put.new.storage in
     on_ok c.put.result (λ kept. ∥∥₁_map c.requires.known (λ known. turn-kept old new words c.args.room c.args.pass image known (rw c.tail.ensures at c.put.ensures.puts) kept)) (rw c.tail.ensures at c.put.ensures.kept)
+
+pub returns-clause-tail : goal.returns-clause-tail
+returns-clause-tail g c =
+    let image = c.args.image.now in
+    let old = g.S.Storage.may_hold c.args.storage.now in
+    let new = g.S.Storage.may_hold c.put.new.storage in
+    names_over old new magic (length image) c.args.room (not c.args.pass) (inr refl) (rw c.tail.ensures at c.put.ensures.puts)

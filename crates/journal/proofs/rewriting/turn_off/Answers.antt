@@ -1,6 +1,7 @@
-use Rattle.std.proofs.Common.{length}
+use Rattle.std.proofs.Common.{length, inl, refl}
 use Rattle.std.proofs.Math.Logic.{∥∥₁_map}
 use Rattle.journal.proofs.Files.{off-opens, off-kept, merely-opens, on_ok}
+use Rattle.journal.proofs.Tails.{names_over, first_over}
 use Rattle.journal.proofs.rewriting.turn_off.Goals as goal
 
 pub returns-clause-opens : goal.returns-clause-opens
@@ -9,7 +10,7 @@ returns-clause-opens g c =
     let words = length image in
     let old = g.S.Storage.may_hold c.args.storage.now in
     let new = g.S.Storage.may_hold c.put.new.storage in
-    merely-opens new words c.args.room image c.requires.known (λ known. off-opens old new words c.args.room c.args.pass image known (rw c.tail.ensures at c.put.ensures.puts))
+    merely-opens new words c.args.room image c.requires.known (λ known. off-opens _ _ old new words c.args.room c.args.pass image known (rw c.tail.ensures at c.put.ensures.puts))
 
 pub returns-clause-done : goal.returns-clause-done
 returns-clause-done g c =
@@ -17,4 +18,18 @@ returns-clause-done g c =
     let words = length image in
     let old = g.S.Storage.may_hold c.args.storage.now in
     let new = g.S.Storage.may_hold c.put.new.storage in
-    on_ok c.put.result (λ kept. ∥∥₁_map c.requires.known (λ known. off-kept old new words c.args.room c.args.pass image known (rw c.tail.ensures at c.put.ensures.puts) kept)) (rw c.tail.ensures at c.put.ensures.kept)
+    on_ok c.put.result (λ kept. ∥∥₁_map c.requires.known (λ known. off-kept _ _ old new words c.args.room c.args.pass image known (rw c.tail.ensures at c.put.ensures.puts) kept)) (rw c.tail.ensures at c.put.ensures.kept)
+
+pub returns-clause-tail : goal.returns-clause-tail
+returns-clause-tail g c =
+    let image = c.args.image.now in
+    let old = g.S.Storage.may_hold c.args.storage.now in
+    let new = g.S.Storage.may_hold c.put.new.storage in
+    names_over old new 0 (length image) c.args.room c.args.pass (inl refl) (rw c.tail.ensures at c.put.ensures.puts)
+
+pub returns-clause-first : goal.returns-clause-first
+returns-clause-first g c first =
+    let words = length c.args.image.now in
+    let old = g.S.Storage.may_hold c.args.storage.now in
+    let new = g.S.Storage.may_hold c.put.new.storage in
+    first_over old new words c.args.room (rw first at (rw c.tail.ensures at c.put.ensures.puts))
