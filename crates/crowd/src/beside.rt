@@ -100,11 +100,11 @@ fn time_reads<H: Clock + Threads + Wait + Drop + Send + Sync>(
 
 // Reads a row for each of these numbers, in a snapshot of its own. Returns how many rows there were.
 fn read_each<R: Wait + Drop>(store: &Store<R>, reads: Range<u64>) -> Result<u64, StoreError> {
-    let mut found = 0;
+    let mut found: u64 = 0;
     for number in reads {
         let key = number.wrapping_mul(STRIDE) % KEYS;
         if store.read()?.number(key_of(key))?.is_some() {
-            found += 1;
+            found = found.saturating_add(1);
         }
     }
     Ok(found)
