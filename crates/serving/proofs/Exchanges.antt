@@ -32,13 +32,13 @@ made input left output sent from after frame asked told came is served (inr went
   refl,
 )
 
--- a request was answered
+-- a request had its reply
 pub request-answered : (input left output sent : Option (List ℕ)) (from after : Option ℕ) (got : Received) (request : Request) (told : Answer) → got ≡ received.Request request
     → Receives input left got → Serves from request told after → Sends output sent told → Exchanges input left output sent from after progress.Answered
 request-answered input left output sent from after got request told is came served went =
     made input left output sent from after (request_bytes request) (Some request) told (subst (λ (r : Received). Receives input left r) is came) refl served went
 
--- another frame was answered
+-- another frame had its reply
 pub other-answered : (input left output sent : Option (List ℕ)) (from : Option ℕ) (got : Received) → got ≡ received.Other
     → Receives input left got → Sends output sent answers.Misuse → Exchanges input left output sent from from progress.Answered
 other-answered input left output sent from got is came went =

@@ -1,4 +1,4 @@
--- What is answered where a transaction is open, and where none is.
+-- The replies with an open transaction and without one.
 use Rattle.std.proofs.Common.{◌≡◌, ℕ, None, Some, refl, sym, subst}
 use Rattle.std.specs.Prelude.{Option, option_map}
 use Rattle.requests.specs.declared.answer.Answer.{Answer}

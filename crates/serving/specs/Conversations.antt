@@ -1,4 +1,4 @@
--- What is said over a channel: each request and its answer, one after the other.
+-- What is said over a channel: each request and its reply, one after the other.
 use Rattle.std.specs.Prelude.{◌≡◌, ◌⊎◌, ◌<◌, ℕ, List, [], ◌∷◌, ◌++◌, length, flat_map, Option, Some, None}
 use Rattle.std.specs.Io.KnownBytes.{Appends, Consumes, IsAtEnd}
 use Rattle.requests.specs.Frames.{request_bytes, head_bytes, answer_bytes, frame_bytes, IsLong, IsRequestOf, Sends}
@@ -11,7 +11,7 @@ use Rattle.serving.specs.declared.channel.Progress.{Progress}
 use Rattle.serving.specs.declared.channel.Progress.TheVariants as progress
 use Rattle.serving.specs.Served.{Serves}
 
--- a frame that came, the request that it is, the answer, the bytes that went, and the session that is open then
+-- a frame that came, the request that it is, the reply, the bytes that went, and the session that is open then
 pub record Exchange : Type 0 where
   pub came : List ℕ
   pub request : Option Request
@@ -24,12 +24,12 @@ abbrev pub IsFrameOf : List ℕ → Option Request → Type 0
 IsFrameOf frame (Some request) = frame ≡ request_bytes request
 IsFrameOf frame None = (head : Head) × (payload : List ℕ) × (frame ≡ head_bytes head ++ payload) × (length payload ≡ head.length) × IsRequestOf head payload None
 
--- what is no request is misuse, and changes nothing
+-- a frame that isn't a request is misuse, and changes nothing
 abbrev pub ServesFrame : Option ℕ → Option Request → Answer → Option ℕ → Type 0
 ServesFrame prior (Some request) told after = Serves prior request told after
 ServesFrame prior None told after = (told ≡ answer.Misuse) × (after ≡ prior)
 
--- the bytes are those of the answer; or it takes memory, and they say that there is none
+-- the bytes are those of the reply; or it takes memory, and they say that there is none
 abbrev pub IsFrameSent : Answer → List ℕ → Type 0
 IsFrameSent answer frame = (frame ≡ answer_bytes answer) ⊎ (IsLong answer × (frame ≡ frame_bytes status.OutOfMemory 0 []))
 
@@ -50,7 +50,7 @@ pub record Converses (input left output sent : Option (List ℕ)) (prior after :
   pub went : Appends output sent (flat_map (λ e. e.went) exchanges)
   pub follows : Follows prior exchanges after
 
--- All that came was answered, but for less than a frame at the end of the input
+-- All that came had a reply, but for less than a frame at the end of the input
 pub record ServesAll (input left output sent : Option (List ℕ)) : Type 0 where
   pub before : Option (List ℕ)
   pub after : Option ℕ
@@ -65,7 +65,7 @@ abbrev pub Exchanges : Option (List ℕ) → Option (List ℕ) → Option (List 
 Exchanges input left output sent prior after progress.Answered = (e : Exchange) × IsExchange prior e × Consumes input left e.came × Appends output sent e.went × (after ≡ e.after)
 Exchanges input left output sent prior after progress.Ended = (rest : List ℕ) × Consumes input left rest × (length rest < 112) × IsAtEnd left × Appends output sent [] × (after ≡ prior)
 
--- the answer was sent
+-- the reply was sent
 abbrev pub Replies : Option (List ℕ) → Option (List ℕ) → Answer → Progress → Type 0
 Replies output sent told progress.Answered = Sends output sent told
 Replies output sent told progress.Ended = ⊥

@@ -4,6 +4,7 @@ use Rattle.requests.specs.declared.status.Status.TheVariants as status
 use Rattle.store.specs.declared.error.StoreError.{StoreError}
 
 abbrev pub status_of : StoreError → Status
+status_of (StoreError.Missing name) = status.NoStore
 status_of (StoreError.File name cause) = status.File
 status_of (StoreError.OtherLayout name found asked) = status.OtherLayout
 status_of (StoreError.Damaged name part) = status.Damaged

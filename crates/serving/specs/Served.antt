@@ -1,4 +1,4 @@
--- What a request is answered, and which session is open after it.
+-- The reply to a request, and which session is open after it.
 use Rattle.std.specs.Prelude.{◌≡◌, ◌+◌, ◌-◌, ◌^◌, ℕ, List, [], ◌∷◌, take, reverse, ⊤, Option, Some, None, Result, Ok, Err}
 use Rattle.base.specs.Layout.{row_limit}
 use Rattle.base.specs.declared.key.Key.{Key}
@@ -28,7 +28,7 @@ Begins answer.Done (Some session) = Answers Begin began_of (Ok session)
 Begins (answer.Refused status text) None = IsRefusedWith (λ error. Answers {A = ℕ} Begin began_of (Err error)) status
 Begins _ _ = ⊥
 
--- none is open, and the request is misuse; or one is, and the answer is what the store answers there
+-- none is open, and the request is misuse; or one is, and the reply is what the store returns there
 abbrev pub InOpen : (ℕ → Answer → Type 0) → Option ℕ → Answer → Type 0
 InOpen Fact None told = told ≡ answer.Misuse
 InOpen Fact (Some session) told = Fact session told
@@ -39,7 +39,7 @@ Gets key session (answer.Row row) = Answers (Get session key) row_of (Ok row)
 Gets key session (answer.Refused status text) = IsRefusedWith (λ error. Answers {A = Option (List ℕ)} (Get session key) row_of (Err error)) status
 Gets key session _ = ⊥
 
--- the row was put, where rows have at most some length
+-- the row was put, if it has at most the length that rows have
 abbrev pub PutsRow : Key → List ℕ → ℕ → Answer → Type 0
 PutsRow key row session answer.Done = (limit : ℕ) × Puts session key row limit (Ok tt)
 PutsRow key row session (answer.Refused status text) = (limit : ℕ) × IsRefusedWith (λ error. Puts session key row limit (Err error)) status
@@ -69,11 +69,11 @@ ScansPart part range session (answer.Rows rows) = OfScanned session range.table 
 ScansPart part range session (answer.Refused status text) = IsRefusedWith (ScanRefused session range.table range.least (range.greatest + 1)) status
 ScansPart part range session _ = ⊥
 
--- the first of them, at most so many
+-- the first of them, at most this many
 abbrev pub ScansFirst : KeyRange → ℕ → ℕ → Answer → Type 0
 ScansFirst range limit session answer = ScansPart (take limit) range session answer
 
--- the last of them, at most so many, the last one first
+-- the last of them, at most this many, the last one first
 abbrev pub ScansLast : KeyRange → ℕ → ℕ → Answer → Type 0
 ScansLast range limit session answer = ScansPart (λ all. take limit (reverse all)) range session answer
 
@@ -86,7 +86,7 @@ ShowsStatus _ = ⊥
 
 -- ---- each request
 
--- what a request is answered where this session is open, and which one is open then
+-- the reply to a request while this session is open, and which one is open then
 abbrev pub Serves : Option ℕ → Request → Answer → Option ℕ → Type 0
 Serves prior request.Begin answer after = Begins answer after
 Serves prior (request.Get key) answer after = InOpen (Gets key) prior answer × (after ≡ prior)

@@ -16,7 +16,7 @@ enum Progress {
     Ended,
 }
 
-/// Answers each request of the input, one after the other, up to its end. A frame that isn't a request is misuse, and one that can't
+/// Replies to each request of the input, one after the other, up to its end. A frame that isn't a request is misuse, and one that can't
 /// be read to its end is the error `InvalidData`. A transaction that is open at the end is rolled back.
 pub fn serve<R: Wait + Drop, I: Read, O: Write>(
     alloc: Global,
@@ -36,7 +36,7 @@ pub fn serve<R: Wait + Drop, I: Read, O: Write>(
     Err(io::Error::from(ErrorKind::Other))
 }
 
-// Answers the next request.
+// Replies to the next request.
 fn exchange<R: Wait + Drop, I: Read, O: Write>(
     alloc: Global,
     session: &mut Session<'_, R>,

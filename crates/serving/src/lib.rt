@@ -1,4 +1,4 @@
-//! Answers the requests of other programs over a store: each channel has at most one open transaction, and each request one answer.
+//! Replies to the requests of other programs over a store: each channel has at most one open transaction, and each request one reply.
 #![tactic(auto)]
 
 mod channel;

@@ -10,6 +10,7 @@ pub fn status_of(error: &StoreError) -> Status
     ensures { result ≡ status_of error.now }
 {
     match error {
+        StoreError::Missing { .. } => Status::NoStore,
         StoreError::File { .. } => Status::File,
         StoreError::OtherLayout { .. } => Status::OtherLayout,
         StoreError::Damaged { .. } => Status::Damaged,

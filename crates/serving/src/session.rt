@@ -32,7 +32,7 @@ impl<'a, R: Wait + Drop> Session<'a, R> {
         }
     }
 
-    /// The answer to a request. What needs an open transaction, and finds none, is misuse.
+    /// The reply to a request. What needs an open transaction, and finds none, is misuse.
     pub fn answer(&mut self, request: &Request) -> Answer
         ensures { Serves (option_map (λ t. t.snapshot.reads.session) self.old.current) request.now result (option_map (λ t. t.snapshot.reads.session) self.new.current) }
     {
