@@ -18,7 +18,7 @@ import sys
 ROOT = pathlib.Path(__file__).resolve().parent.parent
 CLEAN = (
     "README.md", "CONTRIBUTING.md", "docs/ARCHITECTURE.md", "docs/BENCHMARKS.md", "docs/COSTS.md", "docs/DECISIONS.md", "docs/DEFINITIONS.md",
-    "docs/FORMATS.md", "docs/GLOSSARY.md", "docs/KV.md", "docs/PROMISES.md", "docs/REFERENCE.md"
+    "docs/FORMATS.md", "docs/GLOSSARY.md", "docs/KV.md", "docs/PROMISES.md", "docs/REFERENCE.md", "docs/SPECIFICATIONS.md"
 )
 DOCUMENTS = ("README.md", "CONTRIBUTING.md", *sorted(f"docs/{path.name}" for path in (ROOT / "docs").glob("*.md")))
 HEADING = "| not | but | except |"

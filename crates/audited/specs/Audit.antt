@@ -1,4 +1,5 @@
--- What a history says about a room.
+-- What a history says about a room. All that is known of a value that comes out of a lock is its type. So a room's history carries with it
+-- that it is a run, and each session's receipts that they are entries of runs. Both grow for as long as the engine lives.
 use Rattle.std.specs.Prelude.{◌≡◌, ◌≢◌, ◌+◌, ◌≤◌, List, [], ◌∷◌, ◌++◌, length, ⊤}
 use Rattle.base.specs.declared.fault.Fault.TheVariants.{OutOfMemory, Device as DeviceFault}
 use Rattle.base.specs.declared.step.Step.{Step}
@@ -17,8 +18,10 @@ use Rattle.room.specs.Room.{Shows, ShowsStatus, device_of}
 use Rattle.room.specs.Runs.{OpensTo, RunOf}
 use Rattle.audited.specs.declared.receipt.Receipt.{Receipt}
 
--- The image opens, and whatever history it stands for, the state that it opens as has the numbers of opening, and the entries lead
--- from there to a state that the room shows. So each image that its device may leave now stands for that last state
+-- The image opens, and whatever history it stands for, the state that it opens as has the numbers of opening, and the entries lead from
+-- there to a state that the room shows. So each image that its device may leave now stands for that last state.
+-- Excluded: an entry that is dropped, invented or moved; a reply that the machine doesn't give; a room that was formatted or opened again
+-- unnoticed.
 pub record IsAudited {D : Type 0} {G : Ghosts D} (state : D → Device) (room : Room D G) (image : Image) (opening : Status) (entries : List (Step × Note)) : Type 0 where
   pub status : OpensTo image (λ q. ShowsStatus q opening)
   pub run : RunOf image entries (Shows state room)
@@ -27,7 +30,8 @@ pub record IsAudited {D : Type 0} {G : Ghosts D} (state : D → Device) (room : 
 abbrev pub HasHistory : {D : Type 0} → {G : Ghosts D} → (D → Device) → Room D G → Status → List (Step × Note) → Type 0
 HasHistory state room opening entries = (image : Image) × IsAudited state room image opening entries
 
--- a run from opening some image has as many entries as the receipt's place says, and then its step with its note
+-- a run from opening some image has as many entries as the receipt's place says, and then its step with its note. That it is a run of this
+-- very room is what `Agrees` of `engine` says.
 pub record IsLastOfRun (receipt : Receipt) : Type 0 where
   pub image : Image
   pub before : List (Step × Note)

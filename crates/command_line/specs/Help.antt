@@ -85,7 +85,8 @@ ReportsKind is (Help text) = is ≡ DisplayHelp
 ReportsKind is (BadWords text) = (is ≢ DisplayHelp) × (is ≢ kind.OutOfMemory)
 ReportsKind is (OutOfMemory error) = ⊤
 
--- if help is printed, the words may get it, and if bad words are reported, help isn't the one answer
+-- If help is printed, the words may get it, and if bad words are reported, help isn't the one answer.
+-- Excluded: a request for help that is blamed as bad words, and bad words that get help.
 abbrev pub AnswersHelp : List Text → WordFault → Type 0
 AnswersHelp words (Help text) = MayGetHelp words
 AnswersHelp words (BadWords text) = GetsHelp words → ⊥

@@ -16,7 +16,8 @@ pub record HoldsWords (file words : List ℕ) : Type 0 where
   pub size : length file ≡ 8 * length words
   pub each : (k : ℕ) → k < length words → slice_index words k ≡ little_number 8 (drop (8 * k) file)
 
--- the file has the bytes of this image, and the words that are read from it are the image's
+-- The file has the bytes of this image, and the words that are read from it are the image's.
+-- Excluded: a file that is written as one image and read as another.
 pub record IsFileOf (image file : List ℕ) : Type 0 where
   pub bytes : file ≡ bytes_of_words image
   pub holds : HoldsWords file image

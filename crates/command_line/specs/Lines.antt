@@ -117,7 +117,8 @@ has_outer_space line = slice_index line 0 == 32 || slice_index line (length line
 abbrev pub is_skipped : Text → Bool
 is_skipped line = length line == 0 || slice_index line 0 == 35
 
--- what a line is read as: `None` if it isn't a command, `Some None` if it is skipped
+-- What a line is read as: `None` if it isn't a command, `Some None` if it is skipped.
+-- Excluded: a command with a word too few or too many.
 abbrev pub line_of : Text → Option (Option Command)
 line_of line =
     if is_skipped line then Some None

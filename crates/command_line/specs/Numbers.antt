@@ -11,7 +11,8 @@ Text = List ℕ
 abbrev pub is_number_text : Text → Bool
 is_number_text text = not (length text == 0) && (nat_le (length text) 20 && all_ascii_digits text)
 
--- the number that a word writes, if it is below the limit
+-- The number that a word writes, if it is below the limit.
+-- Excluded: a sign; a number that wraps.
 abbrev pub number_below : ℕ → Text → Option ℕ
 number_below limit text =
     if is_number_text text && nat_lt (digits_value 10 text) limit then Some (digits_value 10 text) else None

@@ -12,7 +12,8 @@ abbrev pub row_text : List ℕ → Text
 row_text [] = codes "-"
 row_text (byte ∷ bytes) = encode_lower (byte ∷ bytes)
 
--- the row that a word writes, if it writes one
+-- The row that a word writes, if it writes one.
+-- Excluded: digits in upper case; a row that is cut short.
 abbrev pub row_of : Text → Option (List ℕ)
 row_of text =
     if bytes_eq text (codes "-") then Some []

@@ -114,7 +114,8 @@ lines_with slots places window lives = line.Geometry slots places window ∷ fla
 abbrev pub lines_of : Layout → List ScriptLife → List ScriptLine
 lines_of layout lives = lines_with layout.slots layout.places layout.window lives
 
--- the text spells these lives from a fresh image of this layout on
+-- The text spells these lives from a fresh image of this layout on.
+-- Excluded: a line that is left out or read twice.
 pub record SpellsScript (text : Text) (layout : Layout) (lives : List ScriptLife) : Type 0 where
   pub lines : AreReadAs (script_lines text) (lines_of layout lives)
   pub newest : layout.version ≡ plain_version
@@ -167,7 +168,8 @@ pub record IsFirstWrongLine (text : Text) (number : ℕ) : Type 0 where
   pub wrong : IsWrongAfter read line
   pub counted : number ≡ min (length before + 1) (2 ^ 64 - 1)
 
--- the line of this number is the first wrong one; or all lines are skipped, and then it is the first
+-- The line of this number is the first wrong one; or all lines are skipped, and then it is the first.
+-- Excluded: a later wrong line named.
 abbrev pub IsWrongLine : Text → ℕ → Type 0
 IsWrongLine text number = IsFirstWrongLine text number ⊎ (AreReadAs (script_lines text) [] × (number ≡ 1))
 

@@ -77,7 +77,9 @@ FindsNothing subcommand found = (order : Order) → FindsOrder subcommand found 
 abbrev pub FindsIn : Option (Text × List Row) → Order → Type 0
 FindsIn found order = IsSomeAnd found (λ subcommand. FindsOrder subcommand.0 subcommand.1 order)
 
--- clap takes the words, and the subcommand that it finds in them gives this order
+-- Clap takes the words, and the subcommand that it finds in them gives this order.
+-- Excluded: help that was asked for, or an option, taken as the name of a file; a second file; an option that is given twice, that the
+-- order leaves out, or that is another subcommand's.
 abbrev pub Gives : List Text → Order → Type 0
 Gives words order = (fault_of wbl words ≡ []) × FindsIn (subcommand_of wbl words) order
 

@@ -31,7 +31,7 @@ abbrev pub kept_by : Command → Option Survivor
 kept_by (Crash keeps) = Some keeps
 kept_by _ = None
 
--- what is kept if a command comes to this
+-- what is kept if this is the outcome of a command
 abbrev pub kept_of : Outcome → Option Survivor
 kept_of (Replied answer) = None
 kept_of (Crashed keeps) = Some keeps
@@ -63,8 +63,9 @@ pub record MeetsBadLine {D : Type 0} {G : Ghosts D} (state : D → Device) (room
   pub prints : Appends old new said
   pub obeys : (q : State) → Shows state room q → (q' : State) × ObeysLines q is.before said None q'
 
--- The image in the file opens, and whatever history it stands for, the lines before the bad one are run. No more is printed, except
--- this at the end
+-- The image in the file opens, and whatever history it stands for, the lines before the bad one are run. No more is printed, except this at
+-- the end.
+-- Excluded: another line named, or one past a crash.
 pub record EndsAtBadLine (file : List ℕ) (input old new : Option Text) (number : ℕ) (ended : Text) : Type 0 where
   pub is : IsBadLine input number
   pub begun : Text

@@ -15,7 +15,8 @@ checked_text r rows =
     ((sound_line r.gate r.persisted r.dirty r.gaps r.longs ++ 10 ∷ []) ++ entries_text rows) ++ (end_line (length rows) ++ 10 ∷ [])
 
 -- The file has the words of a sound image. What is printed is its ruling record, the rows of its tables by rising key, and how many they
--- are
+-- are.
+-- Excluded: a check of a damaged file that ends well.
 pub record PrintsChecked (file : List ℕ) (old new : Option Text) : Type 0 where
   pub size : is_image_length (length file) ≡ true
   pub image : Image

@@ -43,12 +43,14 @@ pub record IsFileWith (layout : Layout) (history : List Commit) (file : List ℕ
   pub of_image : IsFileOf image file
   pub keeps : KeepsHistory layout history image
 
--- the new file keeps whatever history the image in the old file stands for, with the layout that the image has once it is open
+-- The new file keeps whatever history the image in the old file stands for, with the layout that the image has once it is open.
+-- Excluded: a run that takes a covered commit out of the file; one that leaves a file of another geometry.
 pub record KeepsHistories (before after : List ℕ) : Type 0 where
   pub each : (image : Image) → HoldsWords before image → (history drawn : List Commit) (next : ℕ) → Stands image history drawn next
       → IsFileWith (opened_layout (layout_of image)) history after
 
--- what a subcommand leaves in FILE: a format the fresh image, a run and threads what keeps the histories
+-- What a subcommand leaves in FILE: a format the fresh image, a run and threads what keeps the histories.
+-- Excluded: a fresh image with more slots than an image may have.
 abbrev pub Leaves : Order → List ℕ → List ℕ → Type 0
 Leaves (Format name wide slots places window) before after = IsFileOf (fresh_image (asked_layout wide slots places window)) after
 Leaves (Run name) before after = KeepsHistories before after

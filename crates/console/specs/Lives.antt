@@ -52,8 +52,10 @@ pub record EndsOn (device : Device) (keeps : Option Survivor) (ended : Text) (fi
   pub ends : Ends q keeps ended file
 
 -- The image in the old file opens, and these lines of the input are read, a list that begins with the last. Whatever history the image
--- stands for, this is a life of it by them, and no more is printed. After a crash FILE has of each word of the life's device the
--- survivor that was asked for
+-- stands for, this is a life of it by them, and no more is printed. After a crash FILE has of each word of the life's device the survivor
+-- that was asked for. About a reader or writer whose bytes aren't known, such as the standard streams, nothing is said.
+-- Excluded: a line that is left out, run twice or out of order; a run over a damaged file that ends well; a life that ends as closed after
+-- a failing device.
 pub record Lives (before : List ℕ) (input old new : Option (List ℕ)) (after : List ℕ) : Type 0 where
   pub lines : List Text
   pub keeps : Option Survivor

@@ -42,7 +42,8 @@ abbrev pub Commits : State → ℕ → Reply → State → Type 0
 Commits q ticks answer q' =
     (more : ℕ) × Ticks step.Commit is_busy more q answer q' × (more ≤ ticks - 1) × ((more ≡ ticks - 1) ⊎ (is_busy answer ≡ false))
 
--- `cycle`: ticks up to the first that leaves no cycle under way, or to the greatest number of ticks
+-- `cycle`: ticks up to the first that leaves no cycle under way, or to the greatest number of ticks.
+-- Excluded: a cycle that ends at its first tick.
 abbrev pub Cycles : State → Reply → State → Type 0
 Cycles q answer q' =
     (more : ℕ) × Ticks step.Commit is_tick more q answer q' × (more ≤ 2 ^ 64 - 2) × ((more ≡ 2 ^ 64 - 2) ⊎ (is_tick answer ≡ false))
@@ -67,7 +68,8 @@ Answers q (asks.Collect visits) answer q' = Collects q visits answer q'
 Answers q asks.Cycle answer q' = Cycles q answer q'
 Answers q (asks.Crash keeps) answer q' = ⊥
 
--- what a command comes to. A crash is left to the end of the life
+-- The outcome of a command. A crash is left to the end of the life.
+-- Excluded: a reply that no step gave.
 abbrev pub HasOutcome : State → Command → Outcome → State → Type 0
 HasOutcome q command (Replied answer) q' = Answers q command answer q'
 HasOutcome q command (Crashed keeps) q' = (command ≡ asks.Crash keeps) × (q' ≡ q)

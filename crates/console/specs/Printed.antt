@@ -8,7 +8,8 @@ use Rattle.command_line.specs.declared.orders.Order.TheVariants.{Format, Run, Ch
 use Rattle.console.specs.Lives.{Lives}
 use Rattle.console.specs.Threads.{PrintsThreads}
 
--- what a subcommand that ends well prints
+-- What a subcommand that ends well prints.
+-- Excluded: lines that another subcommand than `run` swallows.
 abbrev pub Prints : Order → List ℕ → Option (List ℕ) → Option (List ℕ) → Option (List ℕ) → List ℕ → Type 0
 Prints (Format name wide slots places window) before input old new after =
     Appends old new ((codes "formatted " ++ (decimal (total_words (asked_layout wide slots places window)) ++ codes " words")) ++ 10 ∷ [])

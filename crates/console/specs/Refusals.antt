@@ -76,7 +76,7 @@ EndsRefused (Check name) file input old new fault ended = IsFileFault file IsDam
 EndsRefused (Threads name sessions commits) file input old new fault ended = IsFileFault file (IsThreadsFault sessions commits) fault × Appends old new ended
 EndsRefused (Lives name) file input old new fault ended = (fault ≡ BadGeometry) × HasBadGeometry file × Appends old new ended
 
--- the fault is lack of memory, or the subcommand's, and then its line ends what is printed
+-- The fault is lack of memory, or the subcommand's, and then its line ends what is printed. Device is never the fault.
 abbrev pub Refuses : Order → List ℕ → Option Text → Option Text → Option Text → Fault → Type 0
 Refuses order file input old new fault = (fault ≡ OutOfMemory) ⊎ EndsRefused order file input old new fault (refusal_line fault)
 

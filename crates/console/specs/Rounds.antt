@@ -1,4 +1,4 @@
--- How many visits of the collector are made instead of many, and what ticks of the committer after an idle one come to.
+-- How many visits of the collector are made instead of many, and the outcome of ticks of the committer after an idle one.
 use Rattle.std.specs.Prelude.{◌≡◌, ℕ, ◌+◌, ◌-◌, ◌%◌, nat_le, false, if◌then◌else◌}
 use Rattle.base.specs.declared.step.Step.TheVariants.{Commit}
 use Rattle.base.specs.declared.step.Reply.{Reply}

@@ -74,7 +74,7 @@ replies_text reported = flat_map (λ reply. answer_text reply ++ 10 ∷ []) repo
 abbrev pub opened_text : Opened → Text
 opened_text opened = opened_line opened.numbers.gate opened.numbers.persisted opened.numbers.dirty opened.next opened.gaps
 
--- the line of closing, or of its fault, if it was asked and was come to
+-- the line of closing, or of its fault, if it was asked for and reached
 abbrev pub closed_text : Option (Result Numbers Fault) → Text
 closed_text None = []
 closed_text (Some (Ok numbers)) = closed_line numbers.gate numbers.persisted numbers.dirty ++ 10 ∷ []
@@ -84,7 +84,7 @@ closed_text (Some (Err fault)) = refused_text fault ++ 10 ∷ []
 abbrev pub lived_text : Opened → LifeReport → Text
 lived_text opened report = ((opened_text opened ++ 10 ∷ []) ++ replies_text report.replies.items) ++ closed_text report.closed
 
--- what a life whose opening came to this prints
+-- what a life with this outcome of opening prints
 abbrev pub opening_text : Result Opened Fault → LifeReport → Text
 opening_text (Ok opened) report = lived_text opened report
 opening_text (Err fault) report = refused_text fault ++ 10 ∷ []
@@ -111,7 +111,8 @@ pub record PrintsReports (layout : Layout) (script : List ScriptLife) (old new :
   pub lived : AreLives layout lives reports
   pub prints : Appends old new (lives_text 1 reports)
 
--- the text spells lives, and they are lived and printed
+-- The text spells lives, and they are lived and printed.
+-- Excluded: replies of another life; a `commit` that is cut short while commits wait.
 pub record PrintsLives (text : Text) (old new : Option Text) : Type 0 where
   pub layout : Layout
   pub script : List ScriptLife

@@ -29,8 +29,10 @@ threads_text sessions commits rows =
     ++ ((end_line sessions ++ 10 ∷ []) ++ (codes "closed" ++ 10 ∷ []))
 
 -- The image in the file opens, and then two slots are free for each thread, and numbers are left for all commits. In a run from it each
--- thread made its commits, and all were acknowledged. In the end the file has an image as closing leaves it in the very state to which
--- that run came, and the rows that are printed are those of this image
+-- thread made its commits, and all were acknowledged. In the end the file has an image as closing leaves it in the very state to which that
+-- run came, and the rows that are printed are those of this image.
+-- Excluded: a commit that is counted and wasn't acknowledged, or is counted twice; commits that were reported and that FILE is left
+-- without; a step of a session that no thread has a receipt of.
 pub record PrintsThreads (sessions commits : ℕ) (before : List ℕ) (old new : Option Text) (after : List ℕ) : Type 0 where
   pub opens : FileOpensTo before (HasFree (2 * sessions))
   pub has_numbers : OpensTo opens.image (HasNumbers (sessions * commits))
@@ -54,7 +56,8 @@ IsLaterFault sessions commits image fault =
     ⊎ (OpensTo image (HasNumbers (sessions * commits))
     × (IsEngineFault image fault ⊎ MakesTo image sessions commits (λ q. closing_fault q ≡ Some fault)))
 
--- the image doesn't open; or two slots for each thread aren't free then; or they are, and it is a later fault
+-- The image doesn't open; or two slots for each thread aren't free then; or they are, and it is a later fault.
+-- Excluded: SlotsOut though the slots are free; a fault that no step was refused with.
 abbrev pub IsThreadsFault : ℕ → ℕ → Image → Fault → Type 0
 IsThreadsFault sessions commits image fault =
     (opening_fault image ≡ Some fault)

@@ -18,7 +18,8 @@ pub record ClosesRun (now : Device) (Is : State → Type 0) : Type 0 where
   pub taken : List (Step × Reply)
   pub run : RunOver opened before taken (λ q. LeavesOnly before now (StandsClosing q) × Is q)
 
--- a crash leaves an image that covers all that was covered and drawn
+-- a crash leaves an image that covers all that was covered and drawn.
+-- Excluded: closing that covers nothing.
 abbrev pub IsClosed : Device → State → Type 0
 IsClosed now q = (image : Image) → MayLeave now image → StandsClosed q image
 

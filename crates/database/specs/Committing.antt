@@ -44,8 +44,9 @@ abbrev pub IsWrite : ℕ → Key → Option (List ℕ) → Result ⊤ Fault → 
 IsWrite session key (Some row) result taken = IsPut session key row result taken
 IsWrite session key None result taken = IsStep (Delete session key) done_of result taken
 
--- These are the session's writes in their order, each of which was made, and nothing else; or those up to the first that was refused,
--- whose fault is returned
+-- These are the session's writes in their order, each of which was made, and nothing else; or those up to the first that was refused, whose
+-- fault is returned.
+-- Excluded: a write that is left out, made twice or out of order; one that is made after a refusal; a step of another session in between.
 abbrev pub AreWrites : ℕ → List (Key × Option (List ℕ)) → Result ⊤ Fault → List (Step × Reply) → Type 0
 AreWrites session [] result taken = (result ≡ Ok tt) × (taken ≡ [])
 AreWrites session (write ∷ others) result taken =
@@ -101,7 +102,8 @@ IsPrepared session result = EndsRun (IsPreparation session result)
 abbrev pub IsAcknowledged : ℕ → ℕ → Type 0
 IsAcknowledged session t = EndsRun (PollsAndEnds session t (Ok tt))
 
--- What a commit returns: None if nothing was written, and otherwise the timestamp that it drew, once that is covered
+-- What a commit returns: None if nothing was written, and otherwise the timestamp that it drew, once that is covered.
+-- Excluded: a timestamp that the poll reported and the draw didn't draw.
 abbrev pub ReportsCommit : ℕ → Option ℕ → Type 0
 ReportsCommit session None = IsPrepared session (Ok None)
 ReportsCommit session (Some t) = IsPrepared session (Ok (Some t)) × IsAcknowledged session t
@@ -154,7 +156,8 @@ IsReadOff ended refusals (Ok None) (Some (Err error)) = IsGivenUp ended refusals
 IsReadOff ended refusals (Ok None) None = (ended ≡ None) × (refusals ≤ most_refusals)
 IsReadOff ended refusals (Err fault) answer = answer ≡ Some (Err (Open fault))
 
--- the room that is there makes the session's finish, once, and its answer is read off that
+-- The room that is there makes the session's finish, once, and its answer is read off that.
+-- Excluded: OutOfMemory after the first refusal of memory.
 abbrev pub AnswersOnce : {D : Type 0} → {G : Ghosts D} → (D → Device) → Option (OpenedRoom D G) → Option (OpenedRoom D G) → ℕ → ℕ → Option (Result ℕ CommitError) → Type 0
 AnswersOnce state old new refusals session answer =
     (reported : Result (Option ℕ) Fault) × InRoom (λ before after. Finishes state before after session reported) old new × IsReadOff (ended_of new) refusals reported answer
@@ -219,11 +222,15 @@ IsSettledUpTo t = ComesTo (λ q. t ≤ q.ruling.persisted) ⊎ (((fault : Fault)
 abbrev pub MeetsConflictOn : ℕ → Key → Type 0
 MeetsConflictOn session key = (last : ℕ) × ConflictsAt session key last × IsSettledUpTo last
 
--- a conflict is reported only after that
+-- a conflict is reported only after that.
+-- Excluded: a conflict for which no draw was refused, or that is reported at once.
 abbrev pub ReportsLate : ℕ → CommitError → Type 0
 ReportsLate session error = (key : Key) → error ≡ Refused (Conflict key) → MeetsConflictOn session key
 
--- What an error says: the commit wasn't drawn and stamped, for the reason that its steps gave, or before them; or it was, and why it isn't acknowledged
+-- What an error says: the commit wasn't drawn and stamped, for the reason that its steps gave, or before them; or it was, and why it isn't
+-- acknowledged.
+-- Excluded: `Refused` of a commit that is drawn, unless no record number was left by the time of its poll; a poll before the end of the
+-- committer, after which a tick covered the commit; lack of memory that no draw and no tick met.
 abbrev pub ReportsError : ℕ → CommitError → Type 0
 ReportsError session error =
     (ReportsUnprepared session error × HasAborted session × ReportsLate session error) ⊎ ((t : ℕ) × IsPrepared session (Ok (Some t)) × GivesUp session error)

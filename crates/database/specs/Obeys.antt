@@ -1,4 +1,5 @@
--- What a call does to a room.
+-- What a call does to a room. A database keeps no history: the room under its lock carries with it that there is one. A contract can't
+-- relate what a lock holds to anything outside it, so it isn't excluded that the run is another database's.
 use Rattle.std.specs.Prelude.{◌≡◌, ◌≢◌, ◌⊎◌, ℕ, ◌+◌, Bool, true, List, [], ◌∷◌, length, map, replicate, ⊤, Option, Some, None, Result, Ok, Err}
 use Rattle.base.specs.declared.fault.Fault.{Fault}
 use Rattle.base.specs.declared.fault.Fault.TheVariants.{SlotsOut}
@@ -36,7 +37,8 @@ InRoom {D} {G} Makes old new = (before after : OpenedRoom D G) × (old ≡ Some 
 abbrev pub IsStep : {A : Type 0} → Step → (Reply → Result A Fault) → Result A Fault → List (Step × Reply) → Type 0
 IsStep step read result taken = (reply : Reply) × (taken ≡ (step, reply) ∷ []) × (result ≡ read reply)
 
--- a run from the opening of a device ends in such a step
+-- a run from the opening of a device ends in such a step.
+-- Excluded: an answer that no run gives, or to another session's step.
 abbrev pub AnswersStep : {A : Type 0} → Step → (Reply → Result A Fault) → Result A Fault → Type 0
 AnswersStep step read result = EndsRun (IsStep step read result)
 
@@ -54,7 +56,9 @@ RepeatsTimes state old new step count = (replies : List Reply) × (length replie
 abbrev pub CollectsAll : {D : Type 0} → {G : Ghosts D} → (D → Device) → Room D G → Room D G → Type 0
 CollectsAll state old new = (count : ℕ) × ((q : State) → Shows state old q → count ≡ q.layout.slots + 1) × RepeatsTimes state old new Collect count
 
--- The put is made, and isn't refused for lack of a slot; or it found none, the collector visited all its places, and the put is made after that
+-- The put is made, and isn't refused for lack of a slot; or it found none, the collector visited all its places, and the put is made after
+-- that.
+-- Excluded: a put that finds no slot and looks for none.
 abbrev pub PutsCollecting : {D : Type 0} → {G : Ghosts D} → (D → Device) → Room D G → Room D G → ℕ → Key → List ℕ → Result ⊤ Fault → Type 0
 PutsCollecting {D} {G} state old new session key row result =
     (Obeys state old new (Put session key row) done_of result × (result ≢ Err SlotsOut))
@@ -76,7 +80,8 @@ all_stamped (Err fault) = Err fault
 abbrev pub RepeatsAnswered : {D : Type 0} → {G : Ghosts D} → (D → Device) → Room D G → Room D G → Step → Reply → Type 0
 RepeatsAnswered state old new step reply = (count : ℕ) × LeadsAlong state old new (replicate count (step, reply))
 
--- The session stamps as long as that leaves more keys, and the last stamp reports that all keys are stamped, or why it was refused
+-- The session stamps as long as that leaves more keys, and the last stamp reports that all keys are stamped, or why it was refused.
+-- Excluded: a stamp whose refusal is ignored.
 abbrev pub StampsAll : {D : Type 0} → {G : Ghosts D} → (D → Device) → Room D G → Room D G → ℕ → Result ⊤ Fault → Type 0
 StampsAll {D} {G} state old new session result =
     (mid : Room D G) × RepeatsAnswered state old mid (Stamp session) More × Obeys state mid new (Stamp session) stamped_of (all_stamped result)

@@ -19,7 +19,8 @@ use Rattle.database.specs.declared.turns.Turn.{Turn}
 use Rattle.database.specs.declared.turns.Turn.TheVariants.{Idle, Finished, Flushed, LacksMemory, Stopped, Unfinished}
 use Rattle.database.specs.Obeys.{InRoom, ended_of}
 
--- the outcome of a turn that made a tick with this reply
+-- The outcome of a turn that made a tick with this reply.
+-- Excluded: a refusal after which those who wait sleep on.
 abbrev pub turn_of : Reply → Turn
 turn_of reply.Idle = Idle
 turn_of (Covered batch) = Finished
@@ -62,8 +63,9 @@ covered_since covered _ = covered
 abbrev pub GoesOn : Reply → Type 0
 GoesOn reply = (fault : Fault) → reply ≡ Refused fault → fault ≡ OutOfMemory
 
--- What isn't counted stays as it was: the commits that wait, the workers and whether they have to end, who leads, watches or syncs, and who has to be
--- woken
+-- What isn't counted stays as it was: the commits that wait, the workers and whether they have to end, who leads, watches or syncs, and who
+-- has to be woken.
+-- Excluded: a turn that counts a worker out, or forgets whom to wake.
 abbrev pub LeavesRest : {D : Type 0} → {G : Ghosts D} → Desk D G → Desk D G → Type 0
 LeavesRest old new =
     (new.group ≡ old.group) × (new.working ≡ old.working) × (new.closing ≡ old.closing)
@@ -74,8 +76,10 @@ LeavesRest old new =
 abbrev pub LeavesCounts : {D : Type 0} → {G : Ghosts D} → Desk D G → Desk D G → Type 0
 LeavesCounts old new = (new.covered ≡ old.covered) × (new.refusals ≡ old.refusals)
 
--- The room makes one tick of the committer, and nothing else. If it is refused, that is kept as the reason why the committer has ended, and nothing else is ever kept as
--- one; lack of memory doesn't end the committer. Refusals for it and the rows that the tick covered are counted. The outcome of the turn is read off the tick's reply
+-- The room makes one tick of the committer, and nothing else. If it is refused, that is kept as the reason why the committer has ended, and
+-- nothing else is ever kept as one; lack of memory doesn't end the committer. Refusals for it and the rows that the tick covered are
+-- counted. The outcome of the turn is read off the tick's reply.
+-- Excluded: commits that are counted instead of rows.
 pub record TicksOnce {D : Type 0} {G : Ghosts D} (state : D → Device) (old new : Desk D G) (result : Turn) : Type 0 where
   pub reply : Reply
   pub ticks : InRoom (λ before after. Leads state before after CommitTick reply) old.room new.room

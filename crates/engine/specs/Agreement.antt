@@ -35,7 +35,9 @@ IsOnceAt entries receipts place = (entry : Step × Note) → slice_get entries p
 abbrev pub AreOnce : List (Step × Note) → ℕ → ℕ → List Receipt → Type 0
 AreOnce entries first end receipts = (place : ℕ) → first ≤ place → place < end → IsOnceAt entries receipts place
 
--- the receipts are the list's session steps from the first place on
+-- The receipts are the list's session steps from the first place on.
+-- Excluded: a step that was reported to a session and that the room didn't make; a step that the room made for nobody; two receipts for one
+-- step; a session that is left out when the engine is closed.
 pub record Agrees (entries : List (Step × Note)) (first : ℕ) (receipts : List Receipt) : Type 0 where
   pub each : All (IsEntry entries first) receipts
   pub once : AreOnce entries first (length entries) receipts

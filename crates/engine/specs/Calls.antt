@@ -33,7 +33,8 @@ ReportsFault added fault = (fault ≡ OutOfMemory) ⊎ ReportsLast added (Refuse
 abbrev pub AreUncovered : List Receipt → Type 0
 AreUncovered added = All (λ r. (n : ℕ) → r.step ≡ Poll n → r.note ≡ Waiting) added
 
--- the fault is reported like that, or it is what ended the committer, and no poll reported that the commit is covered
+-- The fault is reported like that, or it is what ended the committer, and no poll reported that the commit is covered.
+-- Excluded: a fault of the committer that no tick was refused with, or of a commit that a poll reported as committed.
 abbrev pub ReportsEnd : (Fault → Type 0) → List Receipt → Fault → Type 0
 ReportsEnd Ended added fault = ReportsFault added fault ⊎ (Ended fault × AreUncovered added)
 
@@ -62,7 +63,8 @@ first_refusal (r ∷ rest) = option_or (refused_with r.note) (first_refusal rest
 abbrev pub HasNoOther : List Receipt → Fault → Type 0
 HasNoOther added fault = (first_refusal added ≡ None) ⊎ (first_refusal added ≡ Some fault)
 
--- at Ok no step was refused; if one was, the call fails with its fault
+-- At Ok no step was refused; if one was, the call fails with its fault.
+-- Excluded: a conflict, or a device that failed, that is reported as something else.
 abbrev pub ReportsRefusal : {X : Type 0} → List Receipt → Result X Fault → Type 0
 ReportsRefusal added (Ok x) = first_refusal added ≡ None
 ReportsRefusal added (Err fault) = HasNoOther added fault
@@ -97,7 +99,8 @@ abbrev pub ReportsStamped : List Receipt → Option ℕ → Type 0
 ReportsStamped added (Some t) = ReportsLast added AllStamped
 ReportsStamped added None = (r : Receipt) × (added ≡ r ∷ [])
 
--- The result is the draw's, by the first note or by an earlier call. All keys are stamped, by the last note or by an earlier call
+-- The result is the draw's, by the first note or by an earlier call. All keys are stamped, by the last note or by an earlier call.
+-- Excluded: a prepare that draws twice, or returns Ok while a key isn't stamped.
 abbrev pub ReportsPrepare : Phase → List Receipt → Option ℕ → Type 0
 ReportsPrepare (Active n) added answer = ReportsFirst added (note_of_draw answer) × ReportsStamped added answer
 ReportsPrepare (Drawn n t) added answer = (answer ≡ Some t) × ReportsStamped added answer
@@ -133,7 +136,8 @@ pub record AskCommit (phase : Phase) (added : List Receipt) : Type 0 where
   pub ends : All (λ r. r.step ≡ End (number_of phase)) end
   pub one_end : length end ≤ 1
 
--- a transaction was open, the note of its last poll is that of the result, and an end that was done follows it
+-- a transaction was open, the note of its last poll is that of the result, and an end that was done follows it.
+-- Excluded: a commit that no poll reported as committed; one that returns Ok and leaves its transaction open.
 pub record ReportsCommit (phase : Phase) (added : List Receipt) (answer : Option ℕ) : Type 0 where
   pub open_then : phase ≢ Idle
   pub before : List Receipt

@@ -44,7 +44,7 @@ wants_record reply ruling next window = wants_record_of reply ruling.dirty rulin
 
 -- ---- rounds of the collector
 
--- how many commits were covered then, of which enough make a round due
+-- how many commits were covered then, and enough of them make a round due
 abbrev pub covered_after : ℕ → Reply → ℕ
 covered_after covered (Covered batch) = min (covered + length batch.commits) (2 ^ 64 - 1)
 covered_after covered _ = covered
@@ -91,7 +91,9 @@ news_after old reply wants enough = record {
 }
 
 -- A record is needed or not, and this many covered commits are enough for a round. A tick is due if the reply or the record makes it due,
--- and a visit if a round goes on or falls due. What makes a further round due is counted from when one fell due
+-- and a visit if a round goes on or falls due. What makes a further round due is counted from when one fell due.
+-- Excluded: a commit that was stamped, or a refusal for lack of timestamps or slots, after which nobody works; covers that aren't counted,
+-- or are counted for two rounds; a worker that is woken for nothing.
 abbrev pub due_after : Due → Reply → Bool → ℕ → Due
 due_after old reply wants enough = record {
   tick = tick_after old.tick reply || wants;

@@ -45,7 +45,8 @@ pub record Makes {D : Type 0} {G : Ghosts D} (state : D → Device) (old new : A
   pub refused : IfNone receipt ((reply ≡ RefusedWith OutOfMemory) × (new.entries.items ≡ old.entries.items))
   pub stays : IfNone receipt ((q : State) → Shows state old.room q → Stays state old.room new.room step q)
 
--- the room was there and is still, and nothing but the step was made in it
+-- The room was there and is still, and nothing but the step was made in it.
+-- Excluded: a turn that makes two steps, or drops an entry.
 abbrev pub MakesOnly : {D : Type 0} → {G : Ghosts D} → (D → Device) → Option (Audited D G) → Option (Audited D G) → Step → Reply → Option Receipt → Type 0
 MakesOnly state (Some old) (Some new) step reply receipt = Makes state old new step reply receipt
 MakesOnly state _ _ step reply receipt = ⊥

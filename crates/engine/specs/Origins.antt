@@ -15,7 +15,9 @@ use Rattle.room.specs.Runs.{RunOf}
 use Rattle.audited.specs.Audit.{IsAudited}
 use Rattle.audited.specs.declared.audited.Audited.{Audited}
 
--- the room's history is a run from this image
+-- The room's history is a run from this image. An engine's start requires it of the image that its type names, and its close ensures it of
+-- the same image.
+-- Excluded: a room that wasn't run on from the one that was lent.
 abbrev pub IsFrom : {D : Type 0} → {G : Ghosts D} → (D → Device) → Image → Audited D G → Type 0
 IsFrom state image audited = ∥ IsAudited state audited.room image audited.opening audited.entries.items ∥₁
 

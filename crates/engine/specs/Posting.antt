@@ -58,7 +58,7 @@ Tries old new None (Again None) = new ≡ old
 Tries old new None (Again (Some left)) = ⊥
 Tries old new None Unfit = ⊥
 
--- What a try that prunes afterwards comes to. At Done all is published, and pruned. For lack of memory nothing is lost: the batch comes
+-- The outcome of a try that prunes afterwards. At Done all is published, and pruned. For lack of memory nothing is lost: the batch comes
 -- back and the board is as before, or the batch waits there. A batch that may not come next changes nothing
 abbrev pub Posts : Shown → Shown → Option Batch → Posting → Type 0
 Posts old new batch Done = new ≡ posted old batch
@@ -80,13 +80,14 @@ batch_of (Announced due) = None
 
 -- ---- a worker's turn
 
--- if the note says that a record covered its batch, a step after a run from the image covered it, and the list ends in it
+-- If the note says that a record covered its batch, a step after a run from the image covered it, and the list ends in it.
+-- Excluded: a batch that is published with other commits or rows than the room covered.
 abbrev pub IsPosted : Image → Note → Option Published → Type 0
 IsPosted image (Covered stamp) (Some list) = (batch : Batch) × (batch.stamp ≡ stamp) × HasCovered image batch × EndsIn list batch
 IsPosted image (Covered stamp) None = ⊥
 IsPosted image _ list = Unit {0}
 
--- what a tick came to: its receipt has its reply's note, and a batch that it covered is one that a step after a run from the image covers
+-- the outcome of a tick: its receipt has its reply's note, and a batch that it covered is one that a step after a run from the image covers
 pub record IsTurn (image : Image) (made : Reply × Option Receipt) : Type 0 where
   pub note : IfSome made.1 (λ receipt. receipt.note ≡ note_of made.0)
   pub covered : (batch : Batch) → made.0 ≡ CoveredBy batch → HasCovered image batch

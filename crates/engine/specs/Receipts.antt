@@ -20,7 +20,8 @@ abbrev pub rises : ℕ → List Receipt → Bool
 rises least [] = true
 rises least (r ∷ rs) = nat_le least r.place && rises (r.place + 1) rs
 
--- the step was asked, and its reply has this note: there is one more receipt, which is the last of a run
+-- The step was asked, and its reply has this note: there is one more receipt, which is the last of a run.
+-- Excluded: another step than the one that was asked.
 pub record Asks (old new : List Receipt) (step : Step) (note : Note) : Type 0 where
   pub receipt : Receipt
   pub added : new ≡ old ++ receipt ∷ []
@@ -32,7 +33,8 @@ pub record Asks (old new : List Receipt) (step : Step) (note : Note) : Type 0 wh
 abbrev pub Refuses : List Receipt → List Receipt → Step → Fault → Type 0
 Refuses old new step fault = ((new ≡ old) × (fault ≡ OutOfMemory)) ⊎ Asks old new step (Refused fault)
 
--- a transaction is open, and the reply to its step has this note
+-- a transaction is open, and the reply to its step has this note.
+-- Excluded: an answer that belongs to another note.
 abbrev pub Answers : Phase → List Receipt → List Receipt → Step → Note → Type 0
 Answers phase old new step note = (phase ≢ Idle) × Asks old new step note
 

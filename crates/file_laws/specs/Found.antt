@@ -28,7 +28,8 @@ abbrev pub MayRule : State → List State → Cover → Type 0
 MayRule q [] cover = Contains (covers_at q) cover
 MayRule q (q' ∷ states) cover = Contains (covers_within q q') cover ⊎ MayRule q' states cover
 
--- of all that may rule along a run, two with one gate are one: the same record, over the same commits
+-- Of all that may rule along a run, two with one gate are one: the same record, over the same commits.
+-- Excluded: one number that is written twice, over other commits.
 abbrev pub OneCoverAGate : Type 0
 OneCoverAGate = (q : State) (steps : List Step) (replies : List Reply) (states : List State) → IsNumbered q → Run q steps replies states
     → (cover other : Cover) → MayRule q states cover → MayRule q states other → cover.ruled_by.gate ≡ other.ruled_by.gate → cover ≡ other
@@ -40,8 +41,10 @@ ClosesAbove = (q : State) (steps : List Step) (replies : List Reply) (states : L
 
 -- ---- what is found
 
--- What is found where all stopped at that moment: an image that a crash might have left at some moment from `since` on up to
--- then, and each word of its superblock and each gate is one that a crash at that very moment might have left
+-- What is found if all stopped at that moment: an image that a crash might have left at some moment from `since` on up to then, and each
+-- word of its superblock and each gate is one that a crash at that very moment might have left. It stands for the same as what a crash at
+-- that very moment leaves, even though its other words may be older (`found_images_stand`).
+-- Excluded: a found image that stands for less than what was covered by then.
 pub record IsFound (layout : Layout) (device : Device) (since moment : ℕ) (image : Image) : Type 0 where
   pub before : ℕ
   pub from : since ≤ before

@@ -27,10 +27,11 @@ IsPut start count bytes word x = (start ≤ word) × (word < start + count) × (
 abbrev pub IsOutside : ℕ → ℕ → ℕ → Type 0
 IsOutside start count word = (word < start) ⊎ (start + count ≤ word)
 
--- What a word may be after these calls, the last one first, if `before` says what it might be when the file was opened. A write
--- that failed may have written any of its words. After a sync that failed each word may still be as it might be found before, and also
--- when it is read: the system may take for written what the disk does not have. A change of the length leaves each word before the new
--- end as it was; behind it a word may be anything.
+-- What a word may be after these calls, the last one first, if `before` says what it might be when the file was opened. A write that failed
+-- may have written any of its words. After a sync that failed each word may still be as it might be found before, and also when it is read:
+-- the system may take for written what the disk does not have. So only writing again narrows what it may be. A change of the length leaves
+-- each word before the new end as it was; behind it a word may be anything.
+-- Excluded: a sync that isn't made and counts as one; a write that is left out.
 abbrev pub HasAfter : (ℕ → ℕ → Type 0) → View → List Call → ℕ → ℕ → Type 0
 HasAfter before view [] word x = before word x
 HasAfter before Shown (Writing start count bytes true ∷ calls) word x = IsPut start count bytes word x ⊎ (IsOutside start count word × HasAfter before Shown calls word x)

@@ -25,8 +25,9 @@ IsAt lines ticks writing WriteRecord = (ticks ≡ 2 + length lines + operations_
 abbrev pub IsAfter : List ℕ → ℕ → Cycling → Type 0
 IsAfter lines ticks cycle = IsAt lines ticks cycle.writing cycle.stage
 
--- A cycle of rising lines has flushed each of them once, in order, and then fenced, and then made the operations of its
--- record's writing in order: its last operation is made after as many ticks as there are lines, and 41 more
+-- A cycle of rising lines has flushed each of them once, in order, and then fenced, and then made the operations of its record's writing in
+-- order: its last operation is made after as many ticks as there are lines, and 41 more.
+-- Excluded: a line of a batch that is left out, met twice or flushed twice.
 pub record TicksAreCounted : Type 0 where
   pub begins : (lines : List ℕ) (cycle : Cycling) → cycle.stage ≡ FlushLines 0 0 → cycle.writing.stage ≡ StoreBody 1 → IsAfter lines 1 cycle
   pub goes_on : (lines : List ℕ) (ticks : ℕ) (cycle : Cycling) → IsTrue (are_rising lines) → cycle.writing.stage ≢ Done → IsAfter lines ticks cycle → IsAfter lines (ticks + 1) (ticked_in lines cycle)

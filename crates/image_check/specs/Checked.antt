@@ -13,7 +13,8 @@ pub record ListsTables (image : Image) (rows : List (Key × List ℕ)) : Type 0 
   pub lists : Lists rows tables
   pub of_image : (key : Key) (row : List ℕ) → TablesOf image key row ↔ (tables key ≡ Some row)
 
--- the image is sound; these are the numbers, the gaps and the long commits of its ruling record, and these its rows
+-- The image is sound; these are the numbers, the gaps and the long commits of its ruling record, and these its rows.
+-- Excluded: a row that is left out; the numbers of another record.
 pub record Reports (image : Image) (gate persisted dirty : ℕ) (gaps : List Gap) (longs : List ℕ) (rows : List (Key × List ℕ)) : Type 0 where
   pub sound : IsSound image
   pub gate_is : gate ≡ (ruling image).gate

@@ -10,7 +10,8 @@ abbrev pub is_listed : List ℕ → ℕ → Bool
 is_listed [] number = false
 is_listed (first ∷ numbers) number = (first == number) || is_listed numbers number
 
--- the image has other words than these in the lines of these numbers alone
+-- The image has other words than these in the lines of these numbers alone.
+-- Excluded: a line left out of an entry.
 pub record DiffersIn (numbers words image : List ℕ) : Type 0 where
   pub size : length image ≡ length words
   pub others : (word : ℕ) → word < length words → is_listed numbers (word / 8) ≡ false → slice_index image word ≡ slice_index words word

@@ -33,7 +33,8 @@ is_on words room file = slice_index file (words + room) == magic
 abbrev pub lines_in : ℕ → ℕ → List ℕ → List Line
 lines_in words room file = if is_on words room file then lines_found (pass_of (slice_index file (words + room + 3))) (journal_in words room file) else []
 
--- the file stands for this image
+-- The file stands for this image: if the journal counts, for the image in place with the lines of the journal's entries put over it, and
+-- otherwise for the image in place alone.
 pub record Opens (words room : ℕ) (file image : List ℕ) : Type 0 where
   pub size : length image ≡ words
   pub each : (word : ℕ) → word < words → slice_index image word ≡ put_over (lines_in words room file) word (slice_index file word)
@@ -52,11 +53,13 @@ pub record IsStoodFor (may_hold : ℕ → ℕ → Type 0) (words room : ℕ) (im
   pub found : IsFound may_hold (words + room + 8) file
   pub opens : Opens words room file image
 
--- the image that was kept last, or one that a file stands for which may be found
+-- The image that was kept last, or one that a file stands for which may be found.
+-- Excluded: an entry that isn't written, or is put over the image only in part.
 abbrev pub MayBe : (ℕ → ℕ → Type 0) → ℕ → List ℕ → List ℕ → Type 0
 MayBe may_hold room durable image = (image ≡ durable) ⊎ IsStoodFor may_hold (length durable) room image
 
--- what is found now stands for an image that might have been found before
+-- What is found now stands for an image that might have been found before. So neither opening nor closing can fail and leave half a
+-- journal.
 abbrev pub StandsAmong : (ℕ → ℕ → Type 0) → (ℕ → ℕ → Type 0) → ℕ → List ℕ → Type 0
 StandsAmong before now room durable = (image : List ℕ) → IsStoodFor now (length durable) room image → MayBe before room durable image
 

@@ -14,7 +14,7 @@ last_image images = images.written.items
 abbrev pub room_of : {S P : Type 0} → {H : Ghosts S P} → JournaledImages S P H → ℕ
 room_of images = images.room
 
--- where they are kept
+-- the storage that they are kept in
 abbrev pub storage_of : {S P : Type 0} → {H : Ghosts S P} → JournaledImages S P H → S
 storage_of images = images.storage
 

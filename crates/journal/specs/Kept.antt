@@ -12,7 +12,7 @@ abbrev pub is_put_at : List Line → ℕ → Bool
 is_put_at [] number = false
 is_put_at (line ∷ lines) number = (line.number == number) || is_put_at lines number
 
--- nothing but these values is found of the first `count` words
+-- Nothing but these values is found of the first `count` words. A device requires this at the start.
 abbrev pub HoldsOnly : (ℕ → ℕ → Type 0) → ℕ → List ℕ → Type 0
 HoldsOnly may_hold count words = (word x : ℕ) → word < count → may_hold word x → x ≡ slice_index words word
 

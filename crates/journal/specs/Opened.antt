@@ -30,11 +30,13 @@ AreLines lines = All (λ line. IsLine line) lines
 abbrev pub OpensTo : Bool → List ℕ → List ℕ → List Line → List ℕ → Type 0
 OpensTo pass found words lines image = (word : ℕ) → opened pass found words word ≡ put_over lines word (slice_index image word)
 
+-- At each instant the file stands for the same image, except that an append may or may not have counted.
+-- Excluded: a journal that is cleared while it counts; a pass that begins while words of its own are left from before.
 pub record FileStates : Type 0 where
   -- at rest
   pub ready : (pass : Bool) (entries : List (List Line)) (image old : List ℕ) → AreLines (all_lines entries) → NoneOf pass old
       → OpensTo pass image (journal_of pass entries old) (all_lines entries) image
-  -- while lines are appended as an entry: all of them, where all of it is there, or none
+  -- while lines are appended as an entry: all of them if all of it is there, otherwise none
   pub appending : (pass : Bool) (entries : List (List Line)) (changed : List Line) (image old words : List ℕ) → AreLines (all_lines entries) → AreLines changed → NoneOf pass old
       → IsMixture old (entry pass (payloads_of_lines changed)) words
       → ((words ≡ over (entry pass (payloads_of_lines changed)) old) × OpensTo pass image (journal_of pass entries words) (all_lines entries ++ changed) image)

@@ -8,11 +8,12 @@ use Rattle.journal.specs.Files.{lines_in, Opens, StandsAs}
 abbrev pub IsReadWord : ℕ → List ℕ → ℕ → ℕ → Type 0
 IsReadWord words file word x = (words ≤ word) × (word < length file) × (x ≡ slice_index file word)
 
--- nothing but what was read is found of the journal and the tail; of the words in place nothing is said
+-- Nothing but what was read is found of the journal and the tail; of the words in place nothing is said. Opening requires this.
 abbrev pub IsReadBack : (ℕ → ℕ → Type 0) → ℕ → ℕ → List ℕ → Type 0
 IsReadBack may_hold words room file = (word x : ℕ) → words ≤ word → word < words + room + 8 → may_hold word x → x ≡ slice_index file word
 
--- whatever a word in place is found as, the lines of the journal make the same of it as of the one that was read
+-- Whatever a word in place is found as, the lines of the journal make the same of it as of the one that was read. Then opening can't fail
+-- and leave half a journal. It is so of files whose journal decides (`JournalDecides`).
 abbrev pub StandsStill : (ℕ → ℕ → Type 0) → ℕ → ℕ → List ℕ → Type 0
 StandsStill may_hold words room file = (word x : ℕ) → word < words → may_hold word x → put_over (lines_in words room file) word x ≡ put_over (lines_in words room file) word (slice_index file word)
 

@@ -10,7 +10,8 @@ pub record IsTailWord (words room place x : ℕ) : Type 0 where
   pub pass : place ≡ 3 → x < 2
   pub others : 4 ≤ place → x ≡ 0
 
--- of the tail nothing is found but words of one that names both
+-- Of the tail nothing is found but words of one that names both, so the next opening finds the same two.
+-- Excluded: a tail that is turned off or on under other names, after which no opening finds the image.
 abbrev pub NamesBoth : (ℕ → ℕ → Type 0) → ℕ → ℕ → Type 0
 NamesBoth may_hold words room = (place x : ℕ) → place < 8 → may_hold (words + room + place) x → IsTailWord words room place x
 

@@ -24,8 +24,9 @@ pub record Keeps (layout : Layout) (asked : List Asked) (reports : List Report) 
   pub left_out : StayOut last
   pub once : RiseBetween 1 (drawn_over reports) last.next
 
--- the reports are those of a chain of lives, asked as these, from a fresh image of the layout on; each was stopped within its
--- fuse, and left what its choice names
+-- The reports are those of a chain of lives, asked as these, from a fresh image of the layout on; each was stopped within its fuse, and
+-- left what its choice names.
+-- Excluded: a life that opens the image before the last one; replies after a failing device; closing that was asked for and isn't reported.
 pub record AreLives (layout : Layout) (lives : List Life) (reports : List LifeReport) : Type 0 where
   pub last : World
   pub plain : List Report  -- the same reports, with each reply

@@ -30,8 +30,9 @@ IsReported replies None = replies ≡ []
 IsReported replies (Some answer) =
     (before : List Reply) × (more : ℕ) × All (λ reply. is_final reply ≡ false) before × (replies ≡ before ++ replicate (suc more) answer)
 
--- the same of steps that follow each other, up to the one in which the device failed: each has as many replies as it is asked for,
--- except for that one
+-- The same of steps that follow each other, up to the one in which the device failed: each has as many replies as it is asked for, except
+-- for that one.
+-- Excluded: a step that is taken less often; a refusal that a later reply hides.
 abbrev pub AreReported : List Repeated → List Reply → List (Option Reply) → Type 0
 AreReported [] replies kept = (replies ≡ []) × (kept ≡ [])
 AreReported (asked ∷ more) replies [] = ⊥

@@ -75,7 +75,7 @@ abbrev pub LivesOn : Device → World → Life → LifeReport → List Reply →
 LivesOn begun before life report replies last =
     FailsOn begun before report last ⊎ ((q : State) × (opened : Device) × OpensOn begun before q opened × PlaysOn q opened life report replies last)
 
--- ---- where it was stopped
+-- ---- how it was stopped
 
 -- closing reports that the device failed
 abbrev pub ClosesWithDevice : Option (Result Numbers Fault) → Type 0
@@ -85,9 +85,10 @@ ClosesWithDevice closed = closed ≡ Some (Err DeviceFault)
 abbrev pub ReportsDevice : LifeReport → Type 0
 ReportsDevice report = (report.opening ≡ Err DeviceFault) ⊎ Contains report.replies.items (Some (Refused DeviceFault)) ⊎ ClosesWithDevice report.closed
 
--- The life led from the device that was made of the image, with the life's fuse, to the one that was stopped: it made no more
--- operations than the fuse allows, and exactly as many if the report says that the device failed, as it does if an
--- operation failed. The stop left of each word the survivor that the life's choice names
+-- The life led from the device that was made of the image, with the life's fuse, to the one that was stopped: it made no more operations
+-- than the fuse allows, and exactly as many if the report says that the device failed, as it does if an operation failed. The stop left of
+-- each word the survivor that the life's choice names.
+-- Excluded: a report of a life that its device didn't live; a fuse that is ignored, or blows early; lack of memory taken for the fuse.
 pub record IsStopped (life : Life) (report : LifeReport) (replies : List Reply) (before : World) (left : Image) : Type 0 where
   pub last : Device
   pub lives : LivesOn (limited life.fuse (restarted before.image)) before life report replies last

@@ -46,7 +46,7 @@ pub data Opening : Type 0 where
 pub record Report : Type 0 where
   pub opening : Opening
   pub replies : List Reply
-  pub closed : Option (Result Numbers Fault)  -- the numbers after a close, or its fault; none where it wasn't asked or not come to
+  pub closed : Option (Result Numbers Fault)  -- the numbers after closing, or its fault; none if it wasn't asked for or not reached
 
 -- what is requested of a life: steps, and whether it closes
 pub record Asked : Type 0 where

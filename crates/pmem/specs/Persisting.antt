@@ -1,4 +1,4 @@
--- The operations by which words come to persist: they are stored, their lines are flushed, and a fence waits.
+-- The operations that make words persist: they are stored, their lines are flushed, and a fence waits.
 use Rattle.std.specs.Prelude.{ℕ, ◌+◌, ◌/◌, List, [], ◌∷◌, ◌++◌, map}
 use Rattle.std.specs.List.{range_with_len}
 use Rattle.pmem.specs.Trace.{Operation, store_op, flush_op, fence_op}

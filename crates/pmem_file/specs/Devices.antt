@@ -17,7 +17,7 @@ state_of device = device_of device.trace
 abbrev pub kept_at : {I P : Type 0} → {H : Ghosts I P} → JournaledPmem I P H → ℕ
 kept_at device = (device_of device.kept.value).clock
 
--- where its image is kept
+-- the images that it keeps
 abbrev pub images_of : {I P : Type 0} → {H : Ghosts I P} → JournaledPmem I P H → I
 images_of device = device.images
 
@@ -47,7 +47,7 @@ last_image device = journal.last_image device.images
 abbrev pub MayFindIn : {S P Q : Type 0} → {G : StorageGhosts S P} → {H : Ghosts (JournaledImages S P G) Q} → (S → ℕ → ℕ → Type 0) → JournaledPmem (JournaledImages S P G) Q H → List ℕ → Type 0
 MayFindIn may_hold device image = journal.MayFind may_hold device.images image
 
--- where they are kept
+-- the storage that they are kept in
 abbrev pub storage_of : {S P Q : Type 0} → {G : StorageGhosts S P} → {H : Ghosts (JournaledImages S P G) Q} → JournaledPmem (JournaledImages S P G) Q H → S
 storage_of device = journal.storage_of device.images
 

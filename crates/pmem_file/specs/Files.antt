@@ -4,7 +4,8 @@ use Rattle.file_words.specs.Accounts.{Anything, shown_is_held}
 use Rattle.file_words.specs.Calls.{account_of, calls_of, held_by, shown_by}
 use Rattle.pmem_file.specs.declared.storage.FileStorage.{FileStorage}
 
--- by the file's account, the word may have this value once all has stopped
+-- By the file's account, the word may have this value once all has stopped.
+-- Excluded: a device taken for open whose file may still stand for another image.
 abbrev pub held_in : FileStorage → ℕ → ℕ → Type 0
 held_in storage = held_by (account_of storage.file)
 

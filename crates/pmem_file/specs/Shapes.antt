@@ -34,7 +34,8 @@ whole shape = shape.words + shape.room + 8
 abbrev pub padded : Shape → List ℕ → List ℕ
 padded shape words = words ++ replicate (whole shape - length words) 0
 
--- the words have this shape: padded, they stand for an image of a layout with its places
+-- The words have this shape: padded, they stand for an image of a layout with its places.
+-- Excluded: a device opened with places that aren't those of its image's layout.
 pub record HasShape (asked : Option Layout) (words : List ℕ) (shape : Shape) : Type 0 where
   pub fits : whole shape < 2 ^ 58
   pub within : length words ≤ whole shape
@@ -111,11 +112,12 @@ pub record IsGrown (size : ℕ) (words : List ℕ) : Type 0 where
   pub whole_is : length words ≡ size + room + 8
   pub behind : IsNothingBehind size room (drop size words)
 
--- one of these, or an image alone, as closing leaves it
+-- One of these, or an image alone, as closing leaves it. For such words a shape is found, and only lack of memory is reported.
+-- Excluded: a file of ours that is rejected.
 abbrev pub IsOurs : Option Layout → List ℕ → Type 0
 IsOurs asked words = ((layout : Layout) × IsImageOf asked layout words) ⊎ (IsJournaled asked words ⊎ IsGrowing asked words)
 
--- what is reported where memory is refused
+-- what is reported if memory is refused
 unfoldable pub IsForMemory : OpenError → Type 0
 IsForMemory (Io error) = error_kind error ≡ OutOfMemory
 IsForMemory _ = ⊥

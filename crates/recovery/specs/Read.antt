@@ -18,15 +18,16 @@ row_at image slot = if is_shown (ruling image) image slot then (key_of image slo
 unfoldable pub rows_below : Image → ℕ → List (Key × List ℕ)
 rows_below image n = flat_map (row_at image) (range_with_len 0 n)
 
--- the image is sound, and has this layout, this ruling record, and these keys and rows in its live slots
+-- The image is sound, and has this layout, this ruling record, and these keys and rows in its live slots.
+-- Excluded: a damaged image that is read.
 pub record IsRead (image : Image) (layout : Layout) (r : Record) (rows : List (Key × List ℕ)) : Type 0 where
   pub sound : IsSound image
   pub layout_is : layout ≡ layout_of image
   pub rules : r ≡ ruling image
   pub rows_are : rows ≡ rows_below image (layout_of image).slots
 
--- The first fault of an image that isn't sound; lack of memory only if the superblock, the gates and the ruling
--- record are right
+-- The first fault of an image that isn't sound; lack of memory only if the superblock, the gates and the ruling record are right.
+-- Excluded: a sound image that is refused, except for lack of memory.
 abbrev pub IsReadRefusal : Image → Fault → Type 0
 IsReadRefusal image fault = (damage image ≡ Some fault) ⊎ ((log_damage image ≡ None) × (fault ≡ OutOfMemory))
 

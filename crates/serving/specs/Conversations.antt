@@ -50,7 +50,7 @@ pub record Converses (input left output sent : Option (List ℕ)) (prior after :
   pub went : Appends output sent (flat_map (λ e. e.went) exchanges)
   pub follows : Follows prior exchanges after
 
--- All that came had a reply, but for less than a frame at the end of the input
+-- All that came had a reply, except for less than a frame at the end of the input
 pub record ServesAll (input left output sent : Option (List ℕ)) : Type 0 where
   pub before : Option (List ℕ)
   pub after : Option ℕ

@@ -92,9 +92,10 @@ IsSeenByAll q key = (n : ℕ) → IsInUse q n → list_any (writes_key key) (dro
 abbrev pub HoldsLast : Origin → State → Key → Option ℕ → Type 0
 HoldsLast o q key last = (last ≡ last_on key (commits_of_life o q)) ⊎ ((last ≡ None) × IsSeenByAll q key)
 
--- what the index has of a key: the slot of its newest covered version, while that has a row, and the last timestamp that was
--- drawn for it in this life, which may be forgotten once all see what writes the key. Also the slot of a version that a deletion
--- ended is the newest, as long as it isn't freed
+-- What the index has of a key: the slot of its newest covered version, while that has a row, and the last timestamp that was drawn for it
+-- in this life, which may be forgotten once all see what writes the key. Also the slot of a version that a deletion ended is the newest, as
+-- long as it isn't freed.
+-- Excluded: a row whose slot the index doesn't know; an index entry taken out that an open transaction still conflicts with.
 pub record HoldsEntry (o : Origin) (q : State) (key : Key) (entry : Entry) : Type 0 where
   pub live : IsSlotOf q (newest_of q key) (live_of entry)
   pub last : HoldsLast o q key entry.last
@@ -110,7 +111,8 @@ has_drawn_by drawn n = list_any (λ d. nat_eq d.session n) drawn
 abbrev pub line_numbers : State → List Commit → List ℕ
 line_numbers q commits = map (line_number q.layout) (lines_in q commits)
 
--- the dirty table has for each drawn commit its lines, under its session's number, and no others
+-- The dirty table has for each drawn commit its lines, under its session's number, and no others.
+-- Excluded: a line of a drawn commit that isn't in the dirty table.
 pub record HoldsLines (q : State) (drawn : List DrawnCommit) (dirty : List SessionSet) : Type 0 where
   pub own : All (λ d. (line : ℕ) → is_touched dirty d.session line ≡ list_any (λ l. nat_eq l line) (line_numbers q ((plain_drawn d).commit ∷ []))) drawn
   pub none : (n line : ℕ) → has_drawn_by drawn n ≡ false → is_touched dirty n line ≡ false

@@ -24,7 +24,8 @@ use Rattle.session_steps.specs.Shows.{Hidden, plain_of, Agrees, Shows}
 
 -- ---- what a step did to its device
 
--- a failing device is reported exactly if an operation failed
+-- a failing device is reported exactly if an operation failed.
+-- Excluded: an operation that failed and isn't reported.
 pub record ReportsFailure (old new : Device) (Reported : Type 0) : Type 0 where
   pub no_fewer : old.failures ≤ new.failures
   pub cause : Reported → old.failures < new.failures

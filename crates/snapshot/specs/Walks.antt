@@ -15,8 +15,9 @@ pub record IsOfKey (image : Image) (slot : ℕ) (key : Key) : Type 0 where
 abbrev pub is_counted : Seen → ℕ → Bool
 is_counted s t = nat_lt 0 t && not (is_in s.gaps t)
 
--- Links lead from a slot to the target. Each version on the way is one of the key that the snapshot doesn't cover, and begins
--- fall from below the bound on
+-- Links lead from a slot to the target. Each version on the way is one of the key that the snapshot doesn't cover, and begins fall from
+-- below the bound on.
+-- Excluded: a link that is followed to another key, or to a begin that isn't smaller.
 pub data Leads (s : Seen) (image : Image) (key : Key) (target : ℕ) : ℕ → ℕ → Type 0 where
   arrives : (bound slot : ℕ) → slot ≡ target → begin_of image slot < bound → Leads s image key target bound slot
   passes : (bound slot next : ℕ) → IsOfKey image slot key → begin_of image slot < bound → covers s (begin_of image slot) ≡ false → is_counted s (begin_of image slot) ≡ true

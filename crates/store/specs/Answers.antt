@@ -16,7 +16,8 @@ use Rattle.database.specs.Committing.{AnswersPut, AnswersWrites, IsPrepared, Mee
 use Rattle.store.specs.declared.error.StoreError.{StoreError}
 use Rattle.store.specs.Errors.{error_of, commit_error}
 
--- A run from the opening of a device ends in this step, and what is returned is read off its reply: a fault as the error that it becomes
+-- A run from the opening of a device ends in this step, and what is returned is read off its reply: a fault as the error that it becomes.
+-- Excluded: a row of another key or session.
 abbrev pub Answers : {A : Type 0} → Step → (Reply → Result A Fault) → Result A StoreError → Type 0
 Answers step read (Ok value) = AnswersStep step read (Ok value)
 Answers step read (Err error) = (fault : Fault) × (error ≡ error_of fault) × AnswersStep step read (Err fault)
@@ -60,7 +61,8 @@ MakesWrites session writes limit (Err error) = (fault : Fault) × (error ≡ put
 
 -- ---- a number
 
--- there is no row; or there is one, and it is this number; or there is one that isn't a number; or the read was refused
+-- There is no row; or there is one, and it is this number; or there is one that isn't a number; or the read was refused.
+-- Excluded: a row of 5 bytes taken for a number.
 abbrev pub AnswersNumber : ℕ → Key → Result (Option ℕ) StoreError → Type 0
 AnswersNumber session key (Ok None) = AnswersStep (Get session key) row_of (Ok None)
 AnswersNumber session key (Ok (Some number)) = (row : List ℕ) × AnswersStep (Get session key) row_of (Ok (Some row)) × (length row ≡ 8) × (number ≡ from_le_bytes w64 row)

@@ -26,7 +26,8 @@ FileDevice =
     JournaledPmem (JournaledImages FileStorage FileSync storage.ghosts) FileSync
     (images.ghosts storage_type.the_row sync_type.the_row storage.ghosts images.no_dict images.no_dict)
 
--- a write or a sync of such a file failed, for this cause
+-- a write or a sync of such a file failed, for this cause.
+-- Excluded: a file that failed though no write or sync of one did.
 abbrev pub HasLost : Error → Type 0
 HasLost cause = (device : FileDevice) × (failure_of device ≡ Some cause)
 
@@ -37,7 +38,7 @@ pub record IsFoundWith (layout : Layout) (device : Device) : Type 0 where
   pub laid_out : IsLaidOut found (image_of device)
   pub is_asked_for : opened_layout found ≡ opened_layout layout
 
--- such a device was opened
+-- Such a device was opened. It isn't excluded that the device is another store's.
 abbrev pub OpensLayout : Layout → Type 0
 OpensLayout layout = (device : Device) × IsFoundWith layout device × (opening_fault (image_of device) ≡ None)
 

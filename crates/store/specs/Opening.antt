@@ -18,8 +18,9 @@ use Rattle.store.specs.Errors.{part_of}
 abbrev pub IsDamagedAt : Layout → ℕ → Type 0
 IsDamagedAt layout number = (device : Device) × IsFoundWith layout device × (opening_fault (image_of device) ≡ Some (Damaged number))
 
--- The error names this file. It has the layout that was asked for, if a device has another one, the part that is damaged, or the other reason why
--- a device isn't opened
+-- The error names this file. It has the layout that was asked for, if a device has another one, the part that is damaged, or the other
+-- reason why a device isn't opened.
+-- Excluded: the error of another call; another file's name; a layout that no device has; damage that opening doesn't report.
 abbrev pub IsOpeningError : List ℕ → Layout → StoreError → Type 0
 IsOpeningError file layout (StoreError.File name cause) = string_bytes name ≡ file
 IsOpeningError file layout (StoreError.OtherLayout name found asked) = (string_bytes name ≡ file) × (asked.geometry ≡ layout) × HasOtherThan layout found.geometry

@@ -28,7 +28,8 @@ pub record MeetsConflict {F X T : Type 0} (step : F → X → Result T StoreErro
   pub refused : IsPrepared session (Err (Refused (Conflict key)))
   pub settled : MeetsConflictOn session key
 
--- this many tries in vain, one after the other
+-- This many tries in vain, one after the other.
+-- Excluded: changes that are called again after a commit, or after a refusal that isn't a conflict.
 abbrev pub TriesInVain : {F X T : Type 0} → (F → X → Result T StoreError → X → F → Type 0) → (X → ℕ) → ℕ → F → F → Type 0
 TriesInVain step session_of zero old new = new ≡ old
 TriesInVain {F} step session_of (suc n) old new = (mid : F) × (key : Key) × TriesInVain step session_of n old mid × MeetsConflict step session_of mid key new
@@ -61,11 +62,13 @@ Fails {F} {X} {T} step session_of old error =
 abbrev pub EndsTries : {F X T : Type 0} → (F → X → Result T StoreError → X → F → Type 0) → (X → ℕ) → ℕ → F → (F → Type 0) → Type 0
 EndsTries {F} step session_of tries changes Last = (n : ℕ) × (n ≤ tries - 1) × (mid : F) × TriesInVain step session_of n changes mid × Last mid
 
--- the last try committed, with this value and this timestamp
+-- The last try committed, with this value and this timestamp.
+-- Excluded: a value or a timestamp of another try; a commit of what the changes rolled back.
 abbrev pub CommitsWithin : {F X T : Type 0} → (F → X → Result T StoreError → X → F → Type 0) → (X → ℕ) → ℕ → F → T → Option ℕ → Type 0
 CommitsWithin {F} step session_of tries changes value timestamp = EndsTries step session_of tries changes (λ mid. (new : F) × Commits step session_of mid value timestamp new)
 
--- the last try failed with this error; or all were in vain, the last one for a conflict on the key that is reported
+-- The last try failed with this error; or all were in vain, the last one for a conflict on the key that is reported.
+-- Excluded: tries that end early.
 abbrev pub FailsWithin : {F X T : Type 0} → (F → X → Result T StoreError → X → F → Type 0) → (X → ℕ) → ℕ → F → StoreError → Type 0
 FailsWithin {F} step session_of tries changes error =
     EndsTries step session_of tries changes (λ mid. Fails step session_of mid error)

@@ -43,7 +43,7 @@ may_pass WindowFull = true
 may_pass OutOfMemory = true
 may_pass _ = false
 
--- the step drew a timestamp, so that a commit came to be
+-- the step drew a timestamp, which begins a commit
 abbrev pub has_drawn : Step → Note → Bool
 has_drawn (Draw session) (DrewAs timestamp) = true
 has_drawn _ _ = false
