@@ -46,7 +46,7 @@ impl Longs {
         &self.timestamps[..self.len as usize]
     }
 
-    /// Adds a timestamp after the others.
+    /// Adds a timestamp after the others, of which there may be twelve.
     pub fn push(&mut self, timestamp: Ts)
         requires { length self.old < 12 }
         ensures { self.new ≡ self.old ++ timestamp ∷ [] }

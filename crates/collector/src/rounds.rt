@@ -62,9 +62,8 @@ impl Collector {
         !self.swept && !gaps.gaps().as_slice().is_empty()
     }
 
-    /// Visits the next place: it frees a slot whose version nobody reads any more. While there are gaps that aren't swept, it
-    /// sweeps the slot, by at most three operations, and at the closing place it waits until that persists. It takes no
-    /// memory. If the device fails, the slots and the collector are as before.
+    /// Visits the next place. While there are gaps that aren't swept, it sweeps the slot, and at the closing place it waits until
+    /// that persists. It takes no memory.
     #[inline(always)]
     pub fn tick<D: Pmem, R: Readers>(
         &mut self,
@@ -77,11 +76,20 @@ impl Collector {
         requires slots { length slots.old ≡ geometry.slots }
         requires size { (D.state device.old).words ≡ total_words geometry }
 
+        // The slot of the place was visited, or the closing place was. The next place is the one after it, and after the closing
+        // place it is slot 0, with the gaps swept.
         ensures visit { IfOk result (λ visit. visit ≡ visit_at geometry self.old.place) }
         ensures moved { OnOk result (self.new ≡ moved_on geometry self.old) }
+
+        // A visit frees its slot exactly if the end that it has is covered by all who read. No other slot changes.
         ensures freed { OnOk result (slots.new ≡ freed_at geometry self.old.place (R.covered readers.now) (value_of (D.state device.old)) slots.old) }
+
+        // If there are gaps that aren't swept, exactly the operations of a sweep of the slot, at most three, or the fence at the
+        // closing place. Otherwise there are none.
         ensures run { OnOk result (Runs (tick_operations geometry gaps.now self.old.swept self.old.place (value_of (D.state device.old))) (D.state device.old) (D.state device.new)) }
 
+        // At Err one of these operations failed, and only those before it were made. The fault is Device, and neither the
+        // collector nor a slot changed.
         ensures fault { IfErr result (λ fault. fault ≡ Fault.Device) }
         ensures stopped { OnErr result (StopsWithin (tick_operations geometry gaps.now self.old.swept self.old.place (value_of (D.state device.old))) (D.state device.old) (D.state device.new)) }
         ensures same { OnErr result (self.new ≡ self.old) }

@@ -12,10 +12,11 @@ pub const MOST_FILE_BYTES: usize = 8_405_056;
 const WORD_BYTES: usize = 8;
 
 /// The words of a file, which holds them in order, 8 bytes each, the lowest byte first.
-/// `BadGeometry` if the length isn't a multiple of 8 or is over `MOST_FILE_BYTES`.
 pub fn words_of_file(alloc: Global, file: &[u8]) -> Result<Vec<u64>, Fault>
     ensures ok { IfOk result (λ words. HoldsWords file.now words.items) }
     ensures length { IfOk result (λ _. is_image_length (length file.now) ≡ true) }
+
+    // BadGeometry exactly if the length isn't a multiple of 8 or is over 8,405,056, and otherwise OutOfMemory.
     ensures fault { IfErr result (λ fault. (fault ≡ OutOfMemory) ⊎ (fault ≡ BadGeometry)) }
     ensures geometry { result ≡ Err BadGeometry ↔ (is_image_length (length file.now) ≡ false) }
 {
@@ -29,8 +30,8 @@ pub fn words_of_file(alloc: Global, file: &[u8]) -> Result<Vec<u64>, Fault>
     Ok(words)
 }
 
-/// The bytes of a file that holds these words. If they are more than memory can hold, they are refused
-/// for lack of memory.
+/// The bytes of a file that holds these words, which is read back as them. If they are more than memory can hold, they are
+/// refused for lack of memory.
 pub fn file_of_words(alloc: Global, words: &[u64]) -> Result<Vec<u8>, AllocError>
     ensures { IfOk result (λ file. IsFileOf words.now file.items) }
 {

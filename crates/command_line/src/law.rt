@@ -5,23 +5,30 @@ ghost use Rattle.command_line.specs.Numbers.{Text};
 ghost use Rattle.command_line.specs.Words.{Gives, GivesNothing};
 ghost use Rattle.command_line.specs.declared.orders.Order.TheVariants.{Format, Run, Threads};
 
-/// `-h` and `--help` ask for help, alone and after a subcommand. No words don't, nor does a word that names no subcommand.
+/// Which words ask for help.
 pub fn flags_ask_for_help()
+    // `-h`, `--help` and `format --help` do.
     ensures short { GetsHelp (codes "-h" ∷ []) }
     ensures long { GetsHelp (codes "--help" ∷ []) }
     ensures of_a_subcommand { GetsHelp (codes "format" ∷ codes "--help" ∷ []) }
+
+    // No words, and a word that doesn't name a subcommand, don't.
     ensures no_words { MayGetHelp [] → ⊥ }
     ensures no_subcommand { MayGetHelp (codes "frob" ∷ []) → ⊥ }
 {}
 
 /// What some words give, for files with the name `a`.
 pub fn words_give_orders()
+    // The orders that four lists of words give: a run, a format with its defaults and one with options, and threads. Options come
+    // before the file or after it. A value is in a word of its own or follows a `=`.
     ensures run { (a : Bor Text) → a.now ≡ codes "a" → Gives (codes "run" ∷ codes "a" ∷ []) (Run a) }
     ensures defaults { (a : Bor Text) → a.now ≡ codes "a" → Gives (codes "format" ∷ codes "a" ∷ []) (Format a false 1024 4 64) }
 
     // Options come before the file or after it. A value is in a word of its own or follows a `=`.
     ensures options { (a : Bor Text) → a.now ≡ codes "a" → Gives (codes "format" ∷ codes "--slots" ∷ codes "8" ∷ codes "a" ∷ codes "--places=2" ∷ codes "--wide" ∷ []) (Format a true 8 2 64) }
     ensures threads { (a : Bor Text) → a.now ≡ codes "a" → Gives (codes "threads" ∷ codes "a" ∷ codes "--commits" ∷ codes "3" ∷ []) (Threads a 4 3) }
+
+    // Words with one of these faults give no order.
     ensures no_file { GivesNothing (codes "run" ∷ []) }
     ensures second_file { GivesNothing (codes "run" ∷ codes "a" ∷ codes "b" ∷ []) }
     ensures second_value { GivesNothing (codes "format" ∷ codes "a" ∷ codes "--slots" ∷ codes "8" ∷ codes "--slots" ∷ codes "9" ∷ []) }
@@ -29,7 +36,7 @@ pub fn words_give_orders()
     ensures no_number { GivesNothing (codes "format" ∷ codes "a" ∷ codes "--slots" ∷ codes "8x" ∷ []) }
     ensures out_of_limits { GivesNothing (codes "format" ∷ codes "a" ∷ codes "--slots" ∷ codes "0" ∷ []) }
 
-    // clap takes these two, and no order is given.
+    // Nor does a number with a plus sign, or a file named `-`, though `clap` takes these two.
     ensures plus_sign { GivesNothing (codes "format" ∷ codes "a" ∷ codes "--slots" ∷ codes "+8" ∷ []) }
     ensures minus { GivesNothing (codes "run" ∷ codes "-" ∷ []) }
 {}

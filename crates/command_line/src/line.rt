@@ -24,10 +24,13 @@ pub enum LineFault {
 /// The command that a line of a script spells, or `None` for a line that is empty or begins with
 /// `#`. The line has no line feed.
 pub fn parse_line(alloc: Global, line: &[u8]) -> Result<Option<Command>, LineFault>
+    // The command that the line spells, or none for one that is skipped.
     ensures ok { IfOk result (λ read. line_of line.now ≡ Some read) }
+
+    // NotACommand only for a line that doesn't spell one.
     ensures refused { IfErr result (λ fault. fault ≡ NotACommand → line_of line.now ≡ None) }
 
-    // Only a row takes memory.
+    // OutOfMemory only for a line that spells a put: other lines take no memory.
     ensures memory { IfErr result (λ fault. fault ≡ OutOfMemory → SpellsPut line.now) }
 {
     if is_skipped(line) {

@@ -3,7 +3,7 @@ ghost use Rattle.command_line.specs.Numbers.{number_below};
 
 const MOST_DIGITS: usize = 20;
 
-/// The number that 1 to 20 decimal digits write, if it fits.
+/// Exactly the number that 1 to 20 decimal digits write, if it fits in 64 bits.
 pub fn number(word: &[u8]) -> Option<u64>
     ensures { result ≡ number_below (2 ^ 64) word.now }
 {
@@ -22,14 +22,14 @@ pub fn number(word: &[u8]) -> Option<u64>
     Some(value)
 }
 
-/// A number of 8 bits, as a session has.
+/// A number that fits in 8 bits, as a session has.
 pub fn small_number(word: &[u8]) -> Option<u8>
     ensures { result ≡ number_below (2 ^ 8) word.now }
 {
     u8::try_from(number(word)?).ok()
 }
 
-/// A number of 16 bits, as a table has.
+/// A number that fits in 16 bits, as a table has.
 pub fn middle_number(word: &[u8]) -> Option<u16>
     ensures { result ≡ number_below (2 ^ 16) word.now }
 {

@@ -46,10 +46,12 @@ pub const MOST_SESSIONS: u64 = 32;
 /// How many commits each of them may make, from 1 on.
 pub const MOST_COMMITS: u64 = 1_000;
 
-/// The layout that a format asks for: version 3, with slots of two lines, if it asks for wide ones,
-/// and version 2 otherwise. `BadGeometry` if its numbers are out of their limits.
+/// The layout that a format asks for: of version 3, with slots of two lines, if it asks for wide ones, and otherwise of version
+/// 2.
 pub fn asked_geometry(wide: bool, slots: u64, places: u64, window: u64) -> Result<Geometry, Fault>
     ensures ok { IfOk result (λ geometry. geometry ≡ asked_layout wide slots places window) }
+
+    // Ok exactly within the limits, and otherwise BadGeometry.
     ensures limits { IsOk result ↔ IsTrue (is_in_limits (asked_layout wide slots places window)) }
     ensures fault { IfErr result (λ fault. fault ≡ BadGeometry) }
 {

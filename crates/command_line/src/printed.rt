@@ -84,7 +84,7 @@ pub enum Printed<'a> {
     FileFault,
 }
 
-/// Writes the line and a line feed.
+/// Appends the line and a line feed to a writer whose bytes are known.
 pub fn print<W: Write>(alloc: Global, out: &mut W, line: &Printed) -> io::Result<()>
     ensures { OnOk result (Appends (W.contents out.old) (W.contents out.new) (text_of line.now ++ 10 ∷ [])) }
 {
@@ -93,7 +93,7 @@ pub fn print<W: Write>(alloc: Global, out: &mut W, line: &Printed) -> io::Result
     out.write_all(text.as_bytes())
 }
 
-/// The line, without a line feed.
+/// The line, byte for byte, without a line feed.
 pub fn text(alloc: Global, line: &Printed) -> Result<String, AllocError>
     ensures { IfOk result (λ text. string_bytes text ≡ text_of line.now) }
 {

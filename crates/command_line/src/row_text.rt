@@ -9,14 +9,15 @@ use std::alloc::Global;
 
 /// The bytes of a row, written as two lower case hex digits each, or as `-` if there are none.
 pub fn row(alloc: Global, word: &[u8]) -> Result<Vec<u8>, LineFault>
+    // These bytes have the word as their one spelling.
     ensures value { IfOk result (λ row. row_of word.now ≡ Some row.items) }
     ensures spelled { IfOk result (λ row. word.now ≡ row_text row.items) }
 
-    // No row has this text.
+    // NotACommand only for a word that doesn't write a row.
     ensures refused { IfErr result (λ fault. fault ≡ NotACommand → row_of word.now ≡ None) }
     ensures unspelled { IfErr result (λ fault. fault ≡ NotACommand → IsNoRow word.now) }
 
-    // Only a row takes memory.
+    // OutOfMemory only for a word that writes one: bad digits need no memory.
     ensures memory { IfErr result (λ fault. fault ≡ OutOfMemory → IsSome (row_of word.now)) }
 {
     decoded(alloc, word)

@@ -58,10 +58,17 @@ struct Draft {
     lives: Vec<ScriptLife>,
 }
 
-/// Reads the whole script. Of several wrong lines it reports the first, and the numbers of the image only if no line is wrong.
+/// Reads the whole script.
 pub fn read_script(alloc: Global, text: &[u8]) -> Result<Script, ScriptFault>
+    // The lines of the text, except those that are skipped, are exactly those of the script: its geometry, and of each life its
+    // beginning, its commands, and a `close` if it has one (`SpellsScript`).
     ensures spelled { IfOk result (λ script. SpellsScript text.now script.geometry script.lives.items) }
+
+    // At WrongLine the line of that number is the first wrong one: it isn't a line of a script, or can't follow those before it,
+    // which are the beginning of one. Or there are only skipped lines, and the number is 1 (`IsWrongLine`).
     ensures wrong_line { IfErr result (IfWrongLine (IsWrongLine text.now)) }
+
+    // BadGeometry only if no line is wrong, and the numbers of the image are out of their limits.
     ensures geometry { IfErr result (IfBadGeometry (HasBadGeometry text.now)) }
 {
     let mut number: u64 = 0;

@@ -27,8 +27,10 @@ pub enum ScriptLine {
     Command(Command),
 }
 
-/// What a line of a script spells, or `None` for a line that is empty or begins with `#`. The line has no line feed.
+/// What a line of a script spells: a geometry, the beginning of a life, a `close`, or a command other than `cycle` and `crash`.
+/// `None` for a line that is empty or begins with `#`. The line has no line feed.
 pub fn parse_script_line(alloc: Global, line: &[u8]) -> Result<Option<ScriptLine>, LineFault>
+    // As for `parse_line`.
     ensures ok { IfOk result (λ read. script_line_of line.now ≡ Some read) }
     ensures refused { IfErr result (λ fault. fault ≡ NotACommand → script_line_of line.now ≡ None) }
 

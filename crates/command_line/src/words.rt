@@ -16,12 +16,15 @@ use std::alloc::{AllocError, Global};
 /// What the words after the program's name ask for: a subcommand, a file, and numbers that have
 /// defaults. Fails with the text for the user.
 pub fn order<'a>(alloc: Global, words: &'a [&'a str]) -> Result<Order<'a>, WordFault>
+    // At Ok exactly what the words give by the statements of `clap`: the subcommand, the file, each option's number or its
+    // default, within the limits, and whether `--wide` is there.
     ensures gives { IfOk result (Gives (texts words.now)) }
 
-    // Lack of memory says nothing about the words.
+    // At Err the words give no order, unless memory was lacking.
     ensures refused { IfErr result (UnlessOutOfMemory (GivesNothing (texts words.now))) }
 
-    // Help is printed if it is asked for, and only then.
+    // Help is returned only for words that may get it, and words for which help is the only reply aren't blamed as bad
+    // (`AnswersHelp`). Both are by the statements of `clap` for this command line.
     ensures help { IfErr result (AnswersHelp (texts words.now)) }
 {
     let mut command = match command_line(alloc) {

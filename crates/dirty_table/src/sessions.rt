@@ -20,7 +20,7 @@ impl SessionSet {
         SessionSet { bits: 0 }
     }
 
-    /// Adds a session.
+    /// Adds a session. The others are as before.
     #[inline(always)]
     pub fn insert(&mut self, session: u8)
         requires { session < 64 }
@@ -29,7 +29,7 @@ impl SessionSet {
         self.bits |= 1 << session;
     }
 
-    /// Takes a session out.
+    /// Takes a session out. The others are as before.
     #[inline(always)]
     pub fn remove(&mut self, session: u8)
         requires { session < 64 }
@@ -51,6 +51,7 @@ impl SessionSet {
     /// The lowest session of the set, from this number on.
     #[inline(always)]
     pub fn next(&self, from: u8) -> Option<u8>
+        // None exactly if there is none (`IsNextIn`).
         ensures some { IfSome result (λ n. IsNextIn self.now from n) }
         ensures none { IfNone result ((n : ℕ) → from ≤ n → has self.now n ≡ false) }
     {

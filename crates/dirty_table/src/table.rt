@@ -36,6 +36,8 @@ impl DirtyTable {
         requires { lines < 2 ^ 62 }
         ensures lines { IfOk result (λ table. length table ≡ lines) }
         ensures touches { IfOk result (λ table. (n line : ℕ) → is_touched table n line ≡ false) }
+
+        // It is refused only for lack of memory.
         ensures fault { IfErr result (λ fault. fault ≡ OutOfMemory) }
     {
         let Ok(sessions) = vec![in alloc; SessionSet::none(); lines] else {
@@ -57,7 +59,8 @@ impl DirtyTable {
         }
     }
 
-    /// The session touches the line too.
+    /// The session touches the line too, and the lines of others stay (`Touches`). It takes no memory, and its time doesn't grow
+    /// with the lines that are touched.
     #[inline(always)]
     pub fn touch(&mut self, session: u8, line: u64)
         requires session { session < 64 }
@@ -68,7 +71,7 @@ impl DirtyTable {
         self.touched.insert(line as usize);
     }
 
-    /// These sessions touch no line any more.
+    /// These sessions touch no line any more, and the lines of others stay (`Forgets`).
     pub fn forget(&mut self, sessions: &SessionSet)
         ensures { Forgets sessions.now self.old self.new }
     {
@@ -101,10 +104,11 @@ impl DirtyTable {
         self.touched.first_from(from)
     }
 
-    /// The lowest line, from this one on, that one of the sessions touches: of their lines, which are listed by rising line
-    /// and each once, the first that isn't below.
+    /// The lowest line, from this one on, that one of the sessions touches.
     #[inline(always)]
     pub fn next(&self, sessions: &SessionSet, from: u64) -> Option<u64>
+        // Of their lines, which are listed by rising line and each once, it is the first that isn't below. So a walk meets each
+        // once. It takes no memory.
         ensures line { result ≡ find (nat_le from) (lines_touched sessions.now self.now) }
         ensures rising { IsTrue (are_rising (lines_touched sessions.now self.now)) }
     {

@@ -18,7 +18,8 @@ ghost use Rattle.room.specs.Room.{Shows, StepsTo, device_of};
 use pmem_file::{Images, JournaledPmem};
 use room::Room;
 
-/// A room that was opened on a device at rest, which held an image or was formatted first, comes from the device's beginning.
+/// A room that was opened on a device at rest, which held an image or was formatted first, comes from the device's beginning
+/// (`RunsSince`).
 pub fn journaled_rooms_begin<I: Images>(
     unformatted: &JournaledPmem<I>,
     device: &JournaledPmem<I>,
@@ -38,14 +39,15 @@ pub fn journaled_rooms_begin<I: Images>(
         → RunsSince state_of room.now room.now 0 [] [] q [] }
 {}
 
-/// Whatever is found of a room's device, once all has stopped, stands for what was covered by then: between two steps for
-/// the state that the room shows, and at an instant within a step, when the device was as `found`, as that says.
+/// Whatever is found of a room's device, once all has stopped, stands for what was covered by then.
 pub fn journaled_images_stand<I: Images>(
     first: &Room<JournaledPmem<I>>,
     next: &Room<JournaledPmem<I>>,
     last: &Room<JournaledPmem<I>>,
     found: &JournaledPmem<I>,
 )
+    // Between two steps it stands for the state that the room shows, and at an instant within a step, when the device was as
+    // `found`, as `Room::step` says.
     ensures now { (steps : List Step) (replies : List Reply) (q : State) (states : List State) (image : Image)
         → RunsSince state_of first.now last.now 0 steps replies q states
         → state_of found.now ≡ device_of state_of last.now → HasPlaces found.now (final q states)
@@ -67,6 +69,7 @@ pub fn journaled_images_stand_at_a_close<I: Images>(
     device: &JournaledPmem<I>,
     found: &JournaledPmem<I>,
 )
+    // As `Room::close` says.
     ensures meanwhile { (steps : List Step) (replies : List Reply) (q : State) (states : List State) (image : Image)
         → RunsSince state_of first.now last.now 0 steps replies q states
         → LeavesOnly (device_of state_of last.now) (state_of device.now) (StandsClosing (final q states))
@@ -86,12 +89,13 @@ pub fn journaled_images_stand_at_a_close<I: Images>(
 }
 
 /// So does what is found at an instant while the room is opened, or the device is formatted and then opened, when it was as
-/// `found`: it is what a crash meanwhile leaves, also if one of them fails. `later` is what the device had become then.
+/// `found`. `later` is what the device had become then.
 pub fn journaled_images_stand_at_an_opening<I: Images>(
     unformatted: &JournaledPmem<I>,
     device: &JournaledPmem<I>,
     found: &JournaledPmem<I>,
 )
+    // It is what a crash leaves within opening, within formatting, and within the opening after it, also if one of them fails.
     ensures opening { (history : List Commit) (next : ℕ) (later : Device) (image : Image)
         → (state_of device.now).clock ≡ 0
         → LeavesOnly (state_of device.now) later (StandsOpening (image_of (state_of device.now)) history next)

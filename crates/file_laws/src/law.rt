@@ -16,16 +16,18 @@ ghost use Rattle.room.specs.Room.{Shows, StepsTo, device_of};
 use pmem::Pmem;
 use room::Room;
 
-/// Of all records that may rule along a run, two with one number are one, over the same commits. The record that
-/// closing writes last has a greater number than all of them.
+/// A number of a record names one record, along a run.
 pub fn each_gate_has_one_cover()
+    // If two of the records that may rule along a run have the same number, they are the same record, over the same commits. The
+    // record of closing has a greater number than all of them.
     ensures one { OneCoverAGate }
     ensures close { ClosesAbove }
 {}
 
-/// An image of an earlier moment, whose superblock and gates are such as a crash at this moment leaves, stands for the
-/// same as what a crash at this moment leaves: between two steps for the state that the room shows, and within a step as that says.
+/// An image of an earlier moment whose superblock and gates are such as a crash at this moment leaves (`IsFound`) stands for the
+/// same as what a crash at this moment leaves.
 pub fn found_images_stand<D: Pmem>(first: &Room<D>, next: &Room<D>, last: &Room<D>)
+    // Between two steps that holds for the state that the room shows, and within a step as `Room::step` says.
     ensures now { (since : ℕ) (steps : List Step) (replies : List Reply) (q : State) (states : List State) (image : Image)
         → RunsSince D.state first.now last.now since steps replies q states
         → IsFound (final q states).layout (device_of D.state last.now) since (device_of D.state last.now).clock image
@@ -39,6 +41,7 @@ pub fn found_images_stand<D: Pmem>(first: &Room<D>, next: &Room<D>, last: &Room<
 
 /// So it does while a room is closed, and after that.
 pub fn found_images_stand_at_a_close<D: Pmem>(first: &Room<D>, last: &Room<D>, device: &D)
+    // As `Room::close` says.
     ensures meanwhile { (since moment : ℕ) (steps : List Step) (replies : List Reply) (q : State) (states : List State) (image : Image)
         → RunsSince D.state first.now last.now since steps replies q states
         → LeavesOnly (device_of D.state last.now) (D.state device.now) (StandsClosing (final q states))
@@ -53,9 +56,11 @@ pub fn found_images_stand_at_a_close<D: Pmem>(first: &Room<D>, last: &Room<D>, d
         → StandsClosed (final q states) image }
 {}
 
-/// What was left before the state that a room shows is from before it, or stands for what it has covered: since that very
-/// moment, since the room's device was opened, or since that was formatted where it held nothing.
+/// What was left before the state that a room shows is from before it, or stands for what it has covered.
 pub fn rooms_come_from_their_openings<D: Pmem>(unformatted: &D, device: &D, room: &Room<D>)
+    // What was left earlier isn't formatted, or is ruled by a record before that of the state that a room shows, or stands for
+    // what the state has covered (`ComesFrom`). This holds from the moment of that state on, from the opening on, and from the
+    // formatting of a device that held nothing on.
     ensures shown { (q : State) → Shows D.state room.now q → ComesFrom (device_of D.state room.now) (device_of D.state room.now).clock q }
     ensures opened { (history : List Commit) (next : ℕ) (lost : List ℕ) (q : State)
         → OpensAs (image_of (D.state device.now)) history lost q

@@ -1,5 +1,10 @@
 //! What is found of a room over a device whose whole image is kept now and then, as in a file: that it stands for what was
 //! covered by then.
+//!
+//! The laws of `src/law.rt` are about a room over any device. The others are about a room over a `JournaledPmem` that came from a
+//! device at rest, whose clock is 0: `RunsSince` with 0, as `journaled_rooms_begin` gives it. A device at an instant within a
+//! step goes on to the one that the step leaves (`Continues`).
+
 #![tactic(auto)]
 
 mod journaled;

@@ -47,6 +47,7 @@ impl GapList {
 
     /// Its gaps, in order.
     pub fn gaps(&self) -> Gaps
+        // At most eight, in order, none empty, and apart from each other.
         ensures gaps { result ≡ self.now }
         ensures tidy { IsTrue (is_gap_list self.now) }
     {
@@ -69,9 +70,13 @@ impl GapList {
     pub fn add(&mut self, first: Ts, last: Ts) -> Result<(), Fault>
         requires from_one { 1 ≤ first }
         requires ordered { first ≤ last }
+
+        // The range is joined to all that it overlaps or touches. The set then has its timestamps and those before, and no
+        // others.
         ensures ok { OnOk result (self.new ≡ with_gap (record { first = first; last = last }) self.old) }
         ensures holds { OnOk result ((t : ℕ) → is_in self.new t ≡ (is_in self.old t || (nat_le first t && nat_le t last))) }
 
+        // GapsFull exactly if nine gaps would be left, and then the set is as before.
         ensures fits { IsOk result ↔ (length (with_gap (record { first = first; last = last }) self.old) ≤ 8) }
         ensures fault { IfErr result (λ fault. fault ≡ GapsFull) }
         ensures err { OnErr result (self.new ≡ self.old) }

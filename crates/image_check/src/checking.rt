@@ -30,7 +30,12 @@ pub struct Report {
 /// Tests all words of an image that count, and reports what it holds. It doesn't open the image, so it also checks one whose
 /// opening would find no timestamps left. An image that isn't sound is refused for the first thing that is wrong with it.
 pub fn check<R: Threads + Sync>(rt: &R, alloc: Global, words: &[u64]) -> Result<Report, Fault>
+    // The image is sound. These are its ruling record's gate, timestamps, gaps and long commits, and its tables' rows, each once,
+    // by rising key.
     ensures ok { IfOk result (λ report. Reports words.now report.gate report.persisted report.dirty report.gaps report.longs report.rows.items) }
+
+    // At Err it is the image's first damage. Or it is OutOfMemory, if the superblock, the gates and the ruling record are right.
+    // So each sound image passes, unless memory is lacking.
     ensures fault { IfErr result (IsReadRefusal words.now) }
 {
     let found = match read_image(rt, alloc, words) {

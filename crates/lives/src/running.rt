@@ -19,16 +19,27 @@ use recovery::format;
 use std::alloc::Global;
 use std::thread::Threads;
 
-/// Formats a device and plays the lives on it, each over the image that the one before it left, under its own fuse and with
-/// its own choice. It fails if a report or a device can't be kept for lack of memory; lack of memory within a life is in
-/// its report.
+/// Formats a device and plays the lives on it, each over the image that the one before it left, under its own fuse and with its
+/// own choice.
 pub fn run_lives<R: Threads + Sync>(
     rt: &R,
     alloc: Global,
     geometry: Geometry,
     lives: &[Life],
 ) -> Result<Vec<LifeReport>, Fault>
+    // The reports are those of a chain of lives, asked as given, from a fresh image of the geometry on (`AreLives`,
+    // `specs/Chains.antt`). Each opening has the numbers, the gaps and the tables of what the life before it left, each reply is
+    // the plain machine's, and each closing is as defined. A report keeps the last reply of a step that is taken many times,
+    // which is that of its first refusal (`AreReported`, `specs/ReportedReplies.antt`). So (`Keeps`) the last image stands for a
+    // history, and each life added a beginning of what it drew, in log order. All that was acknowledged is in the history, what a
+    // stop left out never returns, and no timestamp was drawn twice. Each life was stopped as asked (`AreStopped`,
+    // `specs/Stops.antt`). It made no more operations than its fuse allows, and exactly that many if the report says that the
+    // device failed, as it does if an operation failed. The image that the next life opens has of each word the survivor that its
+    // choice names.
     ensures ok { IfOk result (λ reports. AreLives geometry lives.now reports.items) }
+
+    // It fails only for lack of memory: for a report, or because the modelled device could not keep what was done to it. Lack of
+    // memory within a life is in its report.
     ensures fault { IfErr result (λ fault. fault ≡ OutOfMemory) }
 {
     let mut device = formatted(alloc, geometry)?;

@@ -7,6 +7,8 @@ ghost use Rattle.number_set.specs.Bits.{has_bit, is_in, IsLowestBit, IsLowest, I
 #[inline(always)]
 pub fn lowest_bit(word: u64, low: u32) -> Option<u32>
     requires { low < 64 }
+
+    // None exactly if there is none (`IsLowestBit`).
     ensures some { IfSome result (IsLowestBit word low) }
     ensures none { IfNone result ((i : ℕ) → low ≤ i → has_bit word i ≡ false) }
 {

@@ -56,7 +56,7 @@ impl NumberSet {
         self.levels.contains(number)
     }
 
-    /// Puts the number in.
+    /// Puts the number in. The others are as before.
     #[inline(always)]
     pub fn insert(&mut self, number: usize)
         requires { number < length self.old }
@@ -68,7 +68,7 @@ impl NumberSet {
         }
     }
 
-    /// Takes the number out.
+    /// Takes the number out. The others are as before.
     #[inline(always)]
     pub fn remove(&mut self, number: usize)
         requires { number < length self.old }
@@ -83,6 +83,7 @@ impl NumberSet {
     /// The lowest number of the set, from this one on.
     #[inline(always)]
     pub fn first_from(&self, number: usize) -> Option<usize>
+        // None exactly if there is none (`IsFirstFrom`).
         ensures some { IfSome result (IsFirstFrom self.now number) }
         ensures none { IfNone result (IsNoneFrom self.now number) }
     {

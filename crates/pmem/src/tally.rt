@@ -11,7 +11,7 @@ impl Tally {
     ghost use Rattle.std.specs.Prelude.{◌≡◌, ◌+◌};
     ghost use Rattle.pmem.specs.Tallies.{number_of};
 
-    /// Adds one.
+    /// Adds one. The number has no bound.
     pub fn add(&mut self)
         ensures { number_of self.new ≡ number_of self.old + 1 }
     {

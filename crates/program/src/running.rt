@@ -62,27 +62,33 @@ pub fn run_words<
     R: Read,
     W: Write,
 >(rt: &H, alloc: Global, words: &'a [&'a str], input: &mut R, output: &mut W) -> Exit<'a>
+    // 2 if the words are bad, 1 if a file, the input or the output failed, and otherwise at most 2 (`HasStatus`).
     ensures status { HasStatus result.diagnostic result.status }
+
+    // A status of 0 leaves no file unwritten.
     ensures written { result.status ≡ 0 → result.unwritten ≡ None }
 
-    // The file that is reported as failing is the one that the words name, and so is the one that stays as it was.
+    // A file that is reported as failing is the one that the words name. So is one that was to be written and stays as it was,
+    // and then the order is one that writes it (`NameFile`, `NameWritten`).
     ensures file { IfFileFault (NameFile (texts words.now)) result.diagnostic }
     ensures unwritten { IfSome result.unwritten (λ name. NameWritten (texts words.now) name.now) }
 
-    // If a run fails, and neither a file nor the input nor the output is reported as failing, it names the file that it would have
-    // written.
+    // If neither a file nor the input nor the output is reported as failing, a run that fails names the file that it was to
+    // write. If it names none, its words give no order, or one that writes no file (`WriteNoFile`).
     ensures named { result.status ≢ 0 → result.diagnostic ≡ NothingPrinted → result.unwritten ≡ None → WriteNoFile (texts words.now) }
 
-    // If the words aren't bad, only a line that isn't a command gives exit status 2.
+    // If nothing is reported as failing, a status of 2 is of no words, or of an order that runs lines: a run, or lives
+    // (`ObeyLines`).
     ensures lines { result.status ≡ 2 → result.diagnostic ≡ NothingPrinted → ObeyLines (texts words.now) }
 
-    // Words that give an order are never bad, and neither is their absence. Bad words touch neither input nor output, and don't ask only for help.
+    // Only words that give no order, and don't ask for help alone, are bad. Then neither is the input read nor the output
+    // written.
     ensures bad_words { IfBadWords ((texts words.now ≢ []) × GivesNothing (texts words.now) × (GetsHelp (texts words.now) → ⊥) × (input.new ≡ input.old) × (output.new ≡ output.old)) result.diagnostic }
 
-    // Only a run, or no words, reads the input.
+    // No words, and those of a run, alone read the input (`ReadInput`).
     ensures unread { (input.new ≡ input.old) ⊎ ReadInput (texts words.now) }
 
-    // Words that give no order end with 0 only if help was asked for.
+    // Words that give no order end with 0 only if they may get help.
     ensures help { texts words.now ≢ [] → GivesNothing (texts words.now) → result.status ≡ 0 → MayGetHelp (texts words.now) }
 {
     if words.is_empty() {

@@ -56,7 +56,9 @@ pub fn read<R: Threads + Sync, D: Pmem + Sync>(
     alloc: Global,
     device: &D,
 ) -> Result<Readings, Fault>
+    // What was read of the log, and of each slot once.
     ensures ok { IfOk result (AreOf (image_of (D.state device.now))) }
+
     ensures fault { IfErr result (IsLogRefusal (image_of (D.state device.now))) }
 {
     let found = match latest(device) {
@@ -77,7 +79,7 @@ impl Readings {
     ghost use Rattle.std.specs.Prelude.{◌≡◌, IfOk, IfErr};
     ghost use Rattle.base.specs.Images.{Image};
 
-    /// Tests all that opening needs of the slots that were read, in order.
+    /// Tests, in order, all that opening needs of the slots that were read, and returns what opening gets from them.
     pub fn examine<R: Threads + Sync>(&self, rt: &R, alloc: Global) -> Result<Examined, Fault>
         requires read { (image : Image) × AreOf image self.now }
         ensures ok { IfOk result (λ found. (image : Image) → AreOf image self.now → HasExamined image found) }

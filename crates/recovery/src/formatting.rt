@@ -17,15 +17,24 @@ use base::longs::Longs;
 use log_area::{FORMATTED, Record, write_geometry, write_record};
 use pmem::{Pmem, set_word};
 
-/// Creates a new image on a device. A format that is stopped leaves what a crash before it could have left, an image that
-/// isn't formatted, or the new one.
+/// Creates a new image on a device.
 pub fn format<D: Pmem>(device: &mut D, geometry: Geometry) -> Result<(), Fault>
+    // At Err BadGeometry, exactly if the device has another length, and nothing was done. Or Device, with one failure.
     ensures refusal { IfErr result (IsFormatRefusal geometry (D.state device.old) (D.state device.new)) }
+
+    // For `N` words these are `N + 33` stores, `N/8 + 7` flushes and 6 fences.
     ensures made { OnOk result (Makes (total_words geometry + 33) (total_words geometry / 8 + 7) 6 0 (D.state device.old) (D.state device.new)) }
+
+    // The device is at rest, and its image is exactly the fresh one.
     ensures settled { OnOk result ((word : ℕ) → word < total_words geometry → IsSettledAt (D.state device.new) word (fresh_word geometry word)) }
     ensures rest { OnOk result (IsAtRest (D.state device.new)) }
     ensures image { OnOk result (image_of (D.state device.new) ≡ fresh_image geometry) }
+
+    // So it has this layout and the first record, stands for no commit, and opens.
     ensures empty { OnOk result (StandsEmpty geometry (image_of (D.state device.new))) }
+
+    // A format that is stopped, or fails, leaves what a crash before it could have left, an image that isn't formatted, or the
+    // fresh one.
     ensures images { LeavesOnly (D.state device.old) (D.state device.new) (IsFormatting (D.state device.old) geometry) }
 {
     if device.words() as u64 != geometry.words() {
@@ -40,12 +49,25 @@ pub fn format<D: Pmem>(device: &mut D, geometry: Geometry) -> Result<(), Fault>
 /// Formats a device in which nothing was ever kept: it has words, and the first is 0. Returns whether it did; leaves any other as it is.
 pub fn format_new<D: Pmem>(device: &mut D, geometry: Geometry) -> Result<bool, Fault>
     requires at_rest { IsAtRest (D.state device.old) }
+
+    // A device whose first word isn't 0, or that has no words, is left as it is, and Ok(false) is returned.
     ensures kept { value_of (D.state device.old) 0 ≢ 0 → (result ≡ Ok false) × (device.new ≡ device.old) }
     ensures empty { (D.state device.old).words ≡ 0 → (result ≡ Ok false) × (device.new ≡ device.old) }
+
+    // At Ok(true) its first word was 0, and its image is exactly the fresh one. At Ok(false) it has no words, or its first word
+    // isn't 0, and it is as it was.
     ensures made { IfOk result (HasFormattedNew geometry (D.state device.old) (D.state device.new)) }
+
+    // As many operations were made as formatting makes, or none.
     ensures operations { result ≡ Ok true → Makes (total_words geometry + 33) (total_words geometry / 8 + 7) 6 0 (D.state device.old) (D.state device.new) }
+
+    // As for `format`.
     ensures refusal { IfErr result (IsFormatRefusal geometry (D.state device.old) (D.state device.new)) }
+
+    // At Ok the device is at rest.
     ensures rest { OnOk result (IsAtRest (D.state device.new)) }
+
+    // As for `format`.
     ensures images { LeavesOnly (D.state device.old) (D.state device.new) (IsFormatting (D.state device.old) geometry) }
 {
     if device.words() == 0 || device.load(0) != 0 {

@@ -38,6 +38,9 @@ pub fn held_slots<R: Threads + Sync>(
     readings: &[SlotReading],
 ) -> Result<Held, Fault>
     requires size { length readings.now ≡ geometry.slots }
+
+    // At Ok no slot is bad, these are free, these are live, and each live one has its place among them by its key. At Err it is
+    // the lowest bad slot, or OutOfMemory.
     ensures held { IfOk result (λ held. (image : Image) → readings.now ≡ readings_below image geometry.slots → AreHeld image geometry.slots held) }
     ensures fault { IfErr result (λ fault. (image : Image) → readings.now ≡ readings_below image geometry.slots → IsSlotsFault geometry image fault) }
 {

@@ -1,4 +1,8 @@
 //! Recovery: what an image that was found holds, how it is opened, and how a device is formatted.
+//!
+//! Opening has two halves. `examine` reads what the image holds, and takes all the memory that opening takes. `Examined::open`
+//! makes the operations, and takes none.
+
 #![tactic(auto)]
 
 mod clearing;

@@ -54,20 +54,32 @@ pub fn open<R: Threads + Sync, D: Pmem + Drop + Send + Sync>(
     device: D,
 ) -> Result<Opened<D>, (Fault, D)>
     requires at_rest { IsAtRest (D.state device) }
+
+    // The image has no fault that opening reports. The record is the next one: persisted is one below the old dirty timestamp,
+    // dirty a window above the old dirty timestamp. It has the joined gaps, or none if there are more than eight. The next
+    // timestamp is the old dirty one. The slots that aren't live are free, and of each live one its key and its begin are
+    // returned. That record alone rules. The superblock is settled as it was, and so is each slot, except that if gaps are swept,
+    // each begin and end that is in a gap is settled at 0. As many stores, flushes and fences were made as `opening_counts` says.
+    // Without a sweep these are 32, 5 and 2. With one there are as many more stores and flushes as words and lines are swept, and
+    // 3 fences. No other word outside the record's place is stored.
     ensures ok { IfOk result (λ opened. HasOpened (D.state device) (D.state opened.device) opened.geometry opened.ruling opened.next opened.free.items opened.live.items) }
+
+    // At Err it is the first fault in the stated order, or OutOfMemory, and the device is as it was. Or it is Device: there is no
+    // such fault, the failure count rose, and fewer operations were made than opening makes.
     ensures fault { IfErr result (λ e. IsRefusal (opening_fault (image_of (D.state device))) (D.state device) (D.state e.1) e.0) }
 
-    // A fault of the superblock, of a gate or of the ruling record is reported even if memory is refused.
+    // A fault of the superblock, of a gate or of the ruling record is the one that is returned, even if memory is lacking.
     ensures log { IfErr result (λ e. ReportsLogFault (image_of (D.state device)) e.0) }
 
-    // A crash at any moment leaves the same history, under the record that ruled or the one that opening writes.
-    // What was drawn and not covered is left out.
+    // Whatever history the image stands for, each image that a crash may leave since then, at Err too, stands for it. It does so
+    // under the old record or the new one. What was drawn and not covered is left out.
     ensures images { (history drawn : List Commit) (next : ℕ) → Stands (image_of (D.state device)) history drawn next
         → MatchResult result
         (λ opened. LeavesOnly (D.state device) (D.state opened.device) (StandsOpening (image_of (D.state device)) history next))
         (λ e. LeavesOnly (D.state device) (D.state e.1) (StandsOpening (image_of (D.state device)) history next)) }
 
-    // If the version changes, it persists before anything else is stored.
+    // If the version changes, it persists before anything else is stored. Each image that a crash may leave since then, at Err
+    // too, has the new version, or is the old one as a whole.
     ensures version { MatchResult result
         (λ opened. LeavesOnly (D.state device) (D.state opened.device) (IsUpdatedFirst (image_of (D.state device))))
         (λ e. LeavesOnly (D.state device) (D.state e.1) (IsUpdatedFirst (image_of (D.state device)))) }
@@ -135,8 +147,14 @@ impl Examined {
         requires at_rest { IsAtRest (D.state device.old) }
         requires examined { IsExaminedAs (image_of (D.state device.old)) self.geometry self.ruling self.gaps self.free.items self.live.items }
         requires hits { AreHits (image_of (D.state device.old)) self.geometry self.gaps self.hits.items }
+
+        // As for `open`.
         ensures ok { IfOk result (λ life. HasOpened (D.state device.old) (D.state device.new) life.geometry life.ruling life.next life.free.items life.live.items) }
+
+        // Each key of a live slot has this place.
         ensures places { IfOk result (λ life. life.places ≡ self.places) }
+
+        // At Err an operation failed, and fewer were made than opening makes.
         ensures fault { IfErr result (λ fault. fault ≡ Fault.Device) }
         ensures failed { OnErr result (IsCutShort (D.state device.old) (D.state device.new)) }
 

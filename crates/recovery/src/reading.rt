@@ -33,7 +33,11 @@ pub fn read_image<R: Threads + Sync>(
     alloc: Global,
     words: &[u64],
 ) -> Result<ImageContents, Fault>
+    // The image is sound. It has this layout and this ruling record, and in order of the slots this key and row of each live
+    // slot.
     ensures ok { IfOk result (λ found. IsRead words.now found.geometry found.ruling found.rows.items) }
+
+    // At Err it is the image's first damage. Or it is OutOfMemory, if the superblock, the gates and the ruling record are right.
     ensures fault { IfErr result (IsReadRefusal words.now) }
 {
     read_device(rt, alloc, &ImageDevice::of(words))

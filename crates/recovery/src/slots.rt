@@ -110,6 +110,7 @@ fn look<D: Pmem>(device: &D, geometry: Geometry, ruling: Record, slot: u64) -> S
 const CHUNK: usize = 2048;
 
 // What one reading of each slot gives, in their order, by several threads. Each writes what it reads to its final place.
+/// Reads each slot once, in several threads, 2,048 slots at a time. Each thread puts its readings where they stay.
 pub fn read_slots<R: Threads + Sync, D: Pmem + Sync>(
     rt: &R,
     alloc: Global,
@@ -119,6 +120,9 @@ pub fn read_slots<R: Threads + Sync, D: Pmem + Sync>(
 ) -> Result<Vec<SlotReading>, AllocError>
     requires size { (D.state device.now).words ≡ total_words geometry }
     requires under { IsUnder geometry ruling (image_of (D.state device.now)) }
+
+    // Of each slot, in their order: its begin, its end, and that it is free, holds a live version, with its key, or is bad,
+    // whatever other slots hold.
     ensures { IfOk result (λ readings. readings.items ≡ readings_below (image_of (D.state device.now)) geometry.slots) }
 {
     let mut readings = vec![in alloc; UNREAD; geometry.slots() as usize]?;

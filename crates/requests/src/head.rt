@@ -46,7 +46,7 @@ impl Head {
     }
 }
 
-/// Fills the buffer, or returns false if the input ends first.
+/// Fills the buffer from the input, or returns false if the input ends with fewer bytes.
 pub fn fill<R: Read>(input: &mut R, buffer: &mut [u8]) -> io::Result<bool>
     ensures { IfOk result (λ filled. Fills filled (R.remaining input.old) (R.remaining input.new) buffer.new) }
 {

@@ -51,6 +51,8 @@ impl Opening {
 /// Reads the first frame of channel 0. `None` if it isn't such a request, or the input ends before it does. One that announces a longer
 /// name is `InvalidData`.
 pub fn receive_opening<R: Read>(alloc: Global, input: &mut R) -> io::Result<Option<Opening>>
+    // At Ok the bytes that were taken off the input are the frame of the request to open a store that is returned. Or they are a
+    // whole frame that isn't such a request's, or less than a frame, and the input has ended.
     ensures { IfOk result (ReceivesOpening (R.remaining input.old) (R.remaining input.new)) }
 {
     let mut bytes = [0; Head::SIZE];

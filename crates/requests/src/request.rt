@@ -69,6 +69,8 @@ pub enum Received {
 
 /// Reads the next frame. One that announces more bytes than a row has is `InvalidData`, and what comes behind it can't be read.
 pub fn receive<R: Read>(input: &mut R) -> io::Result<Received>
+    // At Ok the bytes that were taken off the input are the frame of the request that is returned. Or they are a whole frame that
+    // isn't a request's, or less than a frame, and the input has ended.
     ensures { IfOk result (Receives (R.remaining input.old) (R.remaining input.new)) }
 {
     let mut bytes = [0; Head::SIZE];

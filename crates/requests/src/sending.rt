@@ -14,6 +14,8 @@ use std::io::{ErrorKind, Write};
 
 /// Writes the frame of the reply.
 pub fn send<W: Write>(alloc: Global, output: &mut W, answer: &Answer) -> io::Result<()>
+    // At Ok the frame of the reply was added to the output. For rows or a status it may also be the frame which says that memory
+    // was refused.
     ensures { OnOk result (Sends (W.contents output.old) (W.contents output.new) answer.now) }
 {
     match answer {

@@ -24,6 +24,8 @@ pub fn serve<R: Wait + Drop, I: Read, O: Write>(
     input: &mut I,
     output: &mut O,
 ) -> io::Result<()>
+    // At Ok the input has ended, and except for less than a frame at its end each frame has exactly one reply, in their order. It
+    // is what `Session::answer` says about its request, or misuse if it isn't one.
     ensures { OnOk result (ServesAll (I.remaining input.old) (I.remaining input.new) (O.contents output.old) (O.contents output.new)) }
 {
     let mut session = Session::new(alloc, store);

@@ -5,7 +5,7 @@ use requests::Status;
 use std::alloc::Global;
 use store::StoreError;
 
-/// The status of a refusal.
+/// The status of each error of a store.
 pub fn status_of(error: &StoreError) -> Status
     ensures { result ≡ status_of error.now }
 {

@@ -34,6 +34,8 @@ impl<'a, R: Wait + Drop> Session<'a, R> {
 
     /// The reply to a request. What needs an open transaction, and finds none, is misuse.
     pub fn answer(&mut self, request: &Request) -> Answer
+        // The reply is what the store returns for the request in the open session, or misuse if the request needs one and none is
+        // open. The clause also says which session is open afterwards.
         ensures { Serves (option_map (λ t. t.snapshot.reads.session) self.old.current) request.now result (option_map (λ t. t.snapshot.reads.session) self.new.current) }
     {
         match *request {

@@ -107,13 +107,18 @@ impl Sessions {
         self.collector.has_swept()
     }
 
-    /// One visit of the collector, on the device on which the sessions show a plain state. It frees the slot of its place
-    /// if nobody reads the version any more, and sweeps it if that is due. It takes no memory, and looks only at the
-    /// snapshots of the open sessions. A crash within it leaves the history that was.
+    /// One visit of the collector. It frees the slot of its place if nobody reads the version any more, and sweeps it if that is
+    /// due. It takes no memory, and looks only at the snapshots of the open sessions. A crash within it leaves the history that
+    /// was.
     #[inline(always)]
     pub fn collect<D: Pmem>(&mut self, device: &mut D) -> Result<Visit, Fault>
         requires shown { ∥ ShowsSome self.old (D.state device.old) ∥₁ }
+
+        // The machine's own step for every plain state that the sessions show on the device and that hasn't failed. It has the
+        // machine's images and its bound on operations, and each flush and fence is the collector's (`Collects`).
         ensures step { Collects self.old self.new (D.state device.old) (D.state device.new) result }
+
+        // At Err the fault is Device.
         ensures fault { IfErr result (λ fault. fault ≡ Fault.Device) }
     {
         if self.collector.has_swept() {

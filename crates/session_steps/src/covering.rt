@@ -47,6 +47,9 @@ impl Sessions {
     #[inline(always)]
     pub fn cover(&mut self, ruling: Record)
         requires { ∥ MayCoverSome self.old ruling ∥₁ }
+
+        // The drawn commits that the record commits are covered: the sessions show the covered state whenever the device upholds
+        // it.
         ensures drawn { self.new.drawn.commits ≡ left_by ruling self.old.drawn.commits }
         ensures covers { Covers self.old self.new ruling }
         ensures shows { ShowsCovered self.old self.new ruling }

@@ -15,11 +15,13 @@ impl Sessions {
     ghost use Rattle.session_steps.specs.Replies.{done};
     ghost use Rattle.session_steps.specs.Steps.{HoldsSome, Takes};
 
-    /// Writes a deletion, and frees the slot that the session has for the key. It takes no memory.
+    /// Writes a deletion, and frees the slot that the session has for the key.
     #[inline(never)]
     pub fn delete(&mut self, session: u8, key: Key) -> Result<(), Fault>
         requires shown { ∥ HoldsSome self.old ∥₁ }
         ensures step { Takes self.old self.new (Delete session key) (done result) }
+
+        // It is never refused for lack of memory.
         ensures memory { IfErr result (λ fault. fault ≢ OutOfMemory) }
     {
         let active = match active_in(&self.transactions, session) {

@@ -7,7 +7,8 @@ pub fn sessions_show_any_hand()
     ensures { ShowsAnyHand }
 {}
 
-/// The dirty table has the lines that a batch touches, under the numbers of its sessions.
+/// Of the sessions of those drawn commits whose timestamps pass a test, the dirty table has exactly the lines that these commits
+/// touch.
 pub fn table_has_the_lines_of_a_batch()
     ensures { TableHasLines }
 {}

@@ -20,8 +20,8 @@ impl Sessions {
     ghost use Rattle.pmem.specs.Device.{Device, IsOrderly};
     ghost use Rattle.session_steps.specs.Opening.{ShowsOpened};
 
-    /// The sessions of a life that begins on an opened device, with the index of its slots, those that are free, and a table of its
-    /// lines that nobody touches. No session is open. It takes no memory.
+    /// The sessions of a life that begins on an opened device, with the index of its slots, those that are free, and a table of
+    /// its lines. No session is open. It takes no memory.
     pub fn open(
         alloc: Global,
         index: Index,
@@ -32,8 +32,12 @@ impl Sessions {
         next: Ts,
     ) -> Sessions
         requires slots { length slots ≡ geometry.slots }
+
+        // The dirty table has a place for each line of the layout, and none is touched.
         requires untouched { (n line : ℕ) → is_touched dirty n line ≡ false }
         requires sized { total_words geometry ≤ 8 * length dirty }
+
+        // They show the opened state whenever the device upholds it and the index has found its slots.
         ensures { (device : Device) → IsOrderly device → HasFound (image_of device) slots geometry.slots index → ShowsOpened result device geometry ruling next slots }
     {
         Sessions {

@@ -31,8 +31,7 @@ impl Sessions {
     ghost use Rattle.session_steps.specs.Replies.{done};
     ghost use Rattle.session_steps.specs.Steps.{HoldsSomeOn, TakesOn};
 
-    /// Writes a row that a slot holds: in the slot that the session has for the key, or else in the lowest free one. It takes no
-    /// memory.
+    /// Writes a row that a slot holds: in the slot that the session has for the key, or else in the lowest free one.
     #[inline(never)]
     pub fn put<D: Pmem>(
         &mut self,
@@ -43,6 +42,8 @@ impl Sessions {
     ) -> Result<(), Fault>
         requires shown { ∥ HoldsSomeOn self.old (D.state device.old) ∥₁ }
         ensures step { TakesOn self.old self.new (D.state device.old) (D.state device.new) (Put session key row) (done result) }
+
+        // It is never refused for lack of memory.
         ensures memory { IfErr result (λ fault. fault ≢ OutOfMemory) }
     {
         let active = match active_in(&self.transactions, session) {
@@ -76,6 +77,10 @@ impl Sessions {
         requires row { length row ≤ row_limit self.old.numbers.geometry.version }
         ensures step { TakesOn self.old self.new (D.state device.old) (D.state device.new) (Put session key row) (done result) }
         ensures memory { IfErr result (λ fault. fault ≢ OutOfMemory) }
+
+        // At Done the words of the slot hold the key, the row, and a link to the newest version of the key that the index knows,
+        // or none. The slot is the session's own for the key, or the lowest that was free. What reads need of it holds of each
+        // state that is shown (`Links`).
         ensures link { done result ≡ Done → IsVersion self.old.numbers.geometry (slot_at self.old.numbers.geometry slot (value_of (D.state device.new)))
             (record { key = key; row = row; previous = head_of (entry_at self.old.index key) }) }
     {
@@ -110,6 +115,10 @@ impl Sessions {
         requires row { length row ≤ row_limit self.old.numbers.geometry.version }
         ensures step { TakesOn self.old self.new (D.state device.old) (D.state device.new) (Put session key row) (done result) }
         ensures memory { IfErr result (λ fault. fault ≢ OutOfMemory) }
+
+        // At Done the words of the slot hold the key, the row, and a link to the newest version of the key that the index knows,
+        // or none. The slot is the session's own for the key, or the lowest that was free. What reads need of it holds of each
+        // state that is shown (`Links`).
         ensures link { done result ≡ Done → (slot : ℕ) × (lowest_free self.old.slots ≡ Some slot)
             × IsVersion self.old.numbers.geometry (slot_at self.old.numbers.geometry slot (value_of (D.state device.new)))
             (record { key = key; row = row; previous = head_of (entry_at self.old.index key) }) }

@@ -16,7 +16,13 @@ pub fn snapshots_read_their_tables()
 
 /// From a key's newest version that is held, links lead to the version that a snapshot sees; also in a failed state.
 pub fn links_lead_to_what_is_seen()
+    // They lead there in the words of an image whose slots and links are those of a state. This holds for each snapshot of some
+    // number of first commits, in use or not, that has three properties. Of the opening's record and of what this life drew, it
+    // covers exactly what these commits have. It has no gap that the opening didn't leave. It covers the end of each version that
+    // was freed in this life or that the opening found ended (`CoversFreed`, `SeesBegins`).
     ensures chains { ChainsLead }
+
+    // They do so on a device for each snapshot in use.
     ensures device { LinksLead }
 {}
 

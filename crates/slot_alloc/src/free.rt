@@ -79,7 +79,7 @@ impl SlotAlloc {
         }
     }
 
-    /// Makes a slot free.
+    /// Makes a slot free. The others are as before.
     pub fn give(&mut self, slot: u64)
         requires { slot < length self.old }
         ensures { self.new ≡ slice_set self.old slot true }
@@ -97,17 +97,22 @@ impl SlotAlloc {
         requires slots { length self.old ≡ geometry.slots }
         requires device { (D.state device.old).words ≡ total_words geometry }
 
+        // The lowest free slot, which alone is taken.
         ensures lowest { IfOk result (λ slot. lowest_free self.old ≡ Some slot) }
         ensures taken { IfOk result (λ slot. self.new ≡ slice_set self.old slot false) }
+
+        // Its begin is settled at 0.
         ensures cleared { IfOk result (λ slot. IsSettledAt (D.state device.new) (slot_start geometry slot) 0) }
 
-        // After an error the free slots are as before. If no slot is free, nothing is done.
+        // At Err the free slots are as before. SlotsOut exactly if no slot is free, and then no operation was made. Otherwise the
+        // fault is Device.
         ensures err { OnErr result (self.new ≡ self.old) }
         ensures out { (result ≡ Err SlotsOut) ↔ (lowest_free self.old ≡ None) }
         ensures unmoved { result ≡ Err SlotsOut → D.state device.new ≡ D.state device.old }
         ensures fault { IfErr result (λ fault. (fault ≡ SlotsOut) ⊎ (fault ≡ Device)) }
 
-        // A store in the begin of the lowest free slot, a flush of its line, a fence; at a failing device the first few of them.
+        // Exactly a store of 0 in the slot's begin, a flush of its line and a fence. If the device fails, one of them failed
+        // after those before it.
         ensures size { (D.state device.new).words ≡ (D.state device.old).words }
         ensures run { IfOk result (λ slot. Runs (clear_operations geometry actor.number slot) (D.state device.old) (D.state device.new)) }
         ensures stopped { result ≡ Err Device → (slot : ℕ) × (lowest_free self.old ≡ Some slot) × StopsWithin (clear_operations geometry actor.number slot) (D.state device.old) (D.state device.new) }

@@ -79,6 +79,7 @@ impl Snapshot {
 
     /// Whether the commit of this timestamp is covered: whether a record with these numbers commits it.
     pub fn covers(&self, ts: Ts) -> bool
+        // Exactly whether a record with these numbers commits the timestamp.
         ensures covers { result ≡ covers self.now ts }
         ensures of_record { (r : RecordValue) → self.now ≡ seen_by r → result ≡ is_committed r ts }
     {

@@ -16,7 +16,7 @@ pub struct Numbers {
 }
 
 impl Numbers {
-    /// What the record covers, borrowed from it.
+    /// What the record covers, borrowed from it: its persisted timestamp, its gaps and its long commits (`seen_by`).
     #[inline(always)]
     pub fn covered(&self) -> Covered<'_>
         requires { IsTrue (is_gap_list self.now.record.gaps) }
@@ -52,6 +52,8 @@ impl Numbers {
     /// Draws the next timestamp.
     pub fn draw(&mut self) -> Ts
         requires { self.old.next < 2 ^ 62 }
+
+        // The next timestamp, which is one higher then. No other number changes.
         ensures timestamp { result ≡ self.old.next }
         ensures numbers { self.new ≡ record self.old { next = self.old.next + 1 } }
     {

@@ -22,6 +22,7 @@ pub struct LastLine<W> {
 impl<W: Write> LastLine<W> {
     ghost use Rattle.standard_streams.specs.Held.{held_in, output_of};
 
+    /// Over this output, with nothing held.
     pub fn new(alloc: Global, output: W) -> Result<LastLine<W>, AllocError>
     where
         W: Drop,
@@ -39,10 +40,11 @@ impl<W: Write> LastLine<W> {
         &self.output
     }
 
-    /// Passes on what is held. The output then has all that was written.
+    /// Passes on what is held.
     pub fn finish(self) -> io::Result<W>
     where
         W: Drop,
+        // The output then has all that was written.
         ensures whole { IfOk result (λ output. Keeps (append_known (W.contents (output_of self)) (held_in self)) (W.contents output)) }
     {
         let LastLine { mut output, held } = self;
@@ -50,7 +52,7 @@ impl<W: Write> LastLine<W> {
         Ok(output)
     }
 
-    /// Drops what is held.
+    /// Drops what is held, and returns the output as it was.
     pub fn give_up(self) -> W
         ensures output { result ≡ output_of self }
     {
@@ -81,9 +83,18 @@ impl<W: Write> Write for LastLine<W> {
     // Takes what belongs to one line.
     fn write(&mut self, buf: &[u8]) -> io::Result<usize>
         ensures bound { WritesAtMost result buf.now }
+
+        // What the output has and what is held is, in this order, all that was written. An error changes neither.
         ensures bytes { WriteAppends (append_known (W.contents (output_of self.old)) (held_in self.old)) (append_known (W.contents (output_of self.new)) (held_in self.new)) result buf.now }
+
+        // Of what is given no more than its first line is taken. Together with what was held of its beginning it is held, whole,
+        // if it isn't ended yet or says that the work was done. If it is another, whole line, nothing is held then (`TakesLine`).
         ensures line { IfOk result (TakesLine (held_in self.old) (held_in self.new) buf.now) }
+
+        // A line that says that the work was done, `closed`, `formatted` or `stopped`, isn't passed on.
         ensures held { held_in self.old ≡ [] → IsOneLine buf.now → IsTrue (ends_work buf.now) → output_of self.new ≡ output_of self.old }
+
+        // Every other whole line is.
         ensures passed { held_in self.old ≡ [] → IsOneLine buf.now → IsTrue (is_ended buf.now) → ends_work buf.now ≡ false → held_in self.new ≡ [] }
     {
         if is_ended(self.held.as_slice()) {
@@ -99,6 +110,7 @@ impl<W: Write> Write for LastLine<W> {
 
     // What is held stays held.
     fn flush(&mut self) -> io::Result<()>
+        // What is held stays held, and the output has what it had.
         ensures bytes { Keeps (append_known (W.contents (output_of self.old)) (held_in self.old)) (append_known (W.contents (output_of self.new)) (held_in self.new)) }
         ensures held { held_in self.new ≡ held_in self.old }
     {

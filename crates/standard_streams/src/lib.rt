@@ -1,5 +1,8 @@
-//! What the programs do with the three standard streams: an output that holds back its last line, and numbers that no
-//! file of theirs may get.
+//! What the programs do with the three standard streams: an output that holds back its last line, and numbers that no file of
+//! theirs may get.
+//!
+//! Nothing is claimed about `reserve`: no clause says which number the system gives.
+
 #![tactic(auto)]
 
 mod descriptors;

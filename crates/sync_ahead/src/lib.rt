@@ -13,14 +13,14 @@ pub trait SyncAhead: Pmem {
     type Pending: Drop;
 
     /// If this actor's next fence would wait for a sync, hands that sync out, to be made and taken back before the fence. `None`
-    /// if the fence doesn't wait for anything that can be made ahead of it. The call doesn't count as an operation.
+    /// if the fence doesn't wait for anything that can be made ahead of it. Nothing is done to the device.
     fn begin_sync(&mut self, actor: Actor) -> Option<Self::Pending>
         ensures { Self.state self.new ≡ Self.state self.old };
 
     /// Makes the sync, and waits until it ends.
     fn sync(pending: &mut Self::Pending);
 
-    /// Takes the sync back. This doesn't count as an operation.
+    /// Takes the sync back. Nothing is done to the device.
     fn end_sync(&mut self, pending: Self::Pending)
         ensures { Self.state self.new ≡ Self.state self.old };
 }

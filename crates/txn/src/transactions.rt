@@ -185,6 +185,7 @@ impl Transactions {
     /// The transaction of this number. Numbers are from 2 to 63.
     #[inline(always)]
     pub fn get(&self, number: u8) -> Option<&Transaction>
+        // The transaction of that number, and of no other.
         ensures transaction { option_copied result ≡ transaction_at self.now number }
         ensures within { IfSome result (λ transaction. (2 ≤ number) × (number < 64)) }
     {
@@ -195,6 +196,7 @@ impl Transactions {
     /// The lowest number of an Active transaction, from this number on.
     #[inline(always)]
     pub fn next_active(&self, from: u8) -> Option<u8>
+        // None exactly if there is none (`IsNextActive`).
         ensures some { IfSome result (λ n. IsNextActive self.now from n) }
         ensures none { IfNone result ((n : ℕ) → from ≤ n → is_active (transaction_at self.now n) ≡ false) }
     {
@@ -203,8 +205,13 @@ impl Transactions {
 
     /// Opens a transaction that reads what is covered, under the lowest number that is free. Its memory is taken here.
     pub fn begin(&mut self, covered: &Covered<'_>) -> Result<u8, Fault>
+        // The lowest free number from 2.
         ensures number { IfOk result (λ n. IsLowestFree self.old n) }
+
+        // Under it a transaction reads the snapshot and has written nothing.
         ensures opened { IfOk result (λ n. Sets self.old self.new n (Some (Active covered.now []))) }
+
+        // SessionsFull exactly if 62 are open, and at a refusal nothing changes.
         ensures same { IfErr result (λ fault. self.new ≡ self.old) }
         ensures fault { IfErr result (λ fault. (fault ≡ SessionsFull) × IsFull self.old ⊎ (fault ≡ OutOfMemory) × ((n : ℕ) × IsLowestFree self.old n)) }
     {
@@ -230,7 +237,7 @@ impl Transactions {
         }
     }
 
-    /// Replaces the state of an open transaction by another one.
+    /// Replaces the state of an open transaction by another one. No other transaction changes.
     pub fn set(&mut self, number: u8, transaction: Transaction)
         requires { IsSome (transaction_at self.old number) }
         ensures { Sets self.old self.new number (Some transaction) }
@@ -244,7 +251,7 @@ impl Transactions {
         }
     }
 
-    /// Ends an open transaction: its number is free.
+    /// Ends an open transaction: its number is free. No other transaction changes.
     pub fn end(&mut self, number: u8)
         requires { IsSome (transaction_at self.old number) }
         ensures { Sets self.old self.new number None }
@@ -258,7 +265,7 @@ impl Transactions {
         }
     }
 
-    /// Keeps the set of a commit that is no longer drawn, for a transaction that begins.
+    /// Keeps the set of a commit that is no longer drawn, for a transaction that begins. No transaction changes.
     pub fn keep(&mut self, writes: WriteSet)
         ensures { self.new ≡ self.old }
     {
@@ -269,6 +276,8 @@ impl Transactions {
     #[inline(always)]
     pub fn draw(&mut self, number: u8, timestamp: Ts) -> WriteSet
         requires { (snapshot : Seen) × (writes : List Write) × (transaction_at self.old number ≡ Some (Active snapshot writes)) }
+
+        // The writes are handed over, the transaction has drawn the timestamp, and no other changes.
         ensures writes { (snapshot : Seen) × (transaction_at self.old number ≡ Some (Active snapshot result)) }
         ensures drawn { Sets self.old self.new number (Some (Drawn timestamp)) }
     {
@@ -284,7 +293,7 @@ impl Transactions {
         writes
     }
 
-    /// Writes in place, for an Active transaction with room for it.
+    /// Writes in place, for an Active transaction with room for it. No other transaction changes.
     #[inline(always)]
     pub fn write(&mut self, number: u8, write: Write)
         requires { (snapshot : Seen) × (writes : List Write) × (transaction_at self.old number ≡ Some (Active snapshot writes)) × HasRoomFor write.key writes }

@@ -14,6 +14,8 @@ use pmem::Pmem;
 pub fn read<D: Pmem>(device: &D, geometry: Geometry, slot: u64) -> Option<Slot>
     requires slot { slot < geometry.slots }
     requires device { (D.state device.now).words ≡ total_words geometry }
+
+    // The slot whose words the last values are. None exactly if no slot has these words.
     ensures some { IfSome result (IsSlot geometry (slot_at geometry slot (value_of (D.state device.now)))) }
     ensures none { IfNone result ((found : Slot) → ¬ IsSlot geometry (slot_at geometry slot (value_of (D.state device.now))) found) }
 {
@@ -24,6 +26,8 @@ pub fn read<D: Pmem>(device: &D, geometry: Geometry, slot: u64) -> Option<Slot>
 pub fn read_key<D: Pmem>(device: &D, geometry: Geometry, slot: u64) -> Option<Key>
     requires slot { slot < geometry.slots }
     requires device { (D.state device.now).words ≡ total_words geometry }
+
+    // The key of the version whose words the last values after begin and end are. None exactly if no version has these words.
     ensures some { IfSome result (λ key. (version : Version) × IsVersion geometry (slot_at geometry slot (value_of (D.state device.now))) version × (version.key ≡ key)) }
     ensures none { IfNone result ((version : Version) → ¬ IsVersion geometry (slot_at geometry slot (value_of (D.state device.now))) version) }
 {

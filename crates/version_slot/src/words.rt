@@ -33,6 +33,7 @@ impl Slot {
     /// an unused bit, a byte past the row's end or the previous slot isn't as it should be.
     #[inline(always)]
     pub fn from_words(words: &[u64; 16], geometry: Geometry) -> Option<Slot>
+        // The slot that has these words. None exactly if there is none.
         ensures some { IfSome result (IsSlot geometry (slice_index words.now)) }
         ensures none { IfNone result ((slot : Slot) → ¬ IsSlot geometry (slice_index words.now) slot) }
     {
@@ -110,8 +111,13 @@ impl Version {
     pub(crate) fn put_words(&self, count: usize, words: &mut [u64; 16])
         requires count { (4 ≤ count) × (count ≤ 16) }
         requires link { link_number self.now.previous < 2 ^ 32 }
+
+        // These places get the words of a slot that is filled with the version, from the second word on. There are still 16
+        // places.
         ensures size { length words.new ≡ 16 }
         ensures words { (w : ℕ) → 1 ≤ w → w < count → slice_index words.new w ≡ filled_word self.now w }
+
+        // The table and the bytes are within their ranges.
         ensures table { self.now.key.table < 2 ^ 16 }
         ensures bytes { (i : ℕ) → slice_index self.now.row i < 2 ^ 8 }
     {

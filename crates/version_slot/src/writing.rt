@@ -24,9 +24,17 @@ pub fn fill<D: Pmem>(
     requires row { length version.now.row ≤ row_limit geometry.version }
     requires previous { link_number version.now.previous ≤ geometry.slots }
     requires device { (D.state device.old).words ≡ total_words geometry }
+
+    // The words hold the version, with no end.
     ensures version { OnOk result (IsVersion geometry (slot_at geometry slot (value_of (D.state device.new))) version.now) }
+
+    // At Err the fault is Device.
     ensures fault { IfErr result (λ fault. fault ≡ Fault.Device) }
+
     ensures size { (D.state device.new).words ≡ (D.state device.old).words }
+
+    // Exactly the words after the begin are stored in order, seven or fifteen, and nothing else is done to the device. At Err the
+    // first few of them were stored, then one operation failed.
     ensures run { OnOk result (Runs (fill_operations geometry slot version.now) (D.state device.old) (D.state device.new)) }
     ensures stopped { OnErr result (StopsWithin (fill_operations geometry slot version.now) (D.state device.old) (D.state device.new)) }
 {
@@ -76,8 +84,13 @@ pub fn stamp_begin<D: Pmem>(
 ) -> Result<(), Fault>
     requires slot { slot < geometry.slots }
     requires device { (D.state device.old).words ≡ total_words geometry }
+
+    // At Err the fault is Device.
     ensures fault { IfErr result (λ fault. fault ≡ Fault.Device) }
+
     ensures size { (D.state device.new).words ≡ (D.state device.old).words }
+
+    // The one word is stored and nothing else is done, or one operation failed and nothing was done.
     ensures run { OnOk result (Runs (begin_operations geometry (Some slot) timestamp) (D.state device.old) (D.state device.new)) }
     ensures stopped { OnErr result (StopsWithin (begin_operations geometry (Some slot) timestamp) (D.state device.old) (D.state device.new)) }
 {
@@ -94,8 +107,13 @@ pub fn stamp_end<D: Pmem>(
 ) -> Result<(), Fault>
     requires slot { slot < geometry.slots }
     requires device { (D.state device.old).words ≡ total_words geometry }
+
+    // At Err the fault is Device.
     ensures fault { IfErr result (λ fault. fault ≡ Fault.Device) }
+
     ensures size { (D.state device.new).words ≡ (D.state device.old).words }
+
+    // The one word is stored and nothing else is done, or one operation failed and nothing was done.
     ensures run { OnOk result (Runs (end_operations geometry (Some slot) timestamp) (D.state device.old) (D.state device.new)) }
     ensures stopped { OnErr result (StopsWithin (end_operations geometry (Some slot) timestamp) (D.state device.old) (D.state device.new)) }
 {

@@ -4,12 +4,12 @@
 ghost use Rattle.worked.specs.Images.{FirstRunImages, DamagedImages, NinthGap, ReadImages, LongCommits};
 ghost use Rattle.worked.specs.Runs.{FirstCommit, FailedFence, LostCommit, EmptyWriteSet, HalfWritten, CloseThenOpen, SessionNumbers, OwnWrites, Scans, Update, TwoKeys, AbortedWrites, FullWriteSet, NoSlotLeft, FirstCommitterWins, NoTimestampLeft, FreedSlots, SweptGaps};
 
-/// The words of the images of a first run, and what they stand for.
+/// The words of the images of a first run, their ruling records, and what they stand for.
 pub fn first_run_images()
     ensures { FirstRunImages }
 {}
 
-/// Which fault each damaged image gives.
+/// Which fault each damaged image has.
 pub fn damaged_images()
     ensures { DamagedImages }
 {}
@@ -29,7 +29,7 @@ pub fn long_commits()
     ensures { LongCommits }
 {}
 
-/// A first commit, its ticks and replies, and its row after the next opening.
+/// A first commit: its replies, its 42 ticks, and its row after the next opening.
 pub fn first_commit()
     ensures { FirstCommit }
 {}
@@ -39,7 +39,7 @@ pub fn failed_fence()
     ensures { FailedFence }
 {}
 
-/// A commit that is stamped and not covered when the device stops is lost for good.
+/// A commit that is stamped and not covered at a stop is lost for good, and its slot is free.
 pub fn lost_commit()
     ensures { LostCommit }
 {}
@@ -54,7 +54,7 @@ pub fn half_written_record()
     ensures { HalfWritten }
 {}
 
-/// Closing covers what is drawn and leaves no timestamp reserved.
+/// Closing covers what is drawn and leaves no timestamp reserved, and the next opening has no gap.
 pub fn close_then_open()
     ensures { CloseThenOpen }
 {}
@@ -74,7 +74,7 @@ pub fn scans()
     ensures { Scans }
 {}
 
-/// An update takes a slot of its own and leaves the version that it replaces in place.
+/// An update takes a slot of its own, and the version that it replaces keeps its slot.
 pub fn updated_row()
     ensures { Update }
 {}
@@ -89,7 +89,7 @@ pub fn aborted_transaction()
     ensures { AbortedWrites }
 {}
 
-/// A transaction writes thirty-two keys, and no more.
+/// A transaction writes 32 keys and no more, and one of them may be written again.
 pub fn full_write_set()
     ensures { FullWriteSet }
 {}
@@ -99,12 +99,12 @@ pub fn no_slot_left()
     ensures { NoSlotLeft }
 {}
 
-/// If two sessions write a key, the first to draw wins.
+/// If two sessions write the same key, the first to draw wins.
 pub fn first_committer_wins()
     ensures { FirstCommitterWins }
 {}
 
-/// A draw needs a timestamp in the window, and numbers below the limit.
+/// A draw is refused at the bounds of the window and of the numbers, and not below them.
 pub fn no_timestamp_left()
     ensures { NoTimestampLeft }
 {}
