@@ -7,7 +7,8 @@
     ./picture --program WBL    by this program, and not by one that is built now without proofs, in minutes
 
 An update that replaces the row `old` by `new` makes 54 operations on the device. It is stopped after each number of them, from none
-to all, once with the oldest and once with the newest survivor of each word; then the store is opened again and the row is read.
+to all, once with the oldest and once with the newest survivor of each word, so once with every unfenced word lost and once with
+every one kept; then the store is opened again and the row is read.
 These are 110 scripts for `wbl lives`, and each cell of the picture is what one of them prints.
 
 The page shows another update, of a row of four words, whose new version takes the slot of an older one. After each number of its
@@ -30,7 +31,8 @@ import page
 
 ROOT = pathlib.Path(__file__).resolve().parent.parent.parent
 OPENING = 39
-SURVIVORS = ("oldest", "newest")
+# The survivors that a stop leaves of each word, and what that is called in the picture.
+SURVIVORS = {"oldest": "unfenced lost", "newest": "unfenced kept"}
 OLD, NEW = b"old".hex(), b"new".hex()
 
 # What an update does to the device, in its order: what the operations are for, and which they are. A letter is an operation: s a
@@ -163,11 +165,12 @@ class Picture:
 
     def text(self):
         """Returns lines of text."""
-        lines = ["One update, stopped after each number of its 54 operations, and what the next opening finds:", ""]
+        lines = ["One update, cut off after each number of its 54 operations, and the row that is found on reopening:", ""]
         lines += [f"  {'operations':17} {OPERATIONS}   s store, f flush, | fence, G the record's number"]
-        lines += [f"  {survivor + ' survivors':16} {self.found[survivor]}" for survivor in SURVIVORS]
+        lines += [f"  {label:16} {self.found[survivor]}" for survivor, label in SURVIVORS.items()]
         lines += [f"  {'':16} {' ' * self.acknowledged}^ acknowledged: from here on"]
-        return "\n".join([*lines, "", "  o the old row, N the new one; never a part of one, and none is lost"])
+        lines += ["", "  o the old row, N the new one; never a part of one, and none is lost"]
+        return "\n".join([*lines, "  unfenced lost: every word that no fence has made durable is lost; unfenced kept: every one is kept"])
 
 
 CELL, LEFT, TOP = 13, 132, 74
@@ -198,14 +201,14 @@ def svg_marks():
 
 def svg_cells(picture):
     """Yields the two rows of cells."""
-    for row, survivor in enumerate(SURVIVORS):
+    for row, (survivor, label) in enumerate(SURVIVORS.items()):
         y = TOP + row * 26
-        yield svg_text(LEFT - 10, y + 15, f"{survivor} survivors", 'text-anchor="end"')
+        yield svg_text(LEFT - 10, y + 15, label, 'text-anchor="end"')
         for stop, found in enumerate(picture.found[survivor]):
             row_found = "the new row" if found == "N" else "the old row"
             yield (
                 f'<rect x="{column(stop) + 1}" y="{y}" width="{CELL - 2}" height="20" rx="2" fill="{COLOURS[found]}">'
-                f"<title>stopped after {stop} operations: {row_found}</title></rect>"
+                f"<title>cut off after {stop} operations: {row_found}</title></rect>"
             )
 
 
@@ -228,7 +231,7 @@ def svg_legend(picture):
 def svg(picture):
     width, height = column(len(OPERATIONS) + 1) + 16, TOP + 94
     body = [
-        svg_text(16, 20, "One update, stopped after each number of its 54 device operations: what the next opening finds", 'class="title"'),
+        svg_text(16, 20, "One update, cut off after each number of its 54 device operations: the row that is found on reopening", 'class="title"'),
         *svg_marks(), *svg_cells(picture), *svg_legend(picture),
     ]
     style = "text{font:12px system-ui,sans-serif;fill:#20304a}.small{font-size:11px}.title{font-weight:600;font-size:13px}"
