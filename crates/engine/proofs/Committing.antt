@@ -74,7 +74,7 @@ asks_some : (phase : Phase) (n : ℕ) (one two three : List Receipt) → n ≡ n
     → AskCommit phase (one ++ (two ++ three))
 asks_some phase n one two three is asks polls ends short = grind (arith)
 
--- where a transaction is open, a call is declined as its steps report
+-- if a transaction is open, a call is declined as its steps report
 pub declines : (E : Fault → Type 0) (phase : Phase) (added : List Receipt) (fault : Fault) → phase ≢ Idle → ReportsEnd E added fault → AreUnended added → DeclinesCall E phase added fault
 declines a b added fault is_open tells unended = grind (arith)
 

@@ -133,7 +133,7 @@ module _ (layout : Layout) (device : Device) (since moment : ℕ) (image : Image
 
 -- ---- what it stands for
 
--- where the image between stands for one of these covers, and the found one stands for that whose gate it has
+-- if the image between stands for one of these covers, and the found one stands for that whose gate it has
 stands-from : (q : State) (covers : List Cover) (device : Device) (since moment : ℕ) (image : Image) (found : IsFound q.layout device since moment image)
     → StandsAsOne q covers (mixed q.layout device since moment image found)
     → (is_formatted image ≡ false) ⊎ ((cover : Cover) → Contains covers cover → (ruling image).gate ≡ cover.ruled_by.gate → StandsFor cover image)

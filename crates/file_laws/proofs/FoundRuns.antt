@@ -59,7 +59,7 @@ means-closing q states image (cover, has, under) = elim (Contains-append_cases (
 ]
 
 module _ (q : State) (steps : List Step) (replies : List Reply) (states : List State) (numbered : IsNumbered q) (run : Run q steps replies states) (image : Image) where
-  -- it stands for what may rule along the run, or is its close's, where it has that gate
+  -- it stands for what may rule along the run, or for what its close writes, if it has that gate
   for-rule : Means q states image → is_formatted image ≡ false ⊎ ((cover : Cover) → MayRule q states cover → (ruling image).gate ≡ cover.ruled_by.gate → StandsFor cover image)
   for-rule a = grind (arith, least-gate, one-cover, closes-above)
 

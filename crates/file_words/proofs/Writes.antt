@@ -118,7 +118,7 @@ begins held shown now now_shown start end le found others = record {
   zeros = λ word x here lt h. absurd (omega (arith, here, lt));
 }
 
--- where a part fails
+-- if a part fails
 pub before-part : (held mid now : ℕ → ℕ → Type 0) (start at : ℕ) (part : List ℕ) → start ≤ at → ((word x : ℕ) → word < start → mid word x → held word x)
     → ((word x : ℕ) → now word x → mid word x ⊎ IsInRun at part word x) → (word x : ℕ) → word < start → now word x → held word x
 before-part held mid now start at part le before finds word x lt h = elim (finds word x h) [

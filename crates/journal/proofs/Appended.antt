@@ -282,7 +282,7 @@ may-kept may_hold words room pass position next image some size (inr stood) =
     let by : IsStoodFor may_hold words room image = subst (λ (n : ℕ). IsStoodFor may_hold n room image) size stood in
     equal_out image next (∥∥₁_map some (λ r. equal_out image next (known-opens may_hold words room pass next r.known by.file image by.found by.opens)))
 
--- where all that is found stands for the image that was written last
+-- if all that is found stands for the image that was written last
 pub stands-among : (before now : ℕ → ℕ → Type 0) (room : ℕ) (durable : List ℕ) → FoundOpens now (length durable) room durable → StandsAmong before now room durable
 stands-among before now room durable all image stood = inl (equal_out image durable (all stood.file image stood.found stood.opens))
 

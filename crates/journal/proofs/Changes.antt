@@ -54,7 +54,7 @@ found-more lines line durable words numbers number before is at inside same = re
   within = all_more (λ l. 8 * l.number + 8 ≤ length words) lines line before.within (omega (arith, at, inside));
 }
 
--- where no line is, nothing changed
+-- without a line nothing changed
 pub unchanged : (durable words : List ℕ) → AreChanged [] durable words → length words ≡ length durable → words ≡ durable
 unchanged durable words changed same = ext_get_or 0 words durable same (λ word lt. sym (changed.makes word lt))
 

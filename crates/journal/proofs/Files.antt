@@ -61,7 +61,7 @@ pub same_lines : (words room : ℕ) (file found : List ℕ) → length file ≡ 
     → ((at : ℕ) → words ≤ at → at < words + room + 8 → get_or found at 0 ≡ get_or file at 0) → lines_in words room found ≡ lines_in words room file
 same_lines words room file found size_file size_found same = grind (arith, same_journal)
 
--- where the journal counts, by its pass
+-- if the journal counts, by its pass
 pub lines-on : (words room : ℕ) (pass : Bool) (file : List ℕ) → is_on words room file ≡ true → get_or file (words + room + 3) 0 ≡ pass_word pass → lines_in words room file ≡ lines_found pass (journal_in words room file)
 lines-on words room pass file on is = grind (arith)
 
@@ -100,7 +100,7 @@ file-stands may_hold words room file holds is_file image opens = found_opens may
 pub opened-stands : (may_hold : ℕ → ℕ → Type 0) (words room : ℕ) (file image : List ℕ) → Opens words room file image → FoundOpens may_hold words room image → StandsAs may_hold words room file
 opened-stands may_hold words room file image opens all is_file other is = subst (λ (l : List ℕ). FoundOpens may_hold words room l) (opens-one words room file image other opens is) all
 
--- and so, where no other image may be found
+-- and so, if no other image may be found
 pub only-stands : (may_hold : ℕ → ℕ → Type 0) (words room : ℕ) (file image : List ℕ) → Opens words room file image → ((other : List ℕ) → MayBe may_hold room image other → other ≡ image) → StandsAs may_hold words room file
 only-stands may_hold words room file image opens only = opened-stands may_hold words room file image opens (λ found other is stands.
     let stood : IsStoodFor may_hold words room other = record { file = found; found = is; opens = stands } in

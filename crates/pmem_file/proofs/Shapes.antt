@@ -125,7 +125,7 @@ of-two size room size' room' sum some (inl a) (inr b) = absurd (omega (arith, su
 of-two size room size' room' sum some (inr a) (inl b) = (a, omega (arith, sum, a, b))
 of-two size room size' room' sum some (inr a) (inr b) = (a, b)
 
--- where a file that was being made longer ends with a tail already, it is that of its shape
+-- if a file that was being made longer ends with a tail already, it is that of its shape
 growing-tail : (asked : Option Layout) (words : List ℕ) (size room : ℕ) → IsFile size room (length words) → HasTail size room words → (g : IsGrowing asked words) → (size ≡ total_words g.layout) × (room ≡ g.room)
 growing-tail asked words size room file tail g =
     let end : size + room ≡ total_words g.layout + g.room = omega (arith, file.size, g.size) in
@@ -174,7 +174,7 @@ no-ours asked words whole_not untailed growing (inr (inr g)) = growing g
 head-layout : (n : ℕ) (words : List ℕ) → 8 ≤ n → layout_of (take n words) ≡ layout_of words
 head-layout n words some = grind (arith, get_or-take)
 
--- where its image is laid out, its words name a layout
+-- if its image is laid out, its words name a layout
 growing-limits : (a : Layout) (words : List ℕ) → total_words a ≤ length words → IsLaidOut a (take (total_words a) words) → (5 ≤ length words) × (is_in_limits (layout_of words) ≡ true)
 growing-limits a words le laid =
     (omega (arith, le), subst (λ (l : Layout). is_in_limits l ≡ true) (head-layout (total_words a) words (omega arith)) (grind (arith, and_parts, laid.geometry)))

@@ -39,7 +39,7 @@ table-of Existing size channels = refl
 table-of (Narrow n) size channels = refl
 table-of (Wide n) size channels = refl
 
--- where the name isn't text, the frame is none of a request
+-- if the name isn't text, the frame isn't that of a request
 pub no-text : (head : Head) (payload : List ℕ) (layout : AskedLayout) (name : List ℕ) → asked_head layout (length name) head.table ≡ head → asked_bytes layout ++ name ≡ payload
     → (IsUtf8 name → ⊥) → IsOpeningOf head payload None
 no-text head payload layout name is made none opening same whole =

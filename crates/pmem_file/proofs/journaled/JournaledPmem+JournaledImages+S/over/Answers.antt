@@ -33,11 +33,11 @@ returns-in-Ok-new-clause-device g c =
 pub returns-in-Ok-new-clause-works : goal.returns-in-Ok-new-clause-works
 returns-in-Ok-new-clause-works g c = ap (λ i. i.failure) c.in-Ok-new.ensures.keeps ∙ c.in_ok-images.ensures.works
 
--- where the storage is the same
+-- if the storage is the same
 moved : {S : Type 0} (may_hold : S → ℕ → ℕ → Type 0) (old new : S) (words room : ℕ) (file : List ℕ) → new ≡ old → StandsAs (may_hold old) words room file → StandsAs (may_hold new) words room file
 moved {S} may_hold old new words room file same = subst (λ (s : S). StandsAs (may_hold s) words room file) (sym same)
 
--- where no other image may be found, by the room that was asked for
+-- if no other image may be found, by the room that was asked for
 kept : (may_hold : ℕ → ℕ → Type 0) (words room named : ℕ) (file image : List ℕ) → named ≡ room → Opens words room file image
     → ((other : List ℕ) → MayBe may_hold named image other → other ≡ image) → StandsAs may_hold words room file
 kept may_hold words room named file image is opens only =
