@@ -32,14 +32,24 @@ impl<D: Pmem + Drop> Audited<D> {
     ghost use Rattle.room.specs.Room.{Leads, Shows, ShowsStatus};
     ghost use Rattle.audited.specs.Audit.{IsAudited, IsLastOfRun, Keeps, Stays};
 
-    /// One step, which is kept in the history. For lack of memory there is no receipt, and nothing is kept or changed.
+    /// One step, which is kept in the history.
     pub fn step(&mut self, step: Step) -> (Reply, Option<Receipt>)
-        // The entry is the history's last: the step asked, and the note of the reply.
+        // With a receipt the history is longer by the step asked and the note of the reply. The receipt is that entry, and its
+        // place is the length before. The reply isn't lack of memory.
         ensures kept { IfSome result.1 (λ receipt. Keeps self.old.entries.items self.new.entries.items step result.0 receipt) }
+
+        // With a receipt the room's step, as `Room::step` says.
         ensures step { IfSome result.1 (λ receipt. Leads D.state self.old.room self.new.room step result.0) }
+
+        // With a receipt it is the last entry of a run of `place + 1` steps from opening an image.
         ensures run { IfSome result.1 (λ receipt. ∥ IsLastOfRun receipt ∥₁) }
+
+        // Without a receipt the reply is lack of memory, the history is as before, and the room shows what it showed. What a
+        // crash left meanwhile stands for that too.
         ensures refused { IfNone result.1 ((result.0 ≡ Refused OutOfMemory) × (self.new.entries.items ≡ self.old.entries.items)) }
         ensures stays { IfNone result.1 ((q : State) → Shows D.state self.old.room q → Stays D.state self.old.room self.new.room step q) }
+
+        // The numbers of the opening stay, and a run from an image stays one from it.
         ensures opening { self.new.opening ≡ self.old.opening }
 
         // If the history is a run from an image, it stays one from there.
@@ -76,20 +86,21 @@ impl<D: Pmem + Drop> Audited<D> {
 
     /// Each step since the opening, with its note.
     pub fn history(&self) -> &[(Step, Note)]
+        // The entries are the run above.
         ensures entries { result.now ≡ self.now.entries.items }
         ensures audited { ∥ HasHistory D.state self.now.room self.now.opening self.now.entries.items ∥₁ }
     {
         &self.entries
     }
 
-    /// The layout of the device.
+    /// As `Room` says, now.
     pub fn geometry(&self) -> Geometry
         ensures { (q : State) → Shows D.state self.now.room q → result ≡ q.layout }
     {
         self.room.geometry()
     }
 
-    /// The numbers. It takes no memory.
+    /// As `Room` says, now.
     pub fn status(&self) -> Status
         ensures { (q : State) → Shows D.state self.now.room q → ShowsStatus q result }
     {
@@ -98,6 +109,7 @@ impl<D: Pmem + Drop> Audited<D> {
 
     /// The covered rows, by rising key.
     pub fn tables(&self) -> Result<Vec<(Key, Row)>, Fault>
+        // As for `Room::tables`.
         ensures ok { IfOk result (λ rows. (q : State) → Shows D.state self.now.room q → Lists rows.items (after q.history)) }
         ensures fault { IfErr result (λ fault. fault ≡ OutOfMemory) }
     {
@@ -106,6 +118,7 @@ impl<D: Pmem + Drop> Audited<D> {
 
     /// The room, which shows what it showed.
     pub fn into_room(self) -> Room<D>
+        // The room, of which the history was the run above.
         ensures room { result ≡ self.room }
         ensures audited { ∥ HasHistory D.state result self.opening self.entries.items ∥₁ }
     {

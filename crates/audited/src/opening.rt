@@ -21,24 +21,24 @@ impl<D: Pmem + Drop + Send + Sync> Audited<D> {
     ghost use Rattle.room.specs.Runs.{OpensTo};
     ghost use Rattle.audited.specs.Audit.{IsAudited};
 
-    /// Opens a device at rest, as a room is opened, with an empty history. If that is refused, returns the device with the
-    /// fault.
+    /// Opens a device at rest, as a room is opened. If that is refused, returns the device with the fault.
     pub fn open<R: Threads + Sync>(
         rt: &R,
         alloc: Global,
         device: D,
     ) -> Result<Audited<D>, (Fault, D)>
         requires at_rest { IsAtRest (D.state device) }
+
+        // The history is empty.
         ensures empty { IfOk result (λ audited. audited.entries.items ≡ []) }
 
         // The history is a run from the image of this very device.
         ensures audited { IfOk result (λ audited. IsAudited D.state audited.room (image_of (D.state device)) audited.opening audited.entries.items) }
 
-        // The image has none of the faults that opening reports. Whatever history it stands for, the room shows the state that
-        // it opens as, and `opening` has its numbers.
+        // As for `Room::open` (`ok`, `may_open`), and `opening()` has the opened state's numbers.
         ensures ok { IfOk result (λ audited. OpensTo (image_of (D.state device)) (λ q. Shows D.state audited.room q × ShowsStatus q audited.opening)) }
 
-        // It fails with the first of these faults, or for lack of memory, or if an operation fails.
+        // As for `Room::open`.
         ensures no_failure { IfOk result (λ audited. HasNoFailure (D.state device) (device_of D.state audited.room)) }
         ensures fault { IfErr result (λ e. IsRefusal (opening_fault (image_of (D.state device))) (D.state device) (D.state e.1) e.0) }
 

@@ -75,7 +75,7 @@ impl<J: Naming, R: Wait + Drop> BoardWriter<J, Shelf<J>, Step<J>, R> {
     ghost use Rattle.board.specs.Openings.{opening};
     ghost use Rattle.board.specs.Shown.{whole, shown, waiting};
 
-    /// Publishes the rows alone, and makes readers that have seen them: `readers` of them, or fewer.
+    /// Publishes the rows alone, and makes readers that have seen them.
     pub fn open(
         rt: R,
         alloc: Global,
@@ -85,9 +85,17 @@ impl<J: Naming, R: Wait + Drop> BoardWriter<J, Shelf<J>, Step<J>, R> {
         readers: usize,
     ) -> Result<(BoardWriter<J, Shelf<J>, Step<J>, R>, Vec<Reader<J>>), Fault>
         requires name { history ≡ J.book }
+
+        // There are readers, from one up to the number asked for, each of which has seen them.
         requires readers { (0 < readers) × (readers ≤ 8) }
+
+        // These rows alone are published, and what they cover (`Coverage`): at this stamp, up to this timestamp, without these
+        // long commits.
         ensures board { IfOk result (λ opened. opened.0 ≡ record { list = opening coverage rows.now; waits = [] }) }
+
         ensures readers { IfOk result (λ opened. (0 < length opened.1.items) × (length opened.1.items ≤ readers) × All (λ reader. reader ≡ opened.0.list) opened.1.items) }
+
+        // It is refused only for lack of memory.
         ensures fault { IfErr result (λ fault. fault ≡ OutOfMemory) }
     {
         let Ok(board) = BoardWriter::alone(rt, alloc, history, &coverage, rows, readers) else {
@@ -158,7 +166,7 @@ impl<J: Naming, R: Wait + Drop> BoardWriter<J, Shelf<J>, Step<J>, R> {
         self.coverage
     }
 
-    /// Whether the batch may come next: it goes on from what is published and what waits.
+    /// Whether the batch may come next: exactly if it begins where the list ends, with what waits, and covers what is due.
     pub fn fits(&self, batch: &Batch) -> bool
         ensures { IsTrue result ↔ Fits (whole self.now) batch.now }
     {
@@ -169,9 +177,12 @@ impl<J: Naming, R: Wait + Drop> BoardWriter<J, Shelf<J>, Step<J>, R> {
             && covers_due(last.persisted, &last.longs, batch)
     }
 
-    /// Publishes what waits and then the batch. If memory runs out, the batch comes back, or waits with the others.
+    /// Publishes what waits and then the batch.
     pub fn publish(&mut self, batch: Batch) -> Result<(), (Fault, Option<Batch>)>
         requires { Fits (whole self.old) batch }
+
+        // At Ok what waited and the batch are published. At Err memory was refused: the batch is returned and the board is as
+        // before, or the batch is among what waits.
         ensures { MatchResult result (λ _. self.new ≡ shown (waiting self.old (Add batch))) (λ e. ((e ≡ (OutOfMemory, Some batch)) × (self.new ≡ self.old)) ⊎ ((e ≡ (OutOfMemory, None)) × (self.new ≡ waiting self.old (Add batch)))) }
     {
         match self.add(Change::Add(batch)) {
@@ -184,6 +195,9 @@ impl<J: Naming, R: Wait + Drop> BoardWriter<J, Shelf<J>, Step<J>, R> {
     /// Publishes what waits, and raises the lowest stamp that may be read to this one, if it is lower.
     pub fn prune(&mut self, stamp: u64) -> Result<(), Fault>
         requires { stamp ≤ last_stamp self.old.list }
+
+        // If the floor is this high, nothing changes. Otherwise at Ok the floor is raised and what waited is published. At Err
+        // memory was refused: the board is as before, or the change is among what waits.
         ensures below { stamp ≤ self.old.list.floor → (result ≡ Ok tt) × (self.new ≡ self.old) }
         ensures above { self.old.list.floor < stamp → MatchResult result (λ _. self.new ≡ shown (waiting self.old (Raise stamp))) (λ fault. (fault ≡ OutOfMemory) × ((self.new ≡ self.old) ⊎ (self.new ≡ waiting self.old (Raise stamp)))) }
     {
@@ -198,6 +212,7 @@ impl<J: Naming, R: Wait + Drop> BoardWriter<J, Shelf<J>, Step<J>, R> {
 
     /// Publishes what waits.
     pub fn flush(&mut self) -> Result<(), Fault>
+        // At Ok what waited is published. At Err memory was refused, and the board is as before.
         ensures { MatchResult result (λ _. self.new ≡ shown self.old) (λ fault. (fault ≡ OutOfMemory) × (self.new ≡ self.old)) }
     {
         self.hand_over();

@@ -33,6 +33,8 @@ impl<J: Naming> Reader<J> {
 
     /// The lowest and the last stamp that may be read.
     pub fn at(&mut self) -> Result<(u64, u64), Fault>
+        // These are of a published list that extends all that the reader has seen or learnt. Or it is Shut, and the reader is as
+        // before.
         ensures { Saw self.old self.new result bounds ⊎ SawNothing self.old self.new result }
     {
         let Some(guard) = self.handle.enter() else {
@@ -47,6 +49,8 @@ impl<J: Naming> Reader<J> {
 
     /// The row of the key after the batches up to the stamp.
     pub fn read(&mut self, stamp: u64, key: Key) -> Result<Option<Row>, Fault>
+        // It is by a published list that extends all that the reader has seen or learnt: TooOld exactly below its floor, NotYet
+        // exactly above its last stamp. Or it is Shut, and the reader is as before.
         ensures { Saw self.old self.new result (λ list. answer list stamp key) ⊎ SawNothing self.old self.new result }
     {
         let Some(guard) = self.handle.enter() else {
@@ -62,6 +66,7 @@ impl<J: Naming> Reader<J> {
     /// Takes in what was published when the token was made, and uses the token up. From now on it sees no less.
     #[tactic(auto, using(crate::proofs::Rules::begins_self))]
     pub fn learn(&mut self, token: Token<J>)
+        // What the reader knows then extends both what it knew and the token, and is one of the two.
         ensures known { Begins self.old self.new }
         ensures learnt { Begins token self.new }
         ensures one { (self.new ≡ self.old) ⊎ (self.new ≡ token) }

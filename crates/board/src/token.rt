@@ -38,10 +38,13 @@ impl<J: Naming> Token<J> {
         self.coverage.stamp
     }
 
-    /// Whether the commit is covered: its timestamp is persisted and isn't that of a long commit. This is so just if a published
-    /// batch holds it, or the list began with it.
+    /// Whether the commit is covered.
     pub fn covers(&self, timestamp: Ts) -> bool
+        // Exactly whether the timestamp is at most the last that is persisted and isn't one of the long commits then.
         ensures persisted { IsTrue result ↔ ((timestamp ≤ last_persisted self.now) × (is_among (last_longs self.now) timestamp ≡ false)) }
+
+        // Of a timestamp above what the list began with, or among the long commits then, that is exactly whether a published
+        // batch holds the commit.
         ensures later { IsLater self.now timestamp → IsTrue result ↔ IsTrue (has_commit self.now timestamp) }
     {
         self.front.is_published();
@@ -65,9 +68,10 @@ impl<J: Naming> Token<J> {
         self.front.begins(&other.front)
     }
 
-    /// The later of the two: its list begins with the other's.
+    /// The later of the two.
     #[tactic(auto, using(crate::proofs::Rules::begins_self))]
     pub fn later(self, other: Token<J>) -> Token<J>
+        // One of the two, whose list begins with both.
         ensures begins { Begins self result × Begins other result }
         ensures one { (result ≡ self) ⊎ (result ≡ other) }
     {

@@ -40,23 +40,55 @@ pub fn execute<T: Threads + Wait + Copy + Drop + Send + Sync + 'static, R: Read,
     input: &mut R,
     output: &mut W,
 ) -> Ended
-    // Any status but 0 says why: which fault, which line, or how the input or the output failed.
+    // 0 if the work was done, 2 if a line isn't a command, and 1 if a refusal ended it, or the input or the output failed.
+    // `stopped` says which fault, which line, or which kind of failure (`status_of`).
     ensures status { result.status ≡ status_of result.stopped }
 
-    // There is something for FILE exactly if the status is 0, except for a check and for lives.
+    // There is something for FILE exactly if the status is 0 and the order is `format`, `run` or `threads`.
     ensures written { IsSome result.file ↔ ((result.status ≡ 0) × IsTrue (writes_file order.now)) }
+
+    // Of `format` it is byte for byte the fresh image's file. Of `run` it keeps, of whatever history the old image stands for,
+    // all commits at its beginning, and the geometry (`KeepsHistories`). So does that of `threads`.
     ensures file { IfSome result.file (λ left. Leaves order.now file.now left.items) }
+
+    // A `format` that ends with 0 was asked for numbers within their limits.
     ensures limits { result.status ≡ 0 → HasLimits order.now }
+
+    // The input is as it was, except for a `run`.
     ensures unread { IfReadsNoInput order.now (input.new ≡ input.old) }
+
+    // Of `format` its line. Of `run` a whole life: the image opens, and the lines of the input, all or up to a crash, are run
+    // from the opened state. The line of the opening, of each reply and of the end are printed, and nothing else. After a crash,
+    // what is left is an image as between two steps of the last state, with the survivor that the line names of each word of a
+    // device that shows that state. Otherwise it is an image as after closing that state (`Lives`). Of `threads`, printed are the
+    // number of commits that were asked for of all threads and the rows that the image in FILE then has in table 1 under keys
+    // below the number of threads. That number, and that the room is closed, are printed too. The image opened, with two slots
+    // free for each thread and numbers left for all commits. FILE is left with an image as closing leaves it. The state that was
+    // closed is the very one to which a run came in which the threads made their commits (`PrintsThreads`).
     ensures printed { IfSome result.file (λ left. Prints order.now file.now (R.remaining input.old) (W.contents output.old) (W.contents output.new) left.items) }
+
+    // Of `check` with 0 the file is that of a sound image. Printed are its ruling record, its tables' rows by rising key, how
+    // many they are, and nothing else.
     ensures checked { result.status ≡ 0 → IfCheck order.now (PrintsChecked file.now (W.contents output.old) (W.contents output.new)) }
+
+    // Of `lives` with 0 the script spells lives. Reports of a chain of these lives, asked as the script asks them, from a fresh
+    // image of its geometry on, are printed line by line, and nothing else (`PrintsLives`, `AreLives`).
     ensures lived { result.status ≡ 0 → IfLives order.now (PrintsLives file.now (W.contents output.old) (W.contents output.new)) }
 
-    // Exactly the line of the refusal, or of the bad line, is printed after what was printed before it.
+    // If a line is to blame, one of two things holds. Either `lives` found the script's line of the printed number wrong, and
+    // printed nothing else. Or a `run` came to a line that isn't a command, and those before it were run. Printed are then the
+    // opening, their replies and that line's number, and nothing else.
     ensures bad_line { IfSome result.stopped (IfBadLine (ReportsLine order.now file.now (R.remaining input.old) (W.contents output.old) (W.contents output.new))) }
+
+    // If a refusal ended the work, its fault is one of these. OutOfMemory. Of `format` and `lives`, that the numbers are out of
+    // their limits, and of `run` and `check`, the file's length or the first fault of its image. Exactly that refusal's line is
+    // printed. Of `run`, the fault of closing after all lines were run, and printed are the opening, the replies and that line.
+    // Of `threads`, the file's length, why its image doesn't open, or SlotsOut if two slots for each thread aren't free. If they
+    // are free, TimestampsOut if numbers aren't left, what `run_load` says of the engine, or why the state to which the threads'
+    // commits led can't be closed. Of `threads`, that line alone is printed (`Refuses`).
     ensures refused { IfSome result.stopped (IfRefused (Refuses order.now file.now (R.remaining input.old) (W.contents output.old) (W.contents output.new))) }
 
-    // The line of a refusal is the last that is printed, also for lack of memory.
+    // If the bytes of each writer of that kind are known, a refusal's line is the last that was printed, for lack of memory too.
     ensures last { AreKnown W.contents → IfSome result.stopped (IfRefused (λ fault. EndsWith (W.contents output.new) (refusal_line fault))) }
 {
     match obey(rt, alloc, order, file, input, output) {
@@ -150,6 +182,9 @@ fn report_stop<W: Write>(alloc: Global, stop: &Stop, output: &mut W) -> Ended
     ensures some { 1 ≤ result.status }
     ensures status { result.status ≡ status_of result.stopped }
     ensures none { result.file ≡ None }
+
+    // The line that isn't a command, or the fault, is the one with which the work stopped, and was printed. An input or an output
+    // that failed is reported as failing, except for lack of memory, which is a refusal.
     ensures bad_line { IfSome result.stopped (IfBadLine (λ number. IsLineOf stop.now number × PrintsBadLine (W.contents output.old) (W.contents output.new) number)) }
     ensures refused { IfSome result.stopped (IfRefused (λ fault. IsFaultOf stop.now fault × Appends (W.contents output.old) (W.contents output.new) (refusal_line fault))) }
     ensures broken { (reason : ErrorKindValue) → stop.now ≡ Broken reason → reason ≢ NoMemory → result.stopped ≡ Some (Broken reason) }
@@ -164,6 +199,7 @@ fn report_stop<W: Write>(alloc: Global, stop: &Stop, output: &mut W) -> Ended
 
 // Prints the line of a refusal, or of a line that isn't a command. If that fails, the failure is what ended the work.
 fn announce<W: Write>(alloc: Global, stop: &Stop, output: &mut W) -> Stop
+    // It is the one with which the work stopped, and it was printed.
     ensures bad_line { IfBadLine (λ number. IsLineOf stop.now number × PrintsBadLine (W.contents output.old) (W.contents output.new) number) result }
     ensures refused { IfRefused (λ fault. IsFaultOf stop.now fault × Appends (W.contents output.old) (W.contents output.new) (refusal_line fault)) result }
 

@@ -12,6 +12,8 @@ use std::alloc::Global;
 /// A file that holds a fresh image.
 pub fn fresh_file(alloc: Global, geometry: Geometry) -> Result<Vec<u8>, Fault>
     ensures file { IfOk result (λ file. IsFileOf (fresh_image geometry) file.items) }
+
+    // It is refused only for lack of memory.
     ensures fault { IfErr result (λ fault. fault ≡ OutOfMemory) }
 {
     let Ok(words) = Vec::from_elem(alloc, 0, geometry.words() as usize) else {

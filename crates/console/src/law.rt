@@ -4,8 +4,7 @@ ghost use Rattle.console.specs.Input.{lines_in, written};
 ghost use Rattle.console.specs.Kept.{KeepsHistories};
 ghost use Rattle.console.specs.Rounds.{NeededAreEnough, QuietTicks};
 
-/// If one run keeps the histories of a file, and the next run those of what the first one left, both together keep them. So no
-/// list of runs takes a covered commit out of FILE.
+/// What two runs in turn each keep of FILE, both keep. So no list of runs takes a covered commit out of it.
 pub fn runs_compose()
     ensures { (first second third : List ℕ) → KeepsHistories first second → KeepsHistories second third → KeepsHistories first third }
 {}
@@ -15,12 +14,13 @@ pub fn written_lines_are_read_back()
     ensures { (lines : List Text) → All (All (λ byte. byte ≢ 10)) lines → lines_in (written lines) ≡ lines }
 {}
 
-/// As many visits of the collector as are needed leave the same state and get the same reply as all of them.
+/// The visits that `collect N` makes, at most two rounds, come to what all `N` do.
 pub fn needed_visits_are_enough()
     ensures { NeededAreEnough }
 {}
 
-/// If a tick of the committer leaves nothing to do, further ones change nothing.
+/// If a tick of the committer leaves nothing to do and the device works, further ticks change nothing, and their reply is Idle if
+/// its reply was.
 pub fn quiet_ticks()
     ensures { QuietTicks }
 {}

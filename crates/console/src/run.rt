@@ -91,7 +91,10 @@ fn end<W: Write>(
 ) -> Result<Vec<u8>, Stop>
     ensures ends { IfOk result (λ left. (said : Text) × Appends (W.contents output.old) (W.contents output.new) said
         × ((q : State) → Shows device_of room q → Ends q keeps said left.items)) }
+
+    // After `crash` FILE has of each word the oldest survivor or the newest, as the line names it.
     ensures kept { IfOk result (λ left. KeepsNamed (device_in device_of room) keeps left.items) }
+
     ensures blames { IfErr result BlamesNoLine }
     ensures refused { IfErr result (IfRefused (λ fault. (fault ≡ OutOfMemory) ⊎ ((keeps ≡ None)
         × (W.contents output.new ≡ W.contents output.old) × ((q : State) → Shows device_of room q → IsClosingFault q fault)))) }

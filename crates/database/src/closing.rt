@@ -16,15 +16,18 @@ use pmem::Pmem;
 
 /// Covers all that is drawn, and returns the device.
 pub fn close_room<D: Pmem + Drop>(opened: OpenedRoom<D>) -> Result<D, Refused<D>>
+    // At Ok each image that a crash then leaves stands for all that was drawn.
     ensures ok { IfOk result (λ device. (q : State) → Shows D.state opened.room q → (image : Image) → MayLeave (D.state device) image → StandsClosed q image) }
+
+    // At Err why closing the room was refused. The device is as it was, or an operation failed.
     ensures fault { IfErr result (λ e. (q : State) → Shows D.state opened.room q → IsClosingRefusal q (device_of D.state opened.room) (D.state e.device) e.fault) }
 
-    // A crash meanwhile leaves what was covered, with the pending batch, or with all that was drawn.
+    // A crash meanwhile leaves what was covered, or that with the pending batch, or with all that was drawn.
     ensures images { (q : State) → Shows D.state opened.room q → MatchResult result
         (λ device. LeavesOnly (device_of D.state opened.room) (D.state device) (StandsClosing q))
         (λ e. LeavesOnly (device_of D.state opened.room) (D.state e.device) (StandsClosing q)) }
 
-    // The same holds from the opening on.
+    // As `Database::close` says.
     ensures lived { MatchResult result
         (λ device. ∥ ClosesRun (D.state device) (IsClosed (D.state device)) ∥₁)
         (λ e. ∥ ClosesRun (D.state e.device) (IsClosingRefused (D.state e.device) e.fault) ∥₁) }

@@ -23,6 +23,9 @@ pub fn put_collecting<D: Pmem + Drop>(
     key: Key,
     row: Row,
 ) -> Result<(), Fault>
+    // That one put of this session, key and row, and this put didn't lack a slot. Or a put that was refused with SlotsOut, then
+    // visits of the collector, one for each slot and one that ends its round, and nothing else, then the put again. What is
+    // returned is the last put's.
     ensures steps { PutsCollecting D.state room.old.room room.new.room session key row result }
     ensures ended { room.new.ended ≡ room.old.ended }
 {
@@ -61,6 +64,8 @@ pub fn write_all<D: Pmem + Drop>(
     session: u8,
     writes: &[(Key, Option<Row>)],
 ) -> Result<(), Fault>
+    // These writes of this session in their order, each as `put_collecting` or `delete` makes it, up to the first that was
+    // refused, and no other step.
     ensures steps { LeadsByWrites D.state room.old.room room.new.room session writes.now result }
     ensures ended { room.new.ended ≡ room.old.ended }
 {
@@ -79,6 +84,8 @@ pub fn begin_with<D: Pmem + Drop>(
     room: &mut OpenedRoom<D>,
     writes: &[(Key, Option<Row>)],
 ) -> Result<u8, Fault>
+    // A Begin, and such writes of its session. Or the Begin was refused with this fault, or one of the writes was, and the
+    // session's abort comes after it.
     ensures steps { BeginsWith D.state room.old.room room.new.room writes.now result }
     ensures ended { room.new.ended ≡ room.old.ended }
 {
@@ -101,8 +108,13 @@ pub fn prepare<D: Pmem + Drop, R: Wait>(
     room: &mut OpenedRoom<D>,
     session: u8,
 ) -> Result<Option<Ts>, CommitError>
+    // At a timestamp the session's draw, which drew it, and its stamps to the last. At None its draw of nothing, and its end. At
+    // Open the draw drew a timestamp, and the last stamp was refused with this fault. At Refused the draw or that end was. No
+    // step of another session is in between.
     ensures steps { Prepares D.state room.old.room room.new.room session result }
     ensures ended { room.new.ended ≡ room.old.ended }
+
+    // At Refused the commits that are drawn, and those that are covered, are the same as before.
     ensures refused { IfErr result (IsRefusedWhole D.state room.old.room room.new.room) }
 {
     match draw(room, session) {
@@ -126,6 +138,8 @@ pub fn stamp_all<D: Pmem + Drop, R: Wait>(
     room: &mut OpenedRoom<D>,
     session: u8,
 ) -> Result<(), Fault>
+    // The session's stamps, and no other step. Each but the last left more keys, and the last of them reported that all keys are
+    // stamped, or was refused for the fault that is returned.
     ensures stamps { StampsAll D.state room.old.room room.new.room session result }
     ensures ended { room.new.ended ≡ room.old.ended }
 {
@@ -144,10 +158,14 @@ pub fn stamp_all<D: Pmem + Drop, R: Wait>(
 
 /// Ends the transaction once its commit is covered, and returns its timestamp. `None` if it isn't covered yet.
 pub fn finish<D: Pmem + Drop>(room: &mut OpenedRoom<D>, session: u8) -> Result<Option<Ts>, Fault>
+    // The timestamp is the one that a poll of this very session reported, and then the session is ended. At None the poll
+    // reported that the commit isn't covered, and the room shows what it showed. At Err the poll or the end was refused with this
+    // fault.
     ensures steps { Finishes D.state room.old.room room.new.room session result }
     ensures ended { room.new.ended ≡ room.old.ended }
 
-    // The commit of a returned timestamp survives every later crash.
+    // A timestamp that is returned is in the covered history of a state that the room shows then, so each crash from then on
+    // leaves it.
     ensures covers { IfOk result (λ answer. IfSome answer (λ timestamp. Covers D.state room.old.room room.new.room timestamp)) }
 {
     match poll(room, session) {

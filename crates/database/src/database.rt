@@ -44,13 +44,19 @@ impl<
     ghost use Rattle.pmem.specs.Words.{IsAtRest, image_of};
     ghost use Rattle.database.specs.Opening.{IsOpeningRefusal, KeepsHistory};
 
-    /// Opens a device at rest. `NoThread`, and `OutOfMemory` for the threads, come before anything is done to it.
+    /// Opens a device at rest.
     pub fn open(rt: R, alloc: Global, device: D) -> Result<Database<D, R>, Refused<D>>
     where
         D::Pending: Send,
         requires at_rest { IsAtRest (D.state device) }
+
+        // At Ok the image has none of the faults that opening reports.
         ensures may_open { IfOk result (λ _. opening_fault (image_of (D.state device)) ≡ None) }
+
+        // At Err NoThread or OutOfMemory, and the device is as it was. Or opening the room was refused with this fault.
         ensures fault { IfErr result (λ e. IsOpeningRefusal (D.state device) (D.state e.device) e.fault) }
+
+        // At Err the device is as it was, or each crash meanwhile leaves the same history.
         ensures images { (history drawn : List Commit) (next : ℕ) → Stands (image_of (D.state device)) history drawn next
             → IfErr result (λ e. KeepsHistory (D.state device) (D.state e.device) history next) }
     {
@@ -97,6 +103,7 @@ impl<D: SyncAhead + Drop, R: Wait + Drop> Database<D, R> {
 
     /// Begins a transaction, which reads the rows that are committed now, and what it writes itself. 62 may be open.
     pub fn begin(&self) -> Result<Transaction<'_, D, R>, Fault>
+        // A run ends in this call's Begin. Its reply has the number of the transaction's session, or the fault.
         ensures ok { IfOk result (λ transaction. AnswersStep Begin began_of (Ok transaction.session)) }
         ensures err { IfErr result (λ fault. AnswersStep Begin began_of (Err fault)) }
     {
@@ -106,17 +113,22 @@ impl<D: SyncAhead + Drop, R: Wait + Drop> Database<D, R> {
         }
     }
 
-    /// Makes these writes in a transaction of their own, as `Transaction::write` does, and commits it, as `Transaction::commit` does. It
-    /// takes the lock once before it waits. `Refused` means that nothing of them is kept, also if the begin or one of the writes was
-    /// refused.
+    /// Makes these writes in a transaction of their own, as `Transaction::write` does, and commits it, as `Transaction::commit`
+    /// does. It takes the lock once before it waits. `Refused` means that nothing of them is kept.
     pub fn write(&self, writes: &[(Key, Option<Row>)]) -> Result<Option<Ts>, CommitError>
+        // A run ends in a Begin and these writes of its session, all of which were made. What is returned says of its commit what
+        // `Transaction::commit` says.
         ensures ok { IfOk result (ReportsWritten writes.now) }
+
+        // `Refused`, and a run ends in a Begin that was refused with this fault. Or `Refused`, and a run ends in a Begin, the
+        // writes of its session up to the first that was refused, with this fault, and its abort. Or a run ends in a Begin and
+        // all these writes, and its commit wasn't acknowledged, as `Transaction::commit` says.
         ensures err { IfErr result (ReportsUnwritten writes.now) }
     {
         self.shared.write(&self.rt, writes)
     }
 
-    /// The numbers of the ruling record, its gaps and long commits, and the next timestamp.
+    /// The numbers of the ruling record, its gaps and long commits, and the next timestamp, of a state that a run comes to.
     pub fn status(&self) -> Status
         ensures { ComesTo (λ q. ShowsStatus q result) }
     {
@@ -127,7 +139,8 @@ impl<D: SyncAhead + Drop, R: Wait + Drop> Database<D, R> {
         room.status()
     }
 
-    /// How many rows are committed, and how many slots hold no version. It looks at each key and each slot, under the lock.
+    /// How many rows are committed, and how many slots hold no version, in a state that a run comes to. It looks at each key and
+    /// each slot, under the lock.
     pub fn usage(&self) -> Usage
         ensures { ComesTo (λ q. ShowsUsage q result) }
     {
@@ -138,7 +151,7 @@ impl<D: SyncAhead + Drop, R: Wait + Drop> Database<D, R> {
         room.usage()
     }
 
-    /// The layout of the device.
+    /// The layout of a state that a run comes to.
     pub fn geometry(&self) -> Geometry
         ensures { ComesTo (λ q. result ≡ q.layout) }
     {
@@ -152,8 +165,13 @@ impl<D: SyncAhead + Drop, R: Wait + Drop> Database<D, R> {
     /// Ends the workers, covers all that was committed, and returns the device. No transaction is open then, since each borrows the
     /// database.
     pub fn close(self) -> Result<D, Refused<D>>
-        // All that was covered and drawn since the device was opened is covered on it now.
+        // At Ok a device was opened when it was at rest, and steps were made since. Whatever history its image stands for, these
+        // steps are a run of the plain machine from the state that it opened as, and the history only grew. A crash at any moment
+        // since the opening left what one may leave within the opening, within a step or within closing. Each image that a crash
+        // leaves now covers all that was covered and drawn.
         ensures ok { IfOk result (λ device. ∥ ClosesRun (D.state device) (IsClosed (D.state device)) ∥₁) }
+
+        // At Err the same of the run and of what a crash leaves, and why closing was refused.
         ensures err { IfErr result (λ e. ∥ ClosesRun (D.state e.device) (IsClosingRefused (D.state e.device) e.fault) ∥₁) }
     {
         self.shared.end_work(&self.rt);

@@ -83,10 +83,17 @@ impl<D: Pmem + Drop> Desk<D> {
     /// Opens a transaction and returns its session's number.
     pub fn begin(&mut self) -> Result<u8, Fault>
         requires there { IsTrue (is_some self.old.room) }
+
+        // What is under the lock makes this step and no other.
         ensures step { InRoom (λ old new. Obeys D.state old new Begin began_of result) self.old.room self.new.room }
+
         ensures made { AnswersStep Begin began_of result }
+
+        // One more is open if one was begun, and one less if one was ended. Whether and why the committer has ended stays as it
+        // was.
         ensures ended { ended_of self.new.room ≡ ended_of self.old.room }
         ensures open { self.new.open ≡ open_after self.old.open result }
+
         ensures counts { LeavesCounts self.old self.new }
         ensures rest { LeavesRest self.old self.new }
     {
@@ -103,10 +110,17 @@ impl<D: Pmem + Drop> Desk<D> {
     /// Opens a transaction, makes these writes in it and returns its session's number. If one is refused, no transaction is open.
     pub fn begin_with(&mut self, writes: &[(Key, Option<Row>)]) -> Result<u8, Fault>
         requires there { IsTrue (is_some self.old.room) }
+
+        // What is under the lock makes these steps and no other.
         ensures steps { InRoom (λ old new. BeginsWith D.state old new writes.now result) self.old.room self.new.room }
+
         ensures made { AnswersBegunWith writes.now result }
+
+        // One more is open if one was begun, and otherwise as many as before. Whether and why the committer has ended stays as it
+        // was.
         ensures ended { ended_of self.new.room ≡ ended_of self.old.room }
         ensures open { self.new.open ≡ open_after self.old.open result }
+
         ensures counts { LeavesCounts self.old self.new }
         ensures rest { LeavesRest self.old self.new }
     {
@@ -133,10 +147,17 @@ impl<D: Pmem + Drop> Desk<D> {
     /// Rolls back the transaction of this session.
     pub fn abort(&mut self, session: u8) -> Result<(), Fault>
         requires there { IsTrue (is_some self.old.room) }
+
+        // What is under the lock makes this step and no other.
         ensures step { InRoom (λ old new. Obeys D.state old new (Abort session) done_of result) self.old.room self.new.room }
+
         ensures made { AnswersStep (Abort session) done_of result }
+
+        // One more is open if one was begun, and one less if one was ended. Whether and why the committer has ended stays as it
+        // was.
         ensures ended { ended_of self.new.room ≡ ended_of self.old.room }
         ensures open { self.new.open ≡ self.old.open }
+
         ensures counts { LeavesCounts self.old self.new }
         ensures rest { LeavesRest self.old self.new }
     {
@@ -148,10 +169,20 @@ impl<D: Pmem + Drop> Desk<D> {
 
     /// The reply to the session's commit, once there is one.
     pub fn answer(&mut self, session: u8) -> Option<Result<Ts, CommitError>>
+        // The room makes a `finish` of this session and no other step, and what is returned is read off that: the timestamp, or
+        // the refusal. If the commit isn't covered, it is the fault with which the committer has ended. If the committer hasn't
+        // ended, it is OutOfMemory once the committer was refused memory more than a hundred times in a row, and otherwise
+        // nothing. Whether and why the committer has ended stays as it was.
         ensures finish { IsTrue (is_some self.old.room) → AnswersOnce D.state self.old.room self.new.room self.new.refusals session result }
         ensures ended { ended_of self.new.room ≡ ended_of self.old.room }
+
+        // What became of the session's commit, as `Transaction::commit` says.
         ensures some { IfSome result (IsAnswered session) }
+
+        // Nothing is returned only if the session's poll reported that its commit isn't covered, and the committer hasn't ended
+        // and wasn't refused memory more than a hundred times in a row.
         ensures none { IsTrue (is_some self.old.room) → IfNone result (IsLeftWaiting session (ended_of self.new.room) self.new.refusals) }
+
         ensures open { self.new.open ≡ self.old.open }
         ensures counts { LeavesCounts self.old self.new }
         ensures rest { LeavesRest self.old self.new }
@@ -171,10 +202,13 @@ impl<D: Pmem + Drop> Desk<D> {
 
     /// The reply to the session's commit with this timestamp, once there is one.
     pub fn answer_to(&mut self, session: u8, timestamp: Ts) -> Option<Result<(), CommitError>>
+        // As for `answer`, of the commit that drew this timestamp. Nothing is returned also if the session's own poll reported
+        // another timestamp.
         ensures finish { IsTrue (is_some self.old.room) → (answer : Option (Result ℕ CommitError)) × AnswersOnce D.state self.old.room self.new.room self.new.refusals session answer × IsReadFor timestamp answer result }
         ensures ended { ended_of self.new.room ≡ ended_of self.old.room }
         ensures some { IfSome result (IsAnsweredAt session timestamp) }
         ensures none { IsTrue (is_some self.old.room) → IfNone result (IsWithoutAnswer session timestamp (ended_of self.new.room) self.new.refusals) }
+
         ensures open { self.new.open ≡ self.old.open }
         ensures counts { LeavesCounts self.old self.new }
         ensures rest { LeavesRest self.old self.new }
@@ -229,6 +263,7 @@ impl<D: Pmem + Drop> Desk<D> {
 
     /// Whether the committer has ended because no record number is left. Nothing that is drawn from then on is ever covered.
     pub fn lacks_numbers(&self) -> bool
+        // Exactly if the committer of the room that is there has ended because no record number is left.
         ensures ended { IsTrue result ↔ (ended_of self.now.room ≡ Some TimestampsOut) }
         ensures so { IsTrue result → HasEnded TimestampsOut }
     {
@@ -256,6 +291,7 @@ impl<D: Pmem + Drop> Desk<D> {
 
     /// Whether each commit up to this timestamp is covered or abandoned.
     pub fn is_settled(&self, timestamp: Ts) -> bool
+        // Exactly if the ruling record has come to the timestamp, or the committer has ended.
         ensures so { IsTrue result → IsSettledUpTo timestamp }
         ensures ended { IsTrue (is_some (ended_of self.now.room)) → IsTrue result }
         ensures exact { IfSome self.now.room (λ room. (q : State) → Shows D.state room.room q → IsTrue result ↔ (IsTrue (is_some room.ended) ⊎ (timestamp ≤ q.ruling.persisted))) }
@@ -408,6 +444,8 @@ impl<D: Pmem + Drop> Shared<D> {
 
     /// Puts the room in as it was opened.
     pub fn put_in<R: Wait>(&self, rt: &R, room: OpenedRoom<D>)
+        // The room is as the opening of some device leaves it. Whatever history that device's image stands for, the room shows
+        // the state that the device opens as.
         requires opened { IsFresh D.state room.room }
     {
         let mut desk = self.desk.lock(rt);

@@ -19,7 +19,7 @@ impl CommitError {
     ghost use Rattle.std.specs.Prelude.{◌≡◌, ◌⊎◌};
     ghost use Rattle.database.specs.declared.error.CommitError.TheVariants.{Refused, Open};
 
-    /// What was refused.
+    /// The fault that the error has.
     pub fn fault(&self) -> Fault
         ensures { (self.now ≡ Refused result) ⊎ (self.now ≡ Open result) }
     {

@@ -1,5 +1,16 @@
-//! A store of rows over a device, for any number of threads: transactions, and two workers of its own, which sleep while there
-//! is nothing to do. It keeps no history.
+//! A store of rows over a device, for any number of threads: transactions, and two workers of its own, which sleep while there is
+//! nothing to do. It keeps no history. `D` is a device, and `R` the runtime's handle with `Threads` and `Wait`, which a database
+//! keeps.
+//!
+//! No clause can name the room under the lock. What the type of that room says is known whenever the lock is taken: the room
+//! shows the end of a run from the opening of a device that was at rest (`HasTaken`). Below, *a run* is such a run. So the clause
+//! of a call speaks of some run: that it ends in the step of the call, and that what is returned is read off its reply. That the
+//! room is that of this very database is seen in the code.
+//!
+//! After a Conflict, begin again: the commit in the way is covered by then. A transaction that is dropped is aborted, and one
+//! that only reads needs no commit. `JournaledPmem::open` keeps the layout of a file that exists. If the file is missing or
+//! empty, it creates one of zeros, which `format_new` then makes an image of: `crates/kv/src/opening.rt` is what to copy, with
+//! its clauses. A device of your own is a `Pmem` and a `SyncAhead`: if its fences wait for nothing, `begin_sync` returns `None`.
 #![tactic(auto)]
 
 mod answers;

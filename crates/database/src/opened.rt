@@ -45,8 +45,12 @@ impl<D: Pmem + Drop> OpenedRoom<D> {
 
     /// A tick of the committer. If it is refused, the fault is kept, except for lack of memory, which passes.
     pub fn tick(&mut self) -> Result<Tick, Fault>
+        // The room's step of this kind, with the reply that belongs to the result, as for `Room::advance`. After a tick that
+        // covers a batch, the room has that batch.
         ensures step { Leads D.state self.old.room self.new.room Commit (ticked result (covered_by self.new.room)) }
         ensures covers { result ≡ Ok Covered → IsSome (covered_by self.new.room) }
+
+        // What a tick was refused with is kept as the reason why the committer has ended, except lack of memory. Nothing else is.
         ensures ended { (fault : Fault) → result ≡ Err fault → fault ≢ OutOfMemory → self.new.ended ≡ Some fault }
         ensures goes_on { ((fault : Fault) → result ≡ Err fault → fault ≡ OutOfMemory) → self.new.ended ≡ self.old.ended }
     {
@@ -57,7 +61,9 @@ impl<D: Pmem + Drop> OpenedRoom<D> {
 
     /// A visit of the collector.
     pub fn visit(&mut self) -> Result<Visit, Fault>
+        // The room's step of this kind, with the reply that belongs to the result, as for `Room::collect`.
         ensures step { Leads D.state self.old.room self.new.room Collect (visited result) }
+
         ensures ended { self.new.ended ≡ self.old.ended }
     {
         self.room.collect()
@@ -65,6 +71,7 @@ impl<D: Pmem + Drop> OpenedRoom<D> {
 
     /// The layout of the device.
     pub fn geometry(&self) -> Geometry
+        // Of each state that the room shows, and so of one that a run comes to.
         ensures shows { (q : State) → Shows D.state self.now.room q → result ≡ q.layout }
         ensures comes { ComesTo (λ q. result ≡ q.layout) }
     {
@@ -73,13 +80,14 @@ impl<D: Pmem + Drop> OpenedRoom<D> {
 
     /// The numbers of the ruling record, its gaps and long commits, and the next timestamp.
     pub fn status(&self) -> Status
+        // Of each state that the room shows, and so of one that a run comes to.
         ensures shows { (q : State) → Shows D.state self.now.room q → ShowsStatus q result }
         ensures comes { ComesTo (λ q. ShowsStatus q result) }
     {
         self.room.status()
     }
 
-    /// The greatest timestamp that is drawn, or 0.
+    /// The last timestamp that is drawn in each state that the room shows, or 0.
     pub fn last_drawn(&self) -> Ts
         ensures { (q : State) → Shows D.state self.now.room q → result ≡ q.next - 1 }
     {
@@ -125,6 +133,7 @@ impl<D: SyncAhead + Drop> OpenedRoom<D> {
 
     /// Hands out the sync that the next tick would wait for, if it can be made ahead of the tick. It isn't a step.
     pub fn begin_sync(&mut self) -> Option<D::Pending>
+        // The device is as it was, the room shows what it showed, and whether and why the committer has ended stays as it was.
         ensures device { device_of D.state self.new.room ≡ device_of D.state self.old.room }
         ensures shows { (q : State) → Shows D.state self.old.room q → Shows D.state self.new.room q }
         ensures ended { self.new.ended ≡ self.old.ended }
@@ -134,6 +143,7 @@ impl<D: SyncAhead + Drop> OpenedRoom<D> {
 
     /// Takes the sync back, which isn't a step either.
     pub fn end_sync(&mut self, pending: D::Pending)
+        // The device is as it was, the room shows what it showed, and whether and why the committer has ended stays as it was.
         ensures device { device_of D.state self.new.room ≡ device_of D.state self.old.room }
         ensures shows { (q : State) → Shows D.state self.old.room q → Shows D.state self.new.room q }
         ensures ended { self.new.ended ≡ self.old.ended }

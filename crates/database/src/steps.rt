@@ -1,5 +1,6 @@
-//! Each call is one step of the room, named in its contract with the value that is read off the reply. They take an
-//! `OpenedRoom`, so that no step is lost from the run that it carries.
+//! Each call is one step of the room, named in its contract with the value that is read off the reply, at Ok and at Err. They
+//! take an `OpenedRoom`, so that no step is lost from the run that it carries. Whether and why the committer has ended stays as
+//! it was (`ended`).
 
 ghost use Rattle.std.specs.Prelude.{◌≡◌};
 ghost use Rattle.base.specs.Steps.{as_reply};
@@ -126,6 +127,7 @@ pub fn end<D: Pmem + Drop>(room: &mut OpenedRoom<D>, session: u8) -> Result<(), 
 
 /// Visits this many places of the collector's round.
 pub fn collect<D: Pmem + Drop>(room: &mut OpenedRoom<D>, places: u64)
+    // The room makes exactly this number of visits of the collector, and no other step.
     ensures visits { RepeatsTimes D.state room.old.room room.new.room Collect places }
     ensures ended { room.new.ended ≡ room.old.ended }
 {

@@ -49,7 +49,13 @@ pub enum Turn {
 
 // A tick of the committer.
 fn tick<D: Pmem + Drop>(desk: &mut Desk<D>) -> Turn
+    // The room, if it is there, makes one tick, and no other step. What the tick was refused with is kept as the reason why the
+    // committer has ended, and nothing else is. Lack of memory ends nothing. How often in a row it was refused memory is counted:
+    // one more if it was, as before after another refusal, and none after any other reply. The rows that it covered are counted.
+    // The turn is exactly what the reply to the tick makes of it (`turn_of`).
     ensures once { IsTrue (is_some desk.old.room) → TicksOnce D.state desk.old desk.new result }
+
+    // The committer has ended if its turn says so.
     ensures stopped { result ≡ Stopped → IsTrue (is_some (ended_of desk.new.room)) }
 {
     let Some(room) = &mut desk.room else {
@@ -74,9 +80,12 @@ fn rows_of(batch: &Batch) -> u64
 
 /// Visits of the collector, up to the end of a round at most.
 pub fn collect<D: Pmem + Drop>(desk: &mut Desk<D>) -> Turn
+    // The room makes visits, and no other step, and none of them ends the committer. The rows that were covered count on, and
+    // from 0 once a round has ended.
     ensures visits { IsTrue (is_some desk.old.room) → InRoom (λ old new. Repeats D.state old new Collect) desk.old.room desk.new.room }
     ensures covered { desk.new.covered ≡ covered_since desk.old.covered result }
     ensures ended { ended_of desk.new.room ≡ ended_of desk.old.room }
+
     ensures counts { (desk.new.open ≡ desk.old.open) × (desk.new.refusals ≡ desk.old.refusals) }
     ensures rest { LeavesRest desk.old desk.new }
 {
@@ -122,11 +131,15 @@ impl<D: Pmem + Drop> Desk<D> {
     // The outcome of a tick that isn't refused.
     fn after_tick(&mut self, tick: Tick) -> Turn
         requires covers { tick ≡ Covered → IsSome (covered_in self.old.room) }
+
+        // A turn is what the reply to its tick makes of it. The rows that the commits of a covered batch have written or deleted
+        // are counted, and nothing else is. The room is as it was.
         ensures goes_on { result ≢ Stopped }
         ensures room { self.new.room ≡ self.old.room }
         ensures turn { result ≡ turn_of (ticked (Ok tick) (covered_in self.old.room)) }
         ensures refusals { self.new.refusals ≡ refusals_after self.old.refusals (ticked (Ok tick) (covered_in self.old.room)) }
         ensures covered { self.new.covered ≡ covered_after self.old.covered (ticked (Ok tick) (covered_in self.old.room)) }
+
         ensures open { self.new.open ≡ self.old.open }
         ensures rest { LeavesRest self.old self.new }
     {
@@ -158,11 +171,15 @@ impl<D: Pmem + Drop> Desk<D> {
     // The outcome of a tick that is refused: lack of memory passes, and nothing else does.
     fn after_refusal(&mut self, fault: Fault) -> Turn
         requires lacked { fault ≡ OutOfMemory → HasLackedMemory }
+
+        // It is reported as the last turn only if the tick was refused, and not for lack of memory. Refusals in a row are counted
+        // as `tick` says. The room is as it was.
         ensures room { self.new.room ≡ self.old.room }
         ensures stopped { result ≡ Stopped → fault ≢ OutOfMemory }
         ensures turn { result ≡ turn_of (Refused fault) }
         ensures refusals { self.new.refusals ≡ refusals_after self.old.refusals (Refused fault) }
         ensures covered { self.new.covered ≡ covered_after self.old.covered (Refused fault) }
+
         ensures open { self.new.open ≡ self.old.open }
         ensures rest { LeavesRest self.old self.new }
     {

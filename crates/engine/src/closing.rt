@@ -19,6 +19,8 @@ pub fn may_close<D: Pmem + Drop, J: Origin>(desk: &mut Desk<D, J>, count: u64) -
     ensures refused { IsFalse result → desk.new ≡ desk.old }
     ensures handed { desk.new.handed ≡ desk.old.handed }
     ensures room { desk.new.audited ≡ desk.old.audited }
+
+    // What else is under the lock stays.
     ensures halted { (desk.new.halted ≡ desk.old.halted) × (desk.new.refusals ≡ desk.old.refusals) }
     ensures due { (desk.new.due ≡ desk.old.due) × (desk.new.asleep ≡ desk.old.asleep) }
 {
@@ -39,6 +41,8 @@ pub fn take_room<D: Pmem + Drop, J: Origin, B: Drop>(
     ensures some { IfSome result (λ audited. (desk.old.audited ≡ Some audited) × IsReturned opening.now first (receipts_in sessions.now) audited) }
     ensures none { IfNone result (IfSome desk.old.audited (λ audited. IsReturned opening.now first (receipts_in sessions.now) audited → ⊥)) }
     ensures kept { IfNone result (desk.new.audited ≡ desk.old.audited) }
+
+    // What else is under the lock stays.
     ensures taken { IfSome result (λ _. desk.new.audited ≡ None) }
     ensures rest { (desk.new.closing ≡ desk.old.closing) × (desk.new.handed ≡ desk.old.handed) × (desk.new.halted ≡ desk.old.halted) × (desk.new.refusals ≡ desk.old.refusals) }
     ensures due { (desk.new.due ≡ desk.old.due) × (desk.new.asleep ≡ desk.old.asleep) }

@@ -76,7 +76,7 @@ impl<D: Pmem + Drop, J: Origin> Desk<D, J> {
     ghost use Rattle.engine.specs.Due.{delivered, due_after, due_first, fourth_of, wants_record};
     ghost use Rattle.engine.specs.Lending.{HasMade, MakesOnly, has_failed, is_covered, halted_after, refusals_after, why_not, waited};
 
-    /// No room yet.
+    /// No room, no session, no refusal and no end. A tick and a visit are due.
     pub fn new() -> Desk<D, J>
         ensures empty { result.audited ≡ None }
         ensures handed { result.handed ≡ 0 }
@@ -109,7 +109,11 @@ impl<D: Pmem + Drop, J: Origin> Desk<D, J> {
     /// Counts one more session that is handed out.
     pub fn hand_out(&mut self) -> Result<(), Fault>
         ensures handed { MatchResult result (λ _. self.new.handed ≡ self.old.handed + 1) (λ fault. (fault ≡ OutOfMemory) × (self.new.handed ≡ self.old.handed)) }
+
+        // OutOfMemory exactly if that can't be counted.
         ensures full { OnErr result (self.old.handed + 1 ≡ 2 ^ 64) }
+
+        // Nothing else changes.
         ensures closing { self.new.closing ≡ self.old.closing }
         ensures room { self.new.audited ≡ self.old.audited }
         ensures halted { (self.new.halted ≡ self.old.halted) × (self.new.refusals ≡ self.old.refusals) }
@@ -124,16 +128,30 @@ impl<D: Pmem + Drop, J: Origin> Desk<D, J> {
         }
     }
 
-    /// A worker's step, unless the engine is being closed or there is no room. Without memory it has no receipt. The fault with
-    /// which the committer is refused is kept here, and how often in a row it was refused memory.
+    /// A worker's step, unless the engine is being closed or there is no room.
     pub fn tick(&mut self, step: &Step) -> Option<(Reply, Option<Receipt>)>
+        // The step asked was made in the room. It is kept last, with its reply's note, and leads where the reply does. Or, for
+        // lack of memory, it was neither kept nor made.
         ensures made { IfSome result (λ made. IfSome made.1 (λ receipt. (receipt.step ≡ step.now) × (receipt.note ≡ note_of made.0))) }
+
+        // What the committer was refused with is kept, and nothing else is taken for it.
         ensures halted { IfSome result (λ made. MatchOption made.1 (self.new.halted ≡ self.old.halted) (λ receipt. self.new.halted ≡ halted_after self.old.halted receipt.step receipt.note)) }
+
+        // No step is made, and nothing changed, exactly if the engine is being closed or there is no room.
         ensures none { (result ≡ None) ↔ (IsTrue self.old.closing ⊎ (self.old.audited ≡ None)) }
         ensures same { IfNone result ((self.new.audited ≡ self.old.audited) × (self.new.halted ≡ self.old.halted) × (self.new.refusals ≡ self.old.refusals)) }
+
+        // No other step is made.
         ensures only { IfSome result (λ made. MakesOnly D.state self.old.audited self.new.audited step.now made.0 made.1) }
+
+        // A batch that it covered is one that a run from the lent image covered last.
         ensures covered { IfSome result (λ made. (batch : Batch) → made.0 ≡ Covered batch → HasCovered J.image batch) }
+
+        // How often in a row the committer was refused memory: one more if its step was refused it, none once one is kept, and as
+        // before after the collector's.
         ensures refusals { IfSome result (λ made. self.new.refusals ≡ refusals_after self.old.refusals step.now (is_some made.1)) }
+
+        // Nothing else changes.
         ensures closing { self.new.closing ≡ self.old.closing }
         ensures handed { self.new.handed ≡ self.old.handed }
         ensures asleep { self.new.asleep ≡ self.old.asleep }
@@ -162,8 +180,12 @@ impl<D: Pmem + Drop, J: Origin> Desk<D, J> {
 
     /// Notes the reply to a step, and what it made due.
     pub fn note(&mut self, reply: &Reply)
+        // As for `Due::note`. A fourth of the room's slots is enough for a round, and the state says whether a record is needed.
+        // If there is no room, what was due stays due.
         ensures due { MatchOption self.old.audited (self.new.due ≡ self.old.due)
             (λ audited. (q : State) → Shows D.state audited.room q → self.new.due ≡ due_after self.old.due reply.now (wants_record reply.now q.ruling q.next q.layout.window) (fourth_of q.layout.slots)) }
+
+        // What else is under the lock stays.
         ensures asleep { self.new.asleep ≡ self.old.asleep }
         ensures room { self.new.audited ≡ self.old.audited }
         ensures handed { self.new.handed ≡ self.old.handed }
@@ -197,6 +219,8 @@ impl<D: Pmem + Drop, J: Origin> Desk<D, J> {
     /// Whom to notify of what was noted since the previous call.
     pub fn take_news(&mut self) -> News
         ensures news { result ≡ self.old.due.news }
+
+        // All are notified, and what else is under the lock stays.
         ensures delivered { self.new.due ≡ delivered self.old.due }
         ensures asleep { self.new.asleep ≡ self.old.asleep }
         ensures room { self.new.audited ≡ self.old.audited }
@@ -210,6 +234,8 @@ impl<D: Pmem + Drop, J: Origin> Desk<D, J> {
 
     /// Why nothing will be covered: the fault that ended the committer, or that it was refused memory too often in a row.
     pub fn why_not(&self) -> Option<Fault>
+        // Of what is under the lock, the fault is what the committer was refused with, and otherwise OutOfMemory after more than
+        // a hundred refusals in a row.
         ensures why { result ≡ why_not self.now.halted self.now.refusals }
         ensures fault { IfSome result (λ fault. (fault ≡ OutOfMemory) ⊎ HasHalted J.image fault) }
     {
@@ -226,6 +252,8 @@ impl<D: Pmem + Drop, J: Origin> Desk<D, J> {
     /// Whether a wait for the timestamp is over: with Ok if it is persisted and not long, or if the device has failed; with Err
     /// if it isn't persisted and nothing will be.
     pub fn waited(&self, timestamp: Ts) -> Option<Result<(), Fault>>
+        // A wait for a timestamp lasts exactly until it is persisted and not long, or nothing will be covered, or the device has
+        // failed. If it isn't covered, the fault is as for `why_not`.
         ensures over { MatchOption self.now.audited (result ≡ None)
             (λ audited. (q : State) → Shows D.state audited.room q → result ≡ waited (is_covered q.ruling timestamp) (why_not self.now.halted self.now.refusals) (has_failed audited.entries.items)) }
         ensures fault { IfSome result (λ over. IfErr over (λ fault. (fault ≡ OutOfMemory) ⊎ HasHalted J.image fault)) }

@@ -81,6 +81,7 @@ impl Due {
 
     /// Notes the reply to a step. A round is due once `quarter` commits were covered.
     pub fn note(&mut self, reply: &Reply, quarter: u64)
+        // What is due then, and who is to be notified, is all that the reply makes of it (`due_after`).
         ensures { self.new ≡ due_after self.old reply.now false quarter }
     {
         let has_failed = self.take_in(reply);

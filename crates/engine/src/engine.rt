@@ -60,11 +60,21 @@ impl<
         committer: G,
         collector: H,
     ) -> Result<Engine<D, J, Board<J, R>>, (Fault, Audited<D>)>
+        // The board's history is the one that the engine's type names.
         requires name { history ≡ J.book }
+
+        // The history of the room that is lent is a run from the image that the engine's type names, as `Audited::open` ensures
+        // for the image of its device.
         requires from { IsFrom D.state J.image audited }
+
+        // `opening()` and the length of the history are those of the room that is lent.
         ensures opening { IfOk result (λ engine. engine.opening ≡ audited.opening) }
         ensures first { IfOk result (λ engine. engine.first ≡ length audited.entries.items) }
+
+        // For every state that the room shows its tables are published, at the stamp of its ruling record (`IsStartedOn`).
         ensures published { IfOk result (λ engine. (q : State) → Shows D.state audited.room q → IsStartedOn q engine.published) }
+
+        // OutOfMemory or NoThread, and the room comes back as it was.
         ensures fault { IfErr result (λ e. (e.0 ≡ OutOfMemory) ⊎ (e.0 ≡ NoThread)) }
         ensures back { IfErr result (λ e. e.1 ≡ audited) }
     {
@@ -120,9 +130,12 @@ impl<D: Pmem + Drop, J: Origin, B: Drop> Engine<D, J, B> {
 
     /// A session, for one thread.
     pub fn session<R: Wait>(&self, rt: &R) -> Result<Session<D, J, B>, Fault>
+        // It has no receipt and no transaction, and it knows what was published at the start.
         ensures empty { IfOk result (λ session. session.receipts.items ≡ []) }
         ensures phase { IfOk result (λ session. session.phase ≡ Idle) }
         ensures published { IfOk result (λ session. session.published ≡ self.now.published) }
+
+        // It is refused only for lack of memory.
         ensures memory { IfErr result (λ fault. fault ≡ OutOfMemory) }
     {
         let Ok(shared) = Arc::try_clone(&self.shared) else {
@@ -138,7 +151,10 @@ impl<D: Pmem + Drop, J: Origin, B: Drop> Engine<D, J, B> {
 
     /// A reader, for one thread. There are eight at most.
     pub fn reader<R: Wait>(&self, rt: &R) -> Result<Reader<J>, Fault>
+        // It has learnt what was published at the start.
         ensures published { IfOk result (λ reader. Begins self.now.published reader) }
+
+        // It is refused only with ReadersOut.
         ensures fault { IfErr result (λ fault. fault ≡ ReadersOut) }
     {
         let mut readers = self.readers.lock(rt);
@@ -152,17 +168,25 @@ impl<D: Pmem + Drop, J: Origin, B: Drop> Engine<D, J, B> {
         }
     }
 
-    /// Joins the workers and returns the room. Fails with `WrongState`, and returns everything, if a session that was handed
-    /// out is missing, or if the room isn't the one that was lent. It isn't if it was opened with other numbers, or if the
-    /// receipts of the sessions aren't its steps. An engine that is returned after the workers were joined has none.
+    /// Joins the workers and returns the room. An engine that is returned after the workers were joined has none.
     pub fn close<R: Threads + Wait>(
         mut self,
         rt: &R,
         sessions: Vec<Session<D, J, B>>,
     ) -> Result<Audited<D>, (Fault, Engine<D, J, B>, Vec<Session<D, J, B>>)>
+        // At Ok the room has the opening of the one that was lent.
         ensures opening { IfOk result (λ audited. audited.opening ≡ self.opening) }
+
+        // Each receipt of the sessions is the history's entry at its place, from `first()` on, and each session step from there
+        // on has exactly one receipt.
         ensures agrees { IfOk result (λ audited. Agrees audited.entries.items self.first (receipts_in sessions.items)) }
+
+        // At Ok the room's history is a run from the image from which the room was opened that was lent.
         ensures from { IfOk result (IsFrom D.state J.image) }
+
+        // WrongState, if a session that was handed out is missing, or if the room isn't the one that was lent. The sessions come
+        // back, and an engine of the same numbers, which knows the same, shares with them what it shared, and has the readers
+        // that it had.
         ensures fault { IfErr result (λ e. e.0 ≡ WrongState) }
         ensures back { IfErr result (λ e. (e.1.opening ≡ self.opening) × (e.1.first ≡ self.first) × (e.1.published ≡ self.published) × (e.1.shared ≡ self.shared) × (e.1.readers ≡ self.readers) × (e.2.items ≡ sessions.items)) }
     {

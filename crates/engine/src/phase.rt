@@ -72,6 +72,7 @@ impl<D: Pmem + Drop, J: Origin, B: Drop> Session<D, J, B> {
 
     /// How far its transaction has come by its receipts.
     pub fn phase(&self) -> Phase
+        // It is the one in which the receipts leave it.
         ensures phase { result ≡ self.now.phase }
         ensures reached { result ≡ phase_after Idle self.now.receipts.items }
     {

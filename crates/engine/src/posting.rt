@@ -45,6 +45,7 @@ pub fn post<R: Wait + Drop, D: Pmem + Drop, J: Origin>(
     shared: &Arc<Shared<D, J, Board<J, R>>, Global>,
     batch: Batch,
 ) -> Option<Token<J>>
+    // What is published has the batch and ends at its stamp, and at most sixteen stamps of it may be read.
     ensures { IfSome result (λ list. EndsIn list batch × IsShort list) }
 {
     let mut refusals = 0u64;
@@ -75,6 +76,9 @@ fn post_left<R: Wait + Drop, J: Naming>(
     board: &mut Board<J, R>,
     left: Left<J>,
 ) -> Result<Token<J>, Option<Left<J>>>
+    // One try, after which what is published has the batch and ends at its stamp. Sixteen stamps may be read, or all that could
+    // be read before (`posted`). Otherwise the try leaves the batch, or a list that waits on the board and ends in it. A batch
+    // comes to nothing exactly if it may not come next (`Fits`), and then the board is as before.
     ensures published { IfOk result (λ list. list ≡ board.new.list) }
     ensures board { OnOk result (board.new ≡ posted board.old (batch_of left)) }
     ensures left { (batch : BatchOf) → IsLeftOf batch left → MatchResult result (λ list. EndsIn list batch × IsShort list) (λ rest. IfSome rest (IsLeftOf batch)) }
@@ -90,6 +94,9 @@ fn post_batch<R: Wait + Drop, J: Naming>(
     board: &mut Board<J, R>,
     batch: Batch,
 ) -> Result<Token<J>, Option<Left<J>>>
+    // One try, after which what is published has the batch and ends at its stamp. Sixteen stamps may be read, or all that could
+    // be read before (`posted`). Otherwise the try leaves the batch, or a list that waits on the board and ends in it. A batch
+    // comes to nothing exactly if it may not come next (`Fits`), and then the board is as before.
     ensures published { IfOk result (λ list. (list ≡ board.new.list) × EndsIn list batch × IsShort list) }
     ensures board { OnOk result (board.new ≡ posted board.old (Some batch)) }
     ensures left { IfErr result (λ rest. MatchOption rest ((Fits (whole board.old) batch → ⊥) × (board.new ≡ board.old)) (IsLeftOf batch)) }
@@ -109,6 +116,9 @@ fn post_announced<R: Wait + Drop, J: Naming>(
     board: &mut Board<J, R>,
     due: Token<J>,
 ) -> Result<Token<J>, Option<Left<J>>>
+    // One try, after which what is published has the batch and ends at its stamp. Sixteen stamps may be read, or all that could
+    // be read before (`posted`). Otherwise the try leaves the batch, or a list that waits on the board and ends in it. A batch
+    // comes to nothing exactly if it may not come next (`Fits`), and then the board is as before.
     ensures published { IfOk result (λ list. (list ≡ board.new.list) × Begins due list × (last_stamp list ≡ last_stamp due) × IsShort list) }
     ensures board { OnOk result (board.new ≡ posted board.old None) }
     ensures left { IfErr result (λ rest. IfSome rest (λ left. (batch : BatchOf) → EndsIn due batch → IsLeftOf batch left)) }
@@ -132,6 +142,8 @@ fn publish_and_prune<R: Wait + Drop, J: Naming>(
     board: &mut Board<J, R>,
     left: Option<Batch>,
 ) -> Posting
+    // The batch is published exactly if it may come next. If memory is lacking, it comes back and the board is as before, or it
+    // waits there. Sixteen stamps stay readable.
     ensures { Posts board.old board.new left result }
 {
     match publish(board, left) {
@@ -146,6 +158,8 @@ fn publish_and_prune<R: Wait + Drop, J: Naming>(
 
 // Publishes the batch if it goes on from what was published, or what waits.
 fn publish<R: Wait + Drop, J: Naming>(board: &mut Board<J, R>, left: Option<Batch>) -> Posting
+    // The batch is published exactly if it may come next. If memory is lacking, it comes back and the board is as before, or it
+    // waits there.
     ensures { Tries board.old board.new left result }
 {
     let Some(batch) = left else {
@@ -165,6 +179,7 @@ fn publish<R: Wait + Drop, J: Naming>(board: &mut Board<J, R>, left: Option<Batc
 
 // Raises the lowest stamp that may be read, so that sixteen stay readable.
 fn prune<R: Wait + Drop, J: Naming>(board: &mut Board<J, R>) -> Result<(), Fault>
+    // Sixteen stamps stay readable. If memory is lacking, the change waits on the board.
     ensures few { last_stamp board.old.list ≤ board.old.list.floor + 15 → (result ≡ Ok tt) × (board.new ≡ board.old) }
     ensures many { board.old.list.floor + 15 < last_stamp board.old.list → MatchResult result
         (λ _. board.new ≡ shown (waiting board.old (Raise (last_stamp board.old.list - 15))))

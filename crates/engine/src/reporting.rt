@@ -12,6 +12,7 @@ impl<D: Pmem + Drop, J: Origin, R: Wait + Drop> Session<D, J, Board<J, R>> {
 
     /// What is published now, which may not cover the session's last commit yet. Each call has a token of its own.
     pub fn token<W: Wait>(&self, rt: &W) -> Token<J>
+        // It is a list that begins with what was published at the start.
         ensures { Begins self.now.published result }
     {
         let board = self.shared.board.lock(rt);

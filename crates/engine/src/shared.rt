@@ -119,8 +119,11 @@ impl<D: Pmem + Drop, J: Origin, B: Drop> Shared<D, J, B> {
 
     /// Notes the reply to a step, and wakes the threads that have to know.
     pub fn notify(&self, desk: &mut Desk<D, J>, reply: &Reply)
+        // As for `Desk::note`, and all who have to know are notified.
         ensures due { MatchOption desk.old.audited (desk.new.due ≡ delivered desk.old.due)
             (λ audited. (q : State) → Shows D.state audited.room q → desk.new.due ≡ delivered (due_after desk.old.due reply.now (wants_record reply.now q.ruling q.next q.layout.window) (fourth_of q.layout.slots))) }
+
+        // What else is under the lock stays.
         ensures asleep { desk.new.asleep ≡ desk.old.asleep }
         ensures room { desk.new.audited ≡ desk.old.audited }
         ensures handed { desk.new.handed ≡ desk.old.handed }

@@ -24,10 +24,21 @@ impl<D: Pmem + Drop, J: Origin, B: Drop> Session<D, J, B> {
     /// Draws a timestamp and stamps all keys, or goes on from where an earlier call left off. `None` if nothing was written. If
     /// the committer has ended, nothing is drawn any more, and it fails with the fault that ended the committer.
     pub fn prepare<R: Wait>(&mut self, rt: &R) -> Result<Option<Ts>, Fault>
+        // The receipts added are those of a draw and of stamps, and what is returned is the draw's. If there is a timestamp, the
+        // last note says that all keys are stamped. Otherwise the draw is the only step. At Err it is the last note's fault, or
+        // OutOfMemory. Or, before a draw and without a step, it is the fault with which the committer was refused in a run from
+        // the image that the engine's type names. If no transaction is open, it is NoSession, and no step is made. If all is
+        // stamped, or nothing was written, the call isn't refused.
         ensures steps { Called self.old.receipts.items self.new.receipts.items (λ added. AskPrepare self.old.phase added × MatchResult result (ReportsPrepare self.old.phase added) (DeclinesPrepare (HasHalted J.image) self.old.phase added)) }
+
+        // At Ok no step was refused. If one was, the fault is that of the first.
         ensures refusal { ReportsRefusal (added_since self.old.receipts.items self.new.receipts.items) result }
+
+        // The transaction's phase is then the one in which these receipts leave it.
         ensures ok { IfOk result (λ answer. self.new.phase ≡ prepared (number_of self.old.phase) answer) }
         ensures phase { self.new.phase ≡ phase_after self.old.phase (added_since self.old.receipts.items self.new.receipts.items) }
+
+        // The list that a token of the session begins with stays.
         ensures published { self.new.published ≡ self.old.published }
     {
         match self.phase {
@@ -54,14 +65,22 @@ impl<D: Pmem + Drop, J: Origin, B: Drop> Session<D, J, B> {
         }
     }
 
-    /// Prepares, waits until the commit is covered, and ends the transaction. `None` if nothing was written. If the committer
-    /// ends first, it fails with the fault that ended the committer, and with OutOfMemory if that is refused memory again and
-    /// again.
+    /// Prepares, waits until the commit is covered, and ends the transaction. `None` if nothing was written.
     pub fn commit<R: Wait>(&mut self, rt: &R) -> Result<Option<Ts>, Fault>
+        // The receipts added are those of a draw, of stamps, of polls and of an end, and what is returned is the last poll's. At
+        // Err it is the last note's fault, or OutOfMemory. Or, if no poll reported that the commit is covered, it is the fault
+        // with which the committer was refused in such a run. In each of these cases no end was done: the transaction is still
+        // open. It is NoSession as for `prepare`.
         ensures steps { Called self.old.receipts.items self.new.receipts.items (λ added. AskCommit self.old.phase added × MatchResult result (ReportsCommit self.old.phase added) (DeclinesCall (HasHalted J.image) self.old.phase added)) }
+
+        // As for `prepare`.
         ensures refusal { ReportsRefusal (added_since self.old.receipts.items self.new.receipts.items) result }
+
+        // At Ok no transaction is open. At Err its phase is the one in which the receipts leave it.
         ensures ok { OnOk result (self.new.phase ≡ Idle) }
         ensures phase { self.new.phase ≡ phase_after self.old.phase (added_since self.old.receipts.items self.new.receipts.items) }
+
+        // The list that a token of the session begins with stays.
         ensures published { self.new.published ≡ self.old.published }
     {
         let number = match self.phase.number() {

@@ -110,6 +110,8 @@ fn take_turn<R: Wait + Drop, D: Pmem + Drop, J: Origin>(
     shared: &Arc<Shared<D, J, Board<J, R>>, Global>,
     step: &Step,
 ) -> Result<Turn<J>, Missed>
+    // If a worker's tick covered a batch, it is the one that a run from the lent image covered last. A list that has it and ends
+    // at its stamp was published before the next tick.
     ensures { IfOk result (λ turn. IsPosted J.image turn.note turn.published) }
 {
     let made = tick(rt, shared, step);
@@ -123,7 +125,12 @@ fn finish_turn<R: Wait + Drop, D: Pmem + Drop, J: Origin>(
     made: Option<(Reply, Option<Receipt>)>,
 ) -> Result<Turn<J>, Missed>
     requires { ForSome made (IsTurn J.image) }
+
+    // As for `take_turn`.
     ensures posted { IfOk result (λ turn. IsPosted J.image turn.note turn.published) }
+
+    // A turn has the note of its step. It has none if the step wasn't kept, for lack of memory, or none was made, or the batch
+    // that it covered can't be published. Then the worker ends.
     ensures why { MatchResult result (λ turn. IsTurnOf made turn.note) (Misses made) }
 {
     let Some((reply, receipt)) = made else {
@@ -153,6 +160,8 @@ fn tick<R: Wait, D: Pmem + Drop, J: Origin, B: Drop>(
     shared: &Arc<Shared<D, J, B>, Global>,
     step: &Step,
 ) -> Option<(Reply, Option<Receipt>)>
+    // The receipt is that of the step asked, with its reply's note. A batch that it covered is one that a run from the lent image
+    // covered last.
     ensures made { IfSome result (λ made. IfSome made.1 (λ receipt. (receipt.step ≡ step.now) × (receipt.note ≡ note_of made.0))) }
     ensures turn { ForSome result (IsTurn J.image) }
 {

@@ -30,7 +30,7 @@ impl WordFile {
     ghost use Rattle.file_words.specs.Accounts.{Sizing, Syncing, Writing};
     ghost use Rattle.file_words.specs.Calls.{IsCutTo, account_of, calls_of, held_by, shown_by};
 
-    /// A file of which nothing is known.
+    /// A file on which no call was made yet, and of which nothing is known.
     pub fn new(alloc: Global, file: File) -> io::Result<WordFile>
         ensures { IfOk result (λ made. calls_of (account_of made) ≡ []) }
     {
@@ -44,8 +44,11 @@ impl WordFile {
 
     /// Writes these words, the first as this one.
     pub fn write(&mut self, start: usize, words: &[u64]) -> io::Result<()>
+        // Also at Err, each of these words may be found as before or as it was to be, and any other word only as before.
         ensures found { (word x : ℕ) → held_by (account_of self.new) word x → held_by (account_of self.old) word x ⊎ IsInRun start words.now word x }
         ensures others { (word x : ℕ) → shown_by (account_of self.new) word x → shown_by (account_of self.old) word x ⊎ IsInRun start words.now word x }
+
+        // At Ok each of these words was written last as it was to be.
         ensures written { OnOk result ((word x : ℕ) → start ≤ word → word < start + length words.now → shown_by (account_of self.new) word x → x ≡ slice_index words.now (word - start)) }
     {
         if start.checked_add(words.len()).is_none() {
@@ -92,7 +95,10 @@ impl WordFile {
 
     /// Waits until what was written persists. It is trusted of `sync_data` that it does so before it succeeds.
     pub fn sync(&mut self) -> io::Result<()>
+        // The call is added to the account, and whether it succeeded.
         ensures noted { calls_of (account_of self.new) ≡ Syncing (is_ok result) ∷ calls_of (account_of self.old) }
+
+        // Nothing else may be found than before, and at Ok only what was written last.
         ensures found { (word x : ℕ) → held_by (account_of self.new) word x → held_by (account_of self.old) word x }
         ensures synced { OnOk result ((word x : ℕ) → held_by (account_of self.new) word x → shown_by (account_of self.old) word x) }
     {
@@ -104,8 +110,13 @@ impl WordFile {
     /// Notes what came of a sync that was made by a copy of the descriptor. It is trusted of the caller that it is one of this file,
     /// and that nothing was written since it began.
     pub fn note(&mut self, ended: io::Result<()>) -> io::Result<()>
+        // What came of the sync is returned.
         ensures result { result ≡ ended }
+
+        // The call is added to the account, and whether it succeeded.
         ensures noted { calls_of (account_of self.new) ≡ Syncing (is_ok ended) ∷ calls_of (account_of self.old) }
+
+        // Nothing else may be found than before, and at Ok only what was written last.
         ensures found { (word x : ℕ) → held_by (account_of self.new) word x → held_by (account_of self.old) word x }
         ensures synced { OnOk result ((word x : ℕ) → held_by (account_of self.new) word x → shown_by (account_of self.old) word x) }
     {
@@ -116,6 +127,7 @@ impl WordFile {
     /// Makes it `to` words long, with zeros behind those that it has, which are `from`. If these have no room on the disk, it stays
     /// as long as it was.
     pub fn grow(&mut self, alloc: Global, from: usize, to: usize) -> io::Result<()>
+        // No word of those that it has changes. At Ok the further ones were written as 0.
         ensures found { (word x : ℕ) → word < from → held_by (account_of self.new) word x → held_by (account_of self.old) word x }
         ensures others { (word x : ℕ) → word < from → shown_by (account_of self.new) word x → shown_by (account_of self.old) word x }
         ensures zeros { OnOk result ((word x : ℕ) → from ≤ word → word < to → shown_by (account_of self.new) word x → x ≡ 0) }
@@ -150,6 +162,7 @@ impl WordFile {
 
     /// Cuts off what is behind the first `words` words, and waits until that persists, and what was written before.
     pub fn cut(&mut self, words: usize) -> io::Result<()>
+        // No word before the new end changes. At Ok they are synced, and the account ends with both calls (`IsCutTo`).
         ensures found { (word x : ℕ) → word < words → held_by (account_of self.new) word x → held_by (account_of self.old) word x }
         ensures synced { OnOk result ((word x : ℕ) → word < words → held_by (account_of self.new) word x → shown_by (account_of self.old) word x) }
         ensures cut { OnOk result (IsCutTo words (account_of self.new)) }
@@ -179,7 +192,7 @@ impl WordFile {
         done
     }
 
-    /// What was done to it.
+    /// Its account: what was done to it.
     pub fn into_account(self) -> Account
         ensures { result ≡ account_of self }
     {

@@ -18,8 +18,8 @@ use snapshot::Numbers;
 use std::alloc::{AllocError, Global};
 use txn::{DrawnCommit, DrawnCommits};
 
-/// Whether the committer has nothing to do: no commit is chosen, half a window of timestamps is reserved, and there is no
-/// swept gap.
+/// Whether the committer has nothing to do: exactly if the next record covers no drawn commit and isn't due for another reason.
+/// It is due if half a window of timestamps isn't reserved, or if there is a swept gap.
 #[inline(always)]
 pub fn is_idle(numbers: &Numbers, swept: bool, drawn: &DrawnCommits) -> bool
     requires { numbers.now.next ≤ 2 ^ 62 }

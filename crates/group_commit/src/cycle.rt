@@ -57,8 +57,7 @@ impl Cycle {
     ghost use Rattle.group_commit.specs.declared.stage.CycleStage.TheVariants.{FlushLines, WriteRecord};
     ghost use Rattle.group_commit.specs.Cycles.{IsBeginFault, line_from, operation_in, reached_in, ticked_in};
 
-    /// Takes the drawn commits that the next record may cover, and the memory of their batch: no tick takes any. Fails with
-    /// `TimestampsOut` if no record number is left, and else with `OutOfMemory`.
+    /// Takes the drawn commits that the next record may cover, and all the memory of their batch: no tick takes any.
     #[inline(always)]
     pub fn begin(
         alloc: Global,
@@ -69,10 +68,16 @@ impl Cycle {
         requires numbered { numbers.now.record.gate < 2 ^ 62 }
         requires countable { numbers.now.next ≤ 2 ^ 62 }
         requires few { length (target_of numbers.now.geometry numbers.now.record numbers.now.next swept (map plain_drawn drawn.now.commits)).longs ≤ 12 }
+
+        // They are those that are stamped and not above what the next record reaches.
         ensures batch { IfOk result (λ cycle. cycle.batch ≡ batch_of numbers.now.record cycle.writing.target (chosen cycle.writing.target.persisted (map plain_drawn drawn.now.commits))) }
+
+        // The cycle has the next record, and the sessions that drew what this record commits.
         ensures sessions { IfOk result (λ cycle. (n : ℕ) → has cycle.sessions n ≡ list_any (λ d. nat_eq d.session n && is_committed cycle.writing.target d.timestamp) drawn.now.commits) }
         ensures writing { IfOk result (λ cycle. cycle.writing ≡ begun numbers.now.geometry (target_of numbers.now.geometry numbers.now.record numbers.now.next swept (map plain_drawn drawn.now.commits))) }
         ensures stage { IfOk result (λ cycle. cycle.stage ≡ FlushLines 0 0) }
+
+        // TimestampsOut exactly if no record number is left, and otherwise OutOfMemory.
         ensures numbered { OnOk result (numbers.now.record.gate + 1 < 2 ^ 62) }
         ensures fault { IfErr result (IsBeginFault numbers.now.record) }
     {
@@ -88,10 +93,11 @@ impl Cycle {
         Ok(Cycle::new(numbers.geometry, target, batch, sessions))
     }
 
-    /// Takes all that is drawn, under the record that closing writes last. What it covers isn't reported, so its batch stays
-    /// empty: it takes no memory.
+    /// Takes all that is drawn, under the record that closing writes last. What it covers isn't reported, so it takes no memory.
     pub fn closing(alloc: Global, numbers: &Numbers, swept: bool, drawn: &DrawnCommits) -> Cycle
         requires numbered { numbers.now.record.gate < 2 ^ 62 }
+
+        // A batch of no commits, the sessions of all that is drawn, and that record, which comes after the one that rules.
         ensures batch { result.batch ≡ batch_of numbers.now.record result.writing.target [] }
         ensures sessions { (n : ℕ) → has result.sessions n ≡ list_any (λ d. nat_eq d.session n) drawn.now.commits }
         ensures writing { result.writing ≡ begun numbers.now.geometry (closing_record (numbers.now.record.gate + 1) numbers.now.record numbers.now.next swept) }
@@ -136,9 +142,8 @@ impl Cycle {
         self.writing.is_done()
     }
 
-    /// The next operation, on the lines that the batch's sessions touch in the table: the flush of the next of them, or the
-    /// fence after the last, or the next operation of the record's writing. Returns the stage that it reaches, and none
-    /// if the batch is covered. If the device fails, the next tick tries the operation again.
+    /// Makes the next operation, on the lines that the batch's sessions touch in the table. Returns the stage that it reaches,
+    /// and none if the batch is covered. If the device fails, the next tick tries the operation again.
     #[inline(always)]
     pub fn tick<D: Pmem>(
         &mut self,
@@ -148,6 +153,9 @@ impl Cycle {
         requires unfinished { self.old.writing.stage ≢ Done }
         requires size { (D.state device.old).words ≡ total_words self.old.writing.layout }
         requires lines { (line : ℕ) → line_from (lines_touched self.old.sessions table.now) self.old.stage ≡ Some line → 8 * line < (D.state device.old).words }
+
+        // One operation: the flush of the batch's next line, the fence after the last, or the next one of its record. A failure
+        // leaves the cycle as it was, and the fault is Device.
         ensures operation { OnOk result (D.state device.new ≡ applied (operation_in (lines_touched self.old.sessions table.now) self.old) (D.state device.old)) }
         ensures reached { IfOk result (λ stage. stage ≡ reached_in (lines_touched self.old.sessions table.now) self.old) }
         ensures ok { OnOk result (self.new ≡ ticked_in (lines_touched self.old.sessions table.now) self.old) }

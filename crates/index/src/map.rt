@@ -57,7 +57,7 @@ impl Index {
         }
     }
 
-    /// An index with these entries, at these places. It takes no memory: the first draws note where entries may be.
+    /// An index with exactly these entries, at these places. It takes no memory: the first draws note where entries may be.
     pub fn of(
         alloc: Global,
         entries: Vec<KeyedEntry>,
@@ -73,10 +73,11 @@ impl Index {
         }
     }
 
-    /// The place of the key's entry, if it has one. It stays there. The calls that take a place try it first, and search
-    /// if the key's entry isn't there.
+    /// The place of the key's entry, where it stays. The calls that take a place try it first, and their clauses say the same
+    /// whatever that place is.
     #[inline(always)]
     pub fn place(&self, key: Key) -> Option<usize>
+        // None if the key has no room for an entry.
         ensures some { IfSome result (λ place. IsAt self.now place key) }
         ensures none { IfNone result (has_room self.now key ≡ false) }
     {
@@ -131,7 +132,8 @@ impl Index {
         }
     }
 
-    /// What is known about the key's versions.
+    /// What is known about the key's versions: the newest covered one with a row, whether a covered deletion ended it, the drawn
+    /// one, and the last timestamp drawn.
     #[inline(always)]
     pub fn entry(&self, key: Key, near: Option<usize>) -> Entry
         ensures { result ≡ entry_at self.now key }
@@ -227,10 +229,13 @@ impl Index {
         Ok(())
     }
 
-    /// Makes room for an entry of the key. All entries stay.
+    /// Makes room for an entry of the key.
     pub fn reserve(&mut self, key: Key, near: Option<usize>) -> Result<(), Fault>
+        // There is room for the key, and every entry is as it was.
         ensures entries { OnOk result ((k : KeyValue) → entry_at self.new k ≡ entry_at self.old k) }
         ensures room { OnOk result (GainsRoom self.old self.new key) }
+
+        // It is refused only for lack of memory, and the index is as before.
         ensures fault { IfErr result (λ fault. fault ≡ OutOfMemory) }
         ensures err { OnErr result (self.new ≡ self.old) }
     {
@@ -267,6 +272,8 @@ impl Index {
     ) -> Option<SlotNo>
         requires { IsTrue (has_room self.old key) }
         ensures live { result ≡ live_of (entry_at self.old key) }
+
+        // Every other entry is as it was. It takes no memory.
         ensures entries { Sets self.old self.new key (record (entry_at self.old key) { drawn = slot; last = Some ts }) }
         ensures room { KeepsRoom self.old self.new }
     {
@@ -283,6 +290,8 @@ impl Index {
     #[inline(always)]
     pub fn cover(&mut self, key: Key, near: Option<usize>, slot: Option<SlotNo>)
         requires { IsTrue (has_room self.old key) }
+
+        // Every other entry is as it was. It takes no memory.
         ensures entries { Sets self.old self.new key (covered slot (entry_at self.old key)) }
         ensures room { KeepsRoom self.old self.new }
     {
@@ -303,11 +312,13 @@ impl Index {
         self.set_in(place, key, covered);
     }
 
-    /// The key's version in the slot is freed. If it isn't the newest covered one, nothing changes. Returns the place of the entry, if
-    /// that changed.
+    /// The key's version in the slot is freed. If it isn't the newest covered one, nothing changes.
     pub fn forget(&mut self, key: Key, slot: SlotNo) -> Option<usize>
+        // Every other entry is as it was. It takes no memory.
         ensures entries { Sets self.old self.new key (forgotten slot (entry_at self.old key)) }
         ensures room { KeepsRoom self.old self.new }
+
+        // The place of the entry that was changed. At None the index is as before.
         ensures place { IfSome result (λ place. IsAt self.new place key) }
         ensures same { IfNone result (self.new ≡ self.old) }
     {
@@ -338,6 +349,7 @@ impl Index {
     /// The key whose entry is at the place, and the entry.
     #[inline(always)]
     pub fn get(&self, place: usize) -> Option<(Key, Entry)>
+        // None exactly past the last.
         ensures at { IfSome result (λ found. IsAt self.now place found.0) }
         ensures entry { IfSome result (λ found. found.1 ≡ entry_at self.now found.0) }
         ensures none { IfNone result (slice_get self.now place ≡ None) }
@@ -352,6 +364,7 @@ impl Index {
 
     /// Takes the key's entry out, which is then blank. It takes no memory, and the last entry moves to its place.
     pub fn remove(&mut self, key: Key, near: Option<usize>)
+        // The key has no entry, which says as much as a blank one, and no room. Every other key is as it was.
         ensures entries { Sets self.old self.new key blank }
         ensures room { LosesRoom self.old self.new key }
     {

@@ -67,7 +67,7 @@ impl KeyRange {
 impl Index {
     ghost use Rattle.index.specs.Walking.{AreLinked};
 
-    /// The rows that the snapshot sees at the keys of the range, by rising key.
+    /// The rows that the snapshot sees at the keys of the range: of all tables, or of one table between two keys, both included.
     pub fn rows<D: Pmem>(
         &self,
         alloc: Global,
@@ -77,6 +77,8 @@ impl Index {
         range: KeyRange,
     ) -> Result<Vec<(Key, Row)>, Fault>
         requires device { (D.state device.now).words ≡ total_words geometry }
+
+        // If links lead to what is seen, exactly these rows, by rising key. It is refused only for lack of memory.
         ensures ok { IfOk result (λ rows. (counts : ℕ → Bool) (tables : Tables) → CountsAs counts snapshot.now geometry (image_of (D.state device.now)) → AreLinked snapshot.now (image_of (D.state device.now)) self.now → ShowsTables counts geometry (image_of (D.state device.now)) tables → Lists rows.items (ranged range tables)) }
         ensures fault { IfErr result (λ fault. fault ≡ OutOfMemory) }
     {
@@ -117,7 +119,7 @@ impl Index {
     }
 }
 
-/// The rows of the map, by rising key.
+/// The rows of the map, each once, by rising key.
 pub fn listed(alloc: Global, rows: BTreeMap<Key, Row>) -> Result<Vec<(Key, Row)>, AllocError>
     ensures { IfOk result (λ list. (tables : Tables) → HasRows rows tables → Lists list.items tables) }
 {

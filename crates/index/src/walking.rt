@@ -42,6 +42,9 @@ impl Index {
         snapshot: &Snapshot,
     ) -> Option<Found>
         requires device { (D.state device.now).words ≡ total_words geometry }
+
+        // Exactly the row of the key in the slots that a snapshot sees, and its slot, if links lead there (`IsLinked`). What it
+        // finds is seen whatever links say.
         ensures slot { IfSome result (λ found. found.slot < geometry.slots) }
         ensures some { IfSome result (λ found. (counts : ℕ → Bool) → CountsAs counts snapshot.now geometry (image_of (D.state device.now)) → HasSeen counts (image_of (D.state device.now)) found.slot key found.row) }
         ensures none { IfNone result ((counts : ℕ → Bool) → CountsAs counts snapshot.now geometry (image_of (D.state device.now)) → IsLinked snapshot.now (image_of (D.state device.now)) key (entry_at self.now key).newest → (slot : ℕ) (row : List ℕ) → ¬ HasSeen counts (image_of (D.state device.now)) slot key row) }
@@ -62,6 +65,8 @@ impl Index {
         row: &mut Row,
     ) -> Option<SlotNo>
         requires device { (D.state device.now).words ≡ total_words geometry }
+
+        // The same row, put where the caller has room for one, and its slot.
         ensures slot { IfSome result (λ slot. slot < geometry.slots) }
         ensures some { IfSome result (λ slot. (counts : ℕ → Bool) → CountsAs counts snapshot.now geometry (image_of (D.state device.now)) → HasSeen counts (image_of (D.state device.now)) slot key row.new) }
         ensures tables { (counts : ℕ → Bool) (tables : Tables) → CountsAs counts snapshot.now geometry (image_of (D.state device.now)) → IsLinked snapshot.now (image_of (D.state device.now)) key (entry_at self.now key).newest

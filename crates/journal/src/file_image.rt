@@ -12,12 +12,15 @@ use std::io;
 use std::io::ErrorKind;
 
 /// The image that a file stands for: its first words, and over them the lines of the journal's entries, if the journal counts.
-/// Fails with `InvalidInput` if a file with an image of `words` and a journal of `room` has another length, and with `InvalidData`
-/// if the tail names no pass.
 pub fn image_in(alloc: Global, file: &[u64], words: usize, room: usize) -> io::Result<Vec<u64>>
+    // At Ok the words are a file with an image and a journal of these lengths, with a pass.
     ensures file { OnOk result (IsFile words room (length file.now)) }
     ensures pass { OnOk result (slice_index file.now (words + room + 3) < 2) }
+
+    // The file stands for this image.
     ensures stands { IfOk result (λ image. Opens words room file.now image.items) }
+
+    // At Err InvalidInput, if the words aren't a file of this length, InvalidData, if the file has no pass, or OutOfMemory.
     ensures err { IfErr result (λ error. ReportsUnread words room file.now (error_kind error)) }
 {
     if !is_file(words, room, file.len()) {
@@ -40,8 +43,11 @@ pub fn image_in(alloc: Global, file: &[u64], words: usize, room: usize) -> io::R
 /// not.
 #[tactic(auto, using(crate::proofs::Tails::named_one))]
 pub fn extent_of(file: &[u64]) -> Option<(usize, usize)>
+    // The words and the room that a tail at the end of a file names.
     ensures size { IfSome result (λ found. IsFile found.0 found.1 (length file.now)) }
     ensures tail { IfSome result (λ found. HasTail found.0 found.1 file.now) }
+
+    // At None no tail names any. If a tail names the words and the room, it returns these.
     ensures none { IsNone result → (words room : ℕ) → IsFile words room (length file.now) → HasTail words room file.now → ⊥ }
     ensures named { (words room : ℕ) → IsFile words room (length file.now) → HasTail words room file.now → result ≡ Some (words, room) }
 {

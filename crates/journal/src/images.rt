@@ -17,23 +17,31 @@ pub trait Images {
     /// An image wasn't kept, and why is noted.
     ghost has_failed: { Self → Type 0 };
 
-    /// Writes the image, which differs from the one that was written last in the lines of these numbers alone, and doesn't wait
-    /// until it persists. From then on, also if it fails, one that might be found before or this one may be found.
+    /// Writes the image, and doesn't wait until it persists.
     fn begin(&mut self, words: &Vec<u64>, lines: &[usize]) -> io::Result<()>
+        // The image that was written last differs from this one in the lines of these numbers alone.
         requires differs { (image : List ℕ) → shows self.old image → DiffersIn lines.now words.now.items image }
+
+        // From then on, also at Err, one that might be found before or this one may be found. At Ok this one was written last.
         ensures whole { (image : List ℕ) → may_hold self.new image → may_hold self.old image ⊎ (image ≡ words.now.items) }
         ensures begun { OnOk result ((image : List ℕ) → shows self.new image → image ≡ words.now.items) }
+
+        // At Err an image wasn't kept, and that is noted (`has_failed`). Of `JournaledImages`, `failure` then says why.
         ensures noted { OnErr result (has_failed self.new) };
 
-    /// Waits until the image persists that was written last. Once it succeeded no other is found.
+    /// Waits until the image persists that was written last.
     fn finish(&mut self) -> io::Result<()>
+        // No other image may be found than before, and at Ok only the one that was written last.
         ensures whole { (image : List ℕ) → may_hold self.new image → may_hold self.old image }
         ensures kept { OnOk result ((image : List ℕ) → may_hold self.new image → shows self.old image) }
+
+        // At Err that is noted.
         ensures noted { OnErr result (has_failed self.new) };
 
     /// Hands out a sync that another thread may make before `finish`, if there is one: `finish` takes no time then, once it was
     /// taken back. It changes no image, and until then nothing is written and `finish` doesn't succeed.
     fn hand_out(&mut self) -> Option<Self::Pending>
+        // It changes no image, and what was noted stays so.
         ensures found { (image : List ℕ) → may_hold self.new image → may_hold self.old image }
         ensures shown { (image : List ℕ) → shows self.new image → shows self.old image }
         ensures noted { has_failed self.old → has_failed self.new };
@@ -43,6 +51,7 @@ pub trait Images {
 
     /// Takes back what was handed out, with what came of it. It changes no image.
     fn take_back(&mut self, pending: Self::Pending)
+        // It changes no image, and what was noted stays so.
         ensures found { (image : List ℕ) → may_hold self.new image → may_hold self.old image }
         ensures shown { (image : List ℕ) → shows self.new image → shows self.old image }
         ensures noted { has_failed self.old → has_failed self.new };

@@ -60,12 +60,8 @@ pub struct Unclosed<S> {
 impl<S: Storage> JournaledImages<S> {
     ghost use Rattle.journal.specs.Images.{IsClosedIn, MayFind, StandsForOne, failure_of, last_image, room_of, storage_of};
 
-    /// Opens a file of which these words were read: an image of `words`, a journal of `room`, and a tail. The journal and the tail
-    /// have been written back and synced before, as by [`write_back`](crate::write_back); a word in place may still be found
-    /// otherwise. The image that the file stands for is put in place, and the file is brought to rest. Fails as [`image_in`]
-    /// does, and if a write fails. Then the file still stands for that image, if the journal's lines made the same of whatever might
-    /// be found in place before. Once it succeeded, the tail names the words and the room at each instant, so the next opening finds
-    /// both; if it fails the tail does so too, if it did when it was read.
+    /// Opens a file of which these words were read: an image of `words`, a journal of `room`, and a tail. The image that the file
+    /// stands for is put in place, and the file is brought to rest.
     pub fn open(
         alloc: Global,
         storage: S,
@@ -75,14 +71,29 @@ impl<S: Storage> JournaledImages<S> {
     ) -> Result<JournaledImages<S>, Unopened<S>>
     where
         S: Drop,
+        // If the file has this length, its journal and its tail are found only as they were read (`IsReadBack`), as after
+        // `write_back`. A word in place may be found as anything.
         requires back { length file.now ≡ words + room + 8 → IsReadBack (S.may_hold storage) words room file.now }
+
+        // The image that is kept is the one that the file stands for, and no other may be found. The journal has this room.
         ensures stands { IfOk result (λ images. Opens words room file.now (last_image images)) }
         ensures found { IfOk result (λ images. (image : List ℕ) → MayFind S.may_hold images image → image ≡ last_image images) }
         ensures room { IfOk result (λ images. room_of images ≡ room) }
+
+        // No failure to keep an image is noted.
         ensures works { IfOk result (λ images. failure_of images ≡ None) }
+
+        // At Err, as that of `image_in` or of a write, whatever is found stands for that image, if the journal's lines made the
+        // same of whatever was found in place before (`StandsAsBefore`).
         ensures unopened { IfErr result (λ unopened. StandsAsBefore (S.may_hold storage) (S.may_hold unopened.storage) words room file.now) }
+
+        // At Ok whatever is found of the tail names both (`NamesBoth`). At Err it does too, if the file that was read has a tail
+        // that names both.
         ensures named { IfOk result (λ images. NamesBoth (S.may_hold (storage_of images)) words room) }
         ensures tail { IfErr result (λ unopened. NamesAsRead (S.may_hold unopened.storage) words room file.now) }
+
+        // At Err, if the file that was read is new or was being made longer (`BeginsTail`), nothing else is found behind the
+        // image than what is written there first, or the tail names both.
         ensures first { IfErr result (λ unopened. BeginsAsRead (S.may_hold unopened.storage) words room file.now) }
     {
         let durable = match image_in(alloc, file, words, room) {
@@ -131,13 +142,17 @@ impl<S: Storage> JournaledImages<S> {
     }
 
     /// Brings the image in place, and hands out where it is kept: the file's first words alone are the image then. Fails if an
-    /// image isn't kept, and if a write fails: in both cases the file stands for an image that might have been found before. Until
-    /// the file is cut, its tail names the words and the room.
+    /// image isn't kept, and if a write fails.
     pub fn close(self) -> Result<S, Unclosed<S>>
     where
         S: Drop,
+        // At Ok the image that was kept last is in place, and the journal doesn't count.
         ensures closed { IfOk result (λ storage. ∥ IsClosedIn S.may_hold self storage ∥₁) }
+
+        // At Err, whichever write fails, whatever is found stands for an image that might have been found before (`StandsAmong`).
         ensures unclosed { IfErr result (λ unclosed. StandsForOne S.may_hold self unclosed.storage) }
+
+        // At Ok and at Err whatever is found of the tail names both (`NamesBoth`), until the file is cut.
         ensures named { IfOk result (λ storage. NamesBoth (S.may_hold storage) (length (last_image self)) (room_of self)) }
         ensures tail { IfErr result (λ unclosed. NamesBoth (S.may_hold unclosed.storage) (length (last_image self)) (room_of self)) }
     {

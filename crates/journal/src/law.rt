@@ -16,7 +16,7 @@ use crate::file_image::extent_of;
 use crate::journaled::JournaledImages;
 use crate::storage::Storage;
 
-/// The reader returns an entry that was being written if all of its words are found, and none if not.
+/// Of an entry that was being written, either all is found and it is read, or not all is and the reader says that there is none.
 pub fn torn_entries_are_seen()
     ensures { TornIsNone }
 {}
@@ -27,7 +27,7 @@ pub fn appends_are_whole()
     ensures nothing { NoneIsNothing }
 {}
 
-/// A torn entry isn't found while words of the other pass are written over it.
+/// A torn entry stays one while words of the other pass are written over it.
 pub fn scrubbed_entries_stay_torn()
     ensures { ScrubIsNone }
 {}
@@ -55,14 +55,15 @@ pub fn stretches_are_by_places()
     ensures { ByPlaces }
 {}
 
-/// What is found of a file at each instant: at rest, while lines are appended, while the image is written in place, and in
-/// the next pass.
+/// What a file stands for at each instant: at rest, while lines are appended, while the image is written in place, and in the
+/// next pass.
 pub fn files_are_whole()
     ensures { FileStates }
 {}
 
-/// If the journal decides which image is found in a storage, the lines of a file's journal make the same of whatever might be found
-/// in place there. So they do in another storage, if each of its words in place might also be found in the first.
+/// If the journal decides which image is found in a storage (`JournalDecides`), the lines of a file's journal make the same of
+/// whatever might be found in place there (`StandsStill`). So they do in another storage, if each of its words in place might
+/// also be found in the first.
 pub fn decided_files_stand_still<B: Storage, S: Storage>(
     before: &B,
     now: &S,
@@ -83,22 +84,25 @@ pub fn decided_files_stand_still<B: Storage, S: Storage>(
 }
 
 /// Any file that may be found of images, once all has stopped, has a tail that names how many words they have and how much room
-/// the journal has. So the next opening finds the same two.
+/// the journal has.
 pub fn left_files_name_their_shape<S: Storage>(
     images: &JournaledImages<S>,
     file: &[u64],
 ) -> Option<(usize, usize)>
     requires found { IsFound (S.may_hold (storage_of images.now)) (length (last_image images.now) + room_of images.now + 8) file.now }
+
+    // The file has their length, and such a tail.
     ensures file { IsFile (length (last_image images.now)) (room_of images.now) (length file.now) }
     ensures tail { HasTail (length (last_image images.now)) (room_of images.now) file.now }
+
+    // So `extent_of` returns these two at the next opening.
     ensures same { result ≡ Some (length (last_image images.now), room_of images.now) }
 {
     let _ = images;
     extent_of(file)
 }
 
-/// Any file that may be found after a stop while it was first opened has behind its image only words that are written there first,
-/// or a tail that names both. So no tail in it names other words, or another room.
+/// Any file that may be found after a stop while it was first opened names no other words, and no other room.
 pub fn begun_files_name_no_other<S: Storage>(
     storage: &S,
     file: &[u64],
@@ -108,7 +112,11 @@ pub fn begun_files_name_no_other<S: Storage>(
     requires file { IsFile words room (length file.now) }
     requires first { HoldsFirst (S.may_hold storage.now) words room ⊎ NamesBoth (S.may_hold storage.now) words room }
     requires found { IsFound (S.may_hold storage.now) (words + room + 8) file.now }
+
+    // It has behind its image only what is written there first, or a tail that names both.
     ensures begun { BeginsTail words room file.now ⊎ HasTail words room file.now }
+
+    // So `extent_of` returns these two or none.
     ensures same { IfSome result (λ found. found ≡ (words, room)) }
 {
     let _ = storage;

@@ -13,10 +13,9 @@ use std::io;
 // The tail's first word while the journal counts: its letters, in a file, are WBL-JRN1 from the last to the first.
 pub(crate) const MAGIC: u64 = 0x5742_4C2D_4A52_4E31;
 
-/// Brings a file to rest, with its image in place and nothing in the journal, whatever its journal held. The journal and the tail
-/// are known; a word in place may be found otherwise. If the lines of the journal make the image of it anyway, the file stands for
-/// this image at each instant, and also if a write fails. The journal has `room` words, and `pass` is the one that it counts in.
-/// Four writes, and a wait after each: the image in place; then the journal no longer counts; it is cleared; it counts again.
+/// Brings a file to rest, with its image in place and nothing in the journal, whatever its journal held. The journal has `room`
+/// words, and `pass` is the one that it counts in. Four writes, and a wait after each: the image in place; then the journal no
+/// longer counts; it is cleared; it counts again.
 pub fn rewrite<S: Storage>(
     alloc: Global,
     storage: &mut S,
@@ -25,11 +24,23 @@ pub fn rewrite<S: Storage>(
     pass: bool,
 ) -> io::Result<()>
     requires fits { length image.now + room + 8 < 2 ^ 63 }
+
+    // One journal and one tail are known to be there, and a file that has them stands for this image. A word in place may be
+    // found otherwise.
     requires known { ∥ KnowsJournal (S.may_hold storage.old) (length image.now) room pass image.now ∥₁ }
+
+    // Whatever is found stands for this image, also if a write fails, if it did before whatever was in place (`Covers`).
     ensures opens { ∥ Covers (S.may_hold storage.old) (length image.now) room image.now ∥₁ → FoundOpens (S.may_hold storage.new) (length image.now) room image.now }
+
+    // At Ok the image is in place, and the journal counts and has nothing in it.
     ensures rests { OnOk result (∥ Rests (S.may_hold storage.new) (length image.now) room true 0 image.now ∥₁) }
+
+    // The tail names both, also if a write fails, if it did before (`NamesAsBefore`). At Ok it does in any case (`NamesBoth`).
     ensures tail { NamesAsBefore (S.may_hold storage.old) (S.may_hold storage.new) (length image.now) room }
     ensures named { OnOk result (NamesBoth (S.may_hold storage.new) (length image.now) room) }
+
+    // If behind the image nothing was found but the words that are written there first (`HoldsFirst`), it is still so, or the
+    // tail names both.
     ensures first { pass ≡ true → HoldsFirst (S.may_hold storage.old) (length image.now) room → HoldsFirst (S.may_hold storage.new) (length image.now) room ⊎ NamesBoth (S.may_hold storage.new) (length image.now) room }
 {
     put_in_place(storage, image, room, pass)?;

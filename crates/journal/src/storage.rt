@@ -15,15 +15,19 @@ pub trait Storage {
     /// A word has this value by what was written last: it is found so, once a sync has succeeded.
     ghost shows: { Self → ℕ → ℕ → Type 0 };
 
-    /// Writes these words, the first as this one. From then on, also if it fails, each of them may be found as it was or as it was
-    /// to be, until a sync succeeds.
+    /// Writes these words, the first as this one.
     fn write(&mut self, start: usize, words: &[u64]) -> io::Result<()>
+        // From then on, also at Err, each of them may be found as it was or as it was to be, until a sync succeeds. Others may be
+        // found as before.
         ensures found { (word x : ℕ) → may_hold self.new word x → may_hold self.old word x ⊎ IsInRun start words.now word x }
         ensures others { (word x : ℕ) → shows self.new word x → shows self.old word x ⊎ IsInRun start words.now word x }
+
+        // At Ok the place shows what was written.
         ensures written { OnOk result ((word x : ℕ) → start ≤ word → word < start + length words.now → shows self.new word x → x ≡ slice_index words.now (word - start)) };
 
-    /// Waits until what was written persists. Once it succeeded, each word is found as it was written last.
+    /// Waits until what was written persists.
     fn sync(&mut self) -> io::Result<()>
+        // No other words may be found than before, and at Ok only those that were written last.
         ensures found { (word x : ℕ) → may_hold self.new word x → may_hold self.old word x }
         ensures synced { OnOk result ((word x : ℕ) → may_hold self.new word x → shows self.old word x) };
 
@@ -55,12 +59,15 @@ pub(crate) fn put<S: Storage>(storage: &mut S, start: usize, words: &[u64]) -> i
     storage.sync()
 }
 
-/// Writes back a file's journal and tail as they were read, behind an image of `words`, and waits until they persist: then nothing
-/// else is found of them. A sync alone isn't enough: after one that failed, the system takes for written what no disk has.
-/// Meanwhile, and also if it fails, each of these words may be found as before or as it was read.
+/// Writes back a file's journal and tail as they were read, behind an image of `words`, and waits until they persist. A sync
+/// alone isn't enough: after one that failed, the system takes for written what no disk has.
 pub fn write_back<S: Storage>(storage: &mut S, words: usize, file: &[u64]) -> io::Result<()>
     requires within { words + 8 ≤ length file.now }
+
+    // Also at Err, each word may be found as before or, behind the image, as in this file.
     ensures puts { (word x : ℕ) → S.may_hold storage.new word x → S.may_hold storage.old word x ⊎ IsReadWord words file.now word x }
+
+    // At Ok the journal and the tail are found only as in this file (`IsReadBack`).
     ensures back { OnOk result (IsReadBack (S.may_hold storage.new) words (length file.now - words - 8) file.now) }
 {
     put(storage, words, &file[words..])

@@ -16,10 +16,12 @@ use base::fault::Fault;
 use base::geometry::Geometry;
 use pmem::Pmem;
 
-/// The record that rules a device's image, or the first fault of the image, apart from its slots. Only the
-/// body of the ruling record is read.
+/// The record that rules a device's image. Only the body of the ruling record is read.
 pub fn latest<D: Pmem>(device: &D) -> Result<Ruling, Fault>
+    // The record that rules the image, with the layout.
     ensures ok { IfOk result (λ ruling. IsRuledBy ruling.geometry ruling.record (image_of (D.state device.now))) }
+
+    // At Err it is the first fault of the superblock, the gates and the ruling record.
     ensures fault { IfErr result (λ fault. log_damage (image_of (D.state device.now)) ≡ Some fault) }
 {
     let geometry = match read_geometry(device) {

@@ -95,7 +95,7 @@ impl Record {
             && !self.longs.contains(timestamp)
     }
 
-    /// What a place that holds the record has in its word of this number.
+    /// What a place that holds the record has in its word of this number, also if that word is unused.
     pub fn word(&self, word: usize) -> u64
         requires { word < 32 }
         ensures { result ≡ record_word self.now word }
@@ -142,6 +142,7 @@ impl Record {
 
     /// The record that a place's words hold in an image of this version, if they hold one.
     pub fn from_words(words: &[u64], version: u64) -> Option<Record>
+        // The record that the words hold in this version. None exactly if they hold none.
         ensures read { IfSome result (IsRecord version words.now) }
         ensures refused { IfNone result (NoneFits version words.now) }
     {

@@ -16,8 +16,9 @@ use pmem::{Pmem, store_all};
 /// The superblock's word 0, `WBL-PRF1`.
 pub const FORMATTED: u64 = 0x5742_4C2D_5052_4631;
 
-/// How a device's image is laid out, by its superblock: NotFormatted, Version or BadGeometry if it isn't.
+/// How a device's image is laid out, by its superblock.
 pub fn read_geometry<D: Pmem>(device: &D) -> Result<Geometry, Fault>
+    // The layout that the superblock says, and otherwise the first of NotFormatted, Version and BadGeometry.
     ensures ok { IfOk result (λ geometry. IsLaidOut geometry (image_of (D.state device.now))) }
     ensures fault { IfErr result (λ fault. layout_damage (image_of (D.state device.now)) ≡ Some fault) }
 {
@@ -73,7 +74,11 @@ fn has_good_end(words: &[u64; 8], count: usize, total: u64) -> bool
 /// Stores words 1 to 7 of the superblock, and waits until they persist.
 pub fn write_geometry<D: Pmem>(device: &mut D, geometry: Geometry) -> Result<(), Fault>
     requires { 8 ≤ (D.state device.old).words }
+
+    // Exactly 7 stores of the layout's words 1 to 7, a flush of their line and a fence.
     ensures run { OnOk result (Runs (geometry_operations geometry) (D.state device.old) (D.state device.new)) }
+
+    // At Err one of them failed, after those before it, and the fault is Device.
     ensures stopped { OnErr result (StopsWithin (geometry_operations geometry) (D.state device.old) (D.state device.new)) }
     ensures fault { IfErr result (λ fault. fault ≡ Fault.Device) }
 {

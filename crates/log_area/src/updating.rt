@@ -14,7 +14,11 @@ use pmem::{Pmem, set_word};
 /// until it persists.
 pub fn update_version<D: Pmem>(device: &mut D, geometry: Geometry) -> Result<(), Fault>
     requires { 8 ≤ (D.state device.old).words }
+
+    // Exactly a store of the version's word, a flush of its line and a fence.
     ensures run { OnOk result (Runs (set_operations committer 1 geometry.version) (D.state device.old) (D.state device.new)) }
+
+    // At Err one of them failed, after those before it, and the fault is Device.
     ensures stopped { OnErr result (StopsWithin (set_operations committer 1 geometry.version) (D.state device.old) (D.state device.new)) }
     ensures fault { IfErr result (λ fault. fault ≡ Fault.Device) }
 {

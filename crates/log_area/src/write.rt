@@ -11,14 +11,18 @@ use base::fault::Fault;
 use base::geometry::Geometry;
 use pmem::Pmem;
 
-/// Writes a record into its place: all 39 operations of a writing, up to the first that fails.
+/// Writes a record into its place.
 pub fn write_record<D: Pmem>(
     device: &mut D,
     geometry: Geometry,
     target: Record,
 ) -> Result<(), Fault>
     requires { (D.state device.old).words ≡ total_words geometry }
+
+    // Exactly the 39 operations of a writing, in order.
     ensures run { OnOk result (Runs (record_operations geometry target) (D.state device.old) (D.state device.new)) }
+
+    // At Err one of them failed, after those before it, and the fault is Device.
     ensures stopped { OnErr result (StopsWithin (record_operations geometry target) (D.state device.old) (D.state device.new)) }
     ensures fault { IfErr result (λ fault. fault ≡ Fault.Device) }
 {

@@ -86,12 +86,15 @@ impl Writing {
         requires unfinished { self.old.stage ≢ WritingStage.Done }
         requires size { (D.state device.old).words ≡ total_words self.old.layout }
 
+        // At Ok the writing is at the next stage, which is returned.
         ensures reached { IfOk result (λ stage. stage ≡ reached_by self.old.stage) }
         ensures ok { OnOk result (self.new ≡ advanced self.old) }
+
+        // At Err the stage is as before, and the fault is Device.
         ensures err { OnErr result (self.new ≡ self.old) }
         ensures fault { IfErr result (λ fault. fault ≡ Fault.Device) }
 
-        // One operation, the stage's.
+        // Exactly the stage's one operation, which at Err failed.
         ensures operation { OnOk result (D.state device.new ≡ applied (operation_of self.old) (D.state device.old)) }
         ensures failure { OnErr result (D.state device.new ≡ failed (D.state device.old)) }
     {

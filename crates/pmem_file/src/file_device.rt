@@ -27,20 +27,25 @@ pub type FileDevice = JournaledPmem<JournaledImages<FileStorage>>;
 
 impl JournaledPmem<JournaledImages<FileStorage>> {
     /// Opens the file and locks it against other processes. If it is empty or missing, it gets the words of a new image of this
-    /// geometry, all 0. An image of any geometry is opened, and so is one of this geometry whose format was cut short: its word 0
-    /// is 0 then, as that of a new one. It gets a journal behind it, if there is none; one that is there is read, whatever
-    /// stopped the program that wrote it. To any other file nothing is written. Of a file of which nothing is known no other image
-    /// may be found then: its journal and tail are written back and synced first, and the image after them.
+    /// geometry, all 0. Its journal is read, or created behind the image, and nothing is written to any file that isn't one of
+    /// ours.
     pub fn open<R: Files<File = File>>(
         rt: &R,
         alloc: Global,
         name: &str,
         geometry: Geometry,
     ) -> Result<FileDevice, OpenError>
+        // The device is at rest, nothing was done to it yet, and no failure to keep an image is noted.
         ensures rest { IfOk result (λ device. IsAtRest (state_of device)) }
         ensures device { IfOk result (λ device. state_of device ≡ restarted (image_of (state_of device))) }
         ensures works { IfOk result (λ device. failure_of device ≡ None) }
+
+        // By the account of the file no image but the device's may be found there (`MayFindIn`, `held_in`), whatever it held
+        // before.
         ensures found { IfOk result (λ device. (image : List ℕ) → MayFindIn held_in device image → image ≡ image_of (state_of device)) }
+
+        // The image with which it begins is one of some layout, as its superblock says, or one in which nothing was ever kept,
+        // and which then has the layout that is asked for. The device has that layout's places (`HasItsPlaces`).
         ensures layout { IfOk result (λ device. HasItsPlaces (Some geometry) (image_of (state_of device)) (places_of device)) }
     {
         open_as(rt, alloc, name, Some(geometry))
@@ -53,6 +58,7 @@ impl JournaledPmem<JournaledImages<FileStorage>> {
         alloc: Global,
         name: &str,
     ) -> Result<FileDevice, OpenError>
+        // As for `open`, but the image is always one of some layout, as its superblock says.
         ensures rest { IfOk result (λ device. IsAtRest (state_of device)) }
         ensures device { IfOk result (λ device. state_of device ≡ restarted (image_of (state_of device))) }
         ensures works { IfOk result (λ device. failure_of device ≡ None) }
@@ -62,11 +68,14 @@ impl JournaledPmem<JournaledImages<FileStorage>> {
         open_as(rt, alloc, name, None)
     }
 
-    /// Closes the file: it holds the image alone, without a journal. Returns what was done to it. Fails if an image wasn't kept,
-    /// and if a write fails; the journal is read then when it is opened again. Fails with `NotFound` if no name leads to the file
-    /// any more: then what it holds is gone.
+    /// Closes the file: it holds the image alone, without a journal. Fails if an image wasn't kept, and if a write fails. The
+    /// journal is read then when it is opened again. Fails with `NotFound` if no name leads to the file any more: then what it
+    /// holds is gone.
     pub fn close(self) -> io::Result<Account>
+        // At Ok the file's account is returned: its first words are found only as the image that was written last.
         ensures left { IfOk result (λ account. HoldsOnly (held_by account) (length (last_image self)) (last_image self)) }
+
+        // By its last two calls the file was cut to the image, and synced (`IsCutTo`).
         ensures cut { IfOk result (IsCutTo (length (last_image self))) }
     {
         let words = self.image().len();

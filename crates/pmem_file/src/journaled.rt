@@ -68,19 +68,25 @@ impl<I: Images> JournaledPmem<I> {
     ghost use Rattle.pmem.specs.Words.{IsAtRest, Survives};
     ghost use Rattle.pmem_file.specs.Devices.{MayFind, images_of, kept_at, places_of, state_of};
 
-    /// A device at rest with these words, as the image that is kept there has them, and with this number of places for records.
-    /// If memory is refused, the images are returned.
+    /// A device at rest with these words, whose image is kept there.
     pub fn new(
         alloc: Global,
         words: Vec<u64>,
         images: I,
         places: usize,
     ) -> Result<JournaledPmem<I>, I>
+        // No other image is found there than these words.
         requires holds { (image : List ℕ) → I.may_hold images image → image ≡ words.items }
+
+        // It is at rest with these words, and with this number of places for records.
         ensures rest { IfOk result (λ made. IsAtRest (state_of made)) }
         ensures device { IfOk result (λ made. state_of made ≡ restarted words.items) }
         ensures places { IfOk result (λ made. places_of made ≡ places) }
+
+        // Its image is kept there (`images_of`).
         ensures keeps { IfOk result (λ made. images_of made ≡ images) }
+
+        // At Err memory was refused, and these images are returned.
         ensures images { IfErr result (λ back. back ≡ images) }
     {
         let lines = words.len() / 8;
@@ -115,10 +121,13 @@ impl<I: Images> JournaledPmem<I> {
         self.places
     }
 
-    /// What is found, once the process or the machine has stopped, is an image that a crash of the device might have left
-    /// since the last image was kept, and each of its gates is one that a crash may leave now.
+    /// What is found, once the process or the machine has stopped, also within a fence.
     pub fn found_image_was_left(&self)
+        // It is an image that a crash of the device might have left since the last image was kept.
         ensures images { (image : List ℕ) → MayFind I.may_hold self.now image → ∥ MightHaveLeft (state_of self.now) (kept_at self.now) image ∥₁ }
+
+        // Each of its gates, a word of the superblock or the first word of a place for a record, is one that a crash may leave
+        // now.
         ensures gates { (image : List ℕ) → MayFind I.may_hold self.now image → (word : ℕ) → is_gate (places_of self.now) word ≡ true → word < (state_of self.now).words
             → Survives (state_of self.now) word (slice_index image word) }
     {}
@@ -278,9 +287,8 @@ impl<S: Storage> JournaledPmem<JournaledImages<S>> {
     ghost use Rattle.pmem.specs.Words.{IsAtRest, image_of};
     ghost use Rattle.pmem_file.specs.Devices.{IsClosedIn, MayFindIn, StandsForOne, failure_of, last_image, places_of, state_of, storage_of};
 
-    /// A device at rest with the image that a file of these words stands for: an image of `words`, a journal of `room`, and a tail.
-    /// The journal and the tail have been written back and synced before. It has this number of places for records. Fails as
-    /// [`JournaledImages::open`] does, and leaves then what that leaves.
+    /// A device at rest with the image that a file of these words stands for: an image of `words`, a journal of `room`, and a
+    /// tail. It has this number of places for records.
     pub fn over(
         alloc: Global,
         storage: S,
@@ -291,13 +299,28 @@ impl<S: Storage> JournaledPmem<JournaledImages<S>> {
     ) -> Result<Self, Unopened<S>>
     where
         S: Drop,
+        // As for `JournaledImages::open`: the journal and the tail are found only as they were read.
         requires back { length file.now ≡ words + room + 8 → IsReadBack (S.may_hold storage) words room file.now }
+
+        // It is at rest.
         ensures rest { IfOk result (λ device. IsAtRest (state_of device)) }
+
+        // Nothing was done to the device yet.
         ensures device { IfOk result (λ device. state_of device ≡ restarted (image_of (state_of device))) }
+
+        // Its image is the one that the file stands for.
         ensures stands { IfOk result (λ device. Opens words room file.now (image_of (state_of device))) }
+
+        // It has these places.
         ensures places { IfOk result (λ device. places_of device ≡ places) }
+
+        // No failure to keep an image is noted.
         ensures works { IfOk result (λ device. failure_of device ≡ None) }
+
+        // No image but the device's may be found there (`MayFindIn`).
         ensures found { IfOk result (λ device. (image : List ℕ) → MayFindIn S.may_hold device image → image ≡ image_of (state_of device)) }
+
+        // At Err, whichever write fails: what `JournaledImages::open` leaves (`StandsAsBefore`).
         ensures unopened { IfErr result (λ unopened. StandsAsBefore (S.may_hold storage) (S.may_hold unopened.storage) words room file.now) }
     {
         let images = JournaledImages::open(alloc, storage, file, words, room)?;
@@ -332,11 +355,14 @@ impl<S: Storage> JournaledPmem<JournaledImages<S>> {
     }
 
     /// Brings the image that was kept last in place, and hands out where it is kept: the first words alone are the image then.
-    /// Fails as [`JournaledImages::close`] does.
     pub fn into_storage(self) -> Result<S, Unclosed<S>>
     where
         S: Drop,
+        // At Ok the image that was kept last is in place, and the journal doesn't count.
         ensures closed { IfOk result (λ storage. ∥ IsClosedIn S.may_hold self storage ∥₁) }
+
+        // At Err, whichever write fails, whatever is found stands for an image that might have been found before (`StandsAmong`).
+        // The place where it is kept is returned with the error (`Unclosed`).
         ensures unclosed { IfErr result (λ unclosed. StandsForOne S.may_hold self unclosed.storage) }
     {
         self.images.close()
@@ -425,6 +451,8 @@ impl<I: Images> Pmem for JournaledPmem<I> {
         ensures ok { OnOk result (state_of self.new ≡ fenced actor.number (state_of self.old)) }
         ensures err { OnErr result (state_of self.new ≡ failed (state_of self.old)) }
         ensures fault { IfErr result (λ fault. fault ≡ Fault.Device) }
+
+        // At Err an image wasn't kept, and that is noted (`HasFailed`). Over a file `failure` then says why.
         ensures noted { OnErr result (∥ HasFailed I.has_failed self.new ∥₁) }
     {
         if !self.failed && !self.is_gate_stored {

@@ -35,8 +35,8 @@ impl MemoryStorage {
         }
     }
 
-    /// The same, but after this number of writes and syncs each further one fails. Of each eight words of a write that fails this part
-    /// is written.
+    /// The same, but after this number of writes and syncs each further one fails. Of each eight words of a write that fails this
+    /// part is written. What a write or a sync then does isn't claimed.
     pub fn failing_after(self, calls: usize, torn: Part) -> MemoryStorage
         ensures words { stored_in result ≡ stored_in self }
         ensures calls { calls_left_in result ≡ Some calls }
@@ -51,6 +51,7 @@ impl MemoryStorage {
 
     /// What is found in it.
     pub fn into_words(self) -> Vec<u64>
+        // What it holds, which is what is found in it, and nothing else.
         ensures words { result.items ≡ stored_in self }
         ensures found { IsFound (IsStored self) (length result.items) result.items }
         ensures only { HoldsOnly (IsStored self) (length result.items) result.items }
@@ -92,6 +93,7 @@ impl JournaledPmem<JournaledImages<MemoryStorage>> {
         room: usize,
         places: usize,
     ) -> Result<Self, Unopened<MemoryStorage>>
+        // As for `over`.
         ensures rest { IfOk result (λ device. IsAtRest (state_of device)) }
         ensures device { IfOk result (λ device. state_of device ≡ restarted (image_of (state_of device))) }
         ensures stands { IfOk result (λ device. Opens words room (stored_in storage) (image_of (state_of device))) }

@@ -296,8 +296,7 @@ fn journaled_shape(
     }
 }
 
-/// Opening a file that may be found of images, once all has stopped, finds the words and the room that they have, unless the whole
-/// file is an image alone. `None` if it isn't a file of ours.
+/// Opening a file that may be found of images, once all has stopped, finds the words and the room that they have.
 pub fn left_files_keep_their_shape<S: Storage>(
     alloc: Global,
     images: &JournaledImages<S>,
@@ -306,7 +305,11 @@ pub fn left_files_keep_their_shape<S: Storage>(
 ) -> io::Result<Option<(usize, usize)>>
     requires found { IsFound (S.may_hold (storage_of images.now)) (length (last_image images.now) + room_of images.now + 8) file.now }
     requires alone { (own : Layout) → ¬ IsImageOf asked.now own file.now }
+
+    // So it is unless the whole file is an image alone (`KeepsNames`).
     ensures same { IfOk result (λ found. IfSome found (λ names. names ≡ (length (last_image images.now), room_of images.now))) }
+
+    // At None it isn't a file of ours.
     ensures none { IfOk result (λ found. IfNone found (¬ IsOurs asked.now file.now)) }
 {
     let _ = left_files_name_their_shape(images, file);
@@ -335,6 +338,7 @@ fn growing_shape(alloc: Global, file: &[u64], asked: &Option<Geometry>) -> io::R
 /// it there is nothing yet, but for words of a journal's first tail.
 #[tactic(auto, using(crate::proofs::Shapes::grown, crate::proofs::Shapes::ungrown))]
 pub fn grown_image(file: &[u64]) -> Option<usize>
+    // Exactly of these files (`IsGrown`).
     ensures some { IfSome result (λ size. IsGrown size file.now) }
     ensures none { IfNone result ((size : ℕ) → ¬ IsGrown size file.now) }
 {

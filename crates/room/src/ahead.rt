@@ -11,6 +11,8 @@ impl<D: SyncAhead + Drop> Room<D> {
 
     /// Hands out the sync that the committer's next tick would wait for, if it can be made ahead of that tick.
     pub fn begin_sync(&mut self) -> Option<D::Pending>
+        // Nothing is done to the device. The room shows each state that it showed, and the batch that waits to be handed out
+        // stays.
         ensures device { device_of D.state self.new ≡ device_of D.state self.old }
         ensures shows { (q : State) → Shows D.state self.old q → Shows D.state self.new q }
         ensures waits { covered_by self.new ≡ covered_by self.old }
@@ -20,6 +22,7 @@ impl<D: SyncAhead + Drop> Room<D> {
 
     /// Takes the sync back.
     pub fn end_sync(&mut self, pending: D::Pending)
+        // As for `begin_sync`.
         ensures device { device_of D.state self.new ≡ device_of D.state self.old }
         ensures shows { (q : State) → Shows D.state self.old q → Shows D.state self.new q }
         ensures waits { covered_by self.new ≡ covered_by self.old }

@@ -19,18 +19,23 @@ impl<D: Pmem + Drop> Room<D> {
     ghost use Rattle.room.specs.Closing.{IsClosingRefusal};
     ghost use Rattle.room.specs.Room.{Shows, device_of};
 
-    /// Covers all that is drawn, and returns the device. Fails with `Failed` after a failing device and with `TimestampsOut`
-    /// if no record number is left, both before any operation, and with `Device` if one fails meanwhile.
+    /// Covers all that is drawn, and returns the device.
     pub fn close(self) -> Result<D, (Fault, D)>
-        // A crash meanwhile leaves what was covered, alone or with the pending batch or with all that was drawn; afterwards, the last.
+        // Each image that a crash may leave since the call began, at Err too, stands for what was covered, for that with the
+        // pending batch, or for all that was drawn.
         ensures images { (q : State) → Shows D.state self q → MatchResult result
             (λ device. LeavesOnly (device_of D.state self) (D.state device) (StandsClosing q))
             (λ e. LeavesOnly (device_of D.state self) (D.state e.1) (StandsClosing q)) }
+
+        // At Ok each image stands for all that was drawn, under exactly the record that closing writes.
         ensures ok { IfOk result (λ device. (q : State) → Shows D.state self q → (image : Image) → MayLeave (D.state device) image → StandsClosed q image) }
 
-        // It closes unless one of these faults applies, a failing device aside.
+        // At Ok closing had no fault, and no operation failed.
         ensures may_close { IfOk result (λ device. (q : State) → Shows D.state self q → closing_fault q ≡ None) }
         ensures no_failure { IfOk result (λ device. HasNoFailure (device_of D.state self) (D.state device)) }
+
+        // At Err Failed or TimestampsOut, if closing has that fault, and no operation was made, or Device, if one failed. It is
+        // never OutOfMemory.
         ensures fault { IfErr result (λ e. (q : State) → Shows D.state self q → IsClosingRefusal q (device_of D.state self) (D.state e.1) e.0) }
     {
         let Room {

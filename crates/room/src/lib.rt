@@ -1,4 +1,9 @@
-//! The room: every step of the engine, one at a time.
+//! The room: every step of the engine, one at a time, by a program that lends its device to one thread. Its calls are
+//! `Room::open`, then `Room::begin`, `get`, `put` and their like, `Room::advance` for a tick and `Room::collect` for a visit, or
+//! `Room::step` for any of them, and `Room::close`.
+//!
+//! Of `begin`, `get`, `put` and their like `step` says what `Room::step` does with that step of a session, and that what is
+//! returned stands for the reply (`crates/session_steps/specs/Replies.antt`). Neither a step nor a reply is moved.
 #![tactic(auto)]
 
 mod ahead;

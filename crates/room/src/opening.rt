@@ -33,6 +33,7 @@ impl<D: Pmem + Drop + Send + Sync> Room<D> {
 
     /// Opens a device at rest, and returns it if opening is refused. More than eight gaps are swept first.
     pub fn open<R: Threads + Sync>(rt: &R, alloc: Global, device: D) -> Result<Room<D>, (Fault, D)>
+        // The device is at rest, as a crash or a format leaves it.
         requires at_rest { IsAtRest (D.state device) }
 
         // Whatever history the image stands for, the room shows the state that it opens as.
@@ -43,25 +44,30 @@ impl<D: Pmem + Drop + Send + Sync> Room<D> {
         // No batch waits to be handed out.
         ensures waits { IfOk result (λ room. covered_by room ≡ None) }
 
-        // It opens an image that has none of the faults that opening reports, and fails with the first of them, or for
-        // lack of memory, or if an operation fails.
+        // At Ok the image has none of the faults that opening reports, and no operation failed.
         ensures may_open { IfOk result (λ room. opening_fault (image_of (D.state device)) ≡ None) }
         ensures no_failure { IfOk result (λ room. HasNoFailure (D.state device) (device_of D.state room)) }
+
+        // At Err it is the first of these faults, or OutOfMemory, and the device is as it was. Or it is Device: there is no such
+        // fault, and the failure count rose.
         ensures fault { IfErr result (λ e. IsRefusal (opening_fault (image_of (D.state device))) (D.state device) (D.state e.1) e.0) }
 
-        // What is wrong with its log is reported before lack of memory.
+        // A fault of the superblock, of a gate or of the ruling record is reported even if memory is lacking.
         ensures log { IfErr result (λ e. ReportsLogFault (image_of (D.state device)) e.0) }
 
-        // It makes the operations of one record, after those that change the version of an image of the first one, and
-        // those of a sweep if there are more than eight gaps. The words of superblock and slots are settled as they
-        // were, except for that version and for what a sweep stores.
+        // The stores, flushes and fences of `opening_counts`. Without a sweep these are 32 stores, 5 flushes and 2 fences, and
+        // one more of each if the image is of version 1. A sweep is made if there are more than eight gaps. With it there is one
+        // more store for each begin or end that is in a gap, one more flush for each of their lines, and there are 3 fences.
         ensures made { IfOk result (λ room. MakesOpening (image_of (D.state device)) (D.state device) (device_of D.state room)) }
+
+        // The words of the superblock are settled as they were, except the version, which is today's. So are the words of the
+        // slots, except that a sweep leaves 0 in each begin and end that is in a gap.
         ensures superblock { IfOk result (λ room. (word : ℕ) → word < 8 → IsSettledAt (device_of D.state room) word (slice_index (updated (image_of (D.state device))) word)) }
         ensures slots { IfOk result (λ room. (word : ℕ) → 8 + 32 * (layout_of (image_of (D.state device))).places ≤ word → word < (D.state device).words
             → IsSettledAt (device_of D.state room) word (slice_index (opened_slots (image_of (D.state device))) word)) }
 
-        // A crash at any moment leaves the same history, under the record that ruled or the one that the
-        // opening writes. What was drawn and not covered is left out.
+        // Each image that a crash may leave since then, at Err too, stands for the same history, under the old record or the
+        // opened state's. What was drawn and not covered is left out.
         ensures images { (history drawn : List Commit) (next : ℕ)
             → Stands (image_of (D.state device)) history drawn next
             → MatchResult result
@@ -187,6 +193,8 @@ fn side_by_side<R: Threads + Sync>(
 }
 
 // The entries of the keys whose versions are live. It reads no slot.
+/// The entries of the keys whose versions are live, in the order of their slots: each with its key, and its slot as the key's
+/// newest version. It reads no slot.
 fn entries_of(alloc: Global, readings: &[SlotReading]) -> Result<Vec<KeyedEntry>, AllocError>
     ensures { IfOk result (λ entries. HasEntries readings.now entries.items) }
 {

@@ -32,10 +32,19 @@ impl<D: Pmem + Drop> Room<D> {
     ghost use Rattle.base.specs.declared.fault.Fault.TheVariants.{OutOfMemory};
     ghost use Rattle.room.specs.Room.{Shows, Leads, RunsTo, ShowsStatus, covered_by, device_of, left_after};
 
-    /// One step. A crash within it leaves the history before it or after it, or with the pending batch.
+    /// One step.
     #[inline(never)]
     pub fn step(&mut self, step: Step) -> Reply
+        // For every state that the room shows there is a next state. Reply and next state are the plain machine's, and the room
+        // shows the next state. Each image that a crash may leave since the step began, even if the device fails, has the state's
+        // layout. It stands for the history before, for that with the pending batch, or for the history after, each under exactly
+        // its own record. The reply is Device exactly if the failure count rose. No more operations were made than the step's
+        // bound, and each flush and fence is of the step's session, or of the committer if it is a tick. A refusal for another
+        // reason than a failing device, lack of memory included, leaves the device as it was. Once the gaps are swept, no image
+        // that a crash may leave has a begin or an end in one of them.
         ensures step { Leads D.state self.old self.new step result }
+
+        // A batch that a reply hands out waits no longer, and any other reply leaves what waits.
         ensures waits { covered_by self.new ≡ left_after (covered_by self.old) result }
     {
         match step {
@@ -59,11 +68,15 @@ impl<D: Pmem + Drop> Room<D> {
         }
     }
 
-    /// Takes these steps, one after the other, and returns their replies. Room for all replies is made first: `OutOfMemory`, the only
-    /// refusal, does nothing.
+    /// Takes these steps, one after the other, and returns their replies.
     pub fn drive(&mut self, steps: &[Step]) -> Result<Vec<Reply>, Fault>
+        // They are a run (`RunsTo`).
         ensures run { IfOk result (λ replies. (q : State) → Shows D.state self.old q → (states : List State) × RunsTo D.state self.old self.new steps.now replies.items q states) }
+
+        // A batch that a reply hands out waits no longer.
         ensures waits { IfOk result (λ replies. covered_by self.new ≡ fold left_after (covered_by self.old) replies.items) }
+
+        // It is refused only for lack of memory, and then nothing was done.
         ensures fault { IfErr result (λ fault. fault ≡ OutOfMemory) }
         ensures err { OnErr result (self.new ≡ self.old) }
     {
@@ -76,7 +89,7 @@ impl<D: Pmem + Drop> Room<D> {
         Ok(replies)
     }
 
-    /// The number of the record that closing would write last.
+    /// The number of the record that closing would write last, in every state that the room shows.
     pub fn closing_gate(&self) -> u64
         ensures { (q : State) → Shows D.state self.now q → result ≡ closing_gate q }
     {
@@ -85,6 +98,7 @@ impl<D: Pmem + Drop> Room<D> {
 
     /// The covered rows by rising key, even if the device has failed.
     pub fn tables(&self) -> Result<Vec<(Key, Row)>, Fault>
+        // They are those of every state that the room shows. It is refused only for lack of memory.
         ensures ok { IfOk result (λ rows. (q : State) → Shows D.state self.now q → Lists rows.items (after q.history)) }
         ensures fault { IfErr result (λ fault. fault ≡ OutOfMemory) }
     {
@@ -98,14 +112,14 @@ impl<D: Pmem + Drop> Room<D> {
         self.device
     }
 
-    /// The layout of the device.
+    /// The layout of every state that the room shows.
     pub fn geometry(&self) -> Geometry
         ensures { (q : State) → Shows D.state self.now q → result ≡ q.layout }
     {
         self.volatile.numbers().geometry
     }
 
-    /// The numbers. It takes no memory.
+    /// Gate, persisted, dirty, next, gaps and long commits of every state that the room shows. It takes no memory.
     pub fn status(&self) -> Status
         ensures { (q : State) → Shows D.state self.now q → ShowsStatus q result }
     {

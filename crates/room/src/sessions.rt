@@ -24,6 +24,8 @@ impl<D: Pmem + Drop> Room<D> {
     #[inline(always)]
     pub fn begin(&mut self) -> Result<u8, Fault>
         ensures step { Leads D.state self.old self.new Begin (as_reply (began result)) }
+
+        // The batch that waits to be handed out stays.
         ensures waits { covered_by self.new ≡ covered_by self.old }
     {
         if self.failed {
@@ -56,11 +58,15 @@ impl<D: Pmem + Drop> Room<D> {
             .scan(&self.device, session, table, lo, hi)
     }
 
-    /// Writes a row. It takes no memory.
+    /// Writes a row.
     #[inline(always)]
     pub fn put(&mut self, session: u8, key: Key, row: Row) -> Result<(), Fault>
         ensures step { Leads D.state self.old self.new (Put session key row) (as_reply (done result)) }
+
+        // The batch that waits to be handed out stays.
         ensures waits { covered_by self.new ≡ covered_by self.old }
+
+        // It is never refused for lack of memory.
         ensures memory { IfErr result (λ fault. fault ≢ OutOfMemory) }
     {
         if self.failed {
@@ -74,11 +80,15 @@ impl<D: Pmem + Drop> Room<D> {
         returned
     }
 
-    /// Writes a deletion. It takes no memory.
+    /// Writes a deletion.
     #[inline(always)]
     pub fn delete(&mut self, session: u8, key: Key) -> Result<(), Fault>
         ensures step { Leads D.state self.old self.new (Delete session key) (as_reply (done result)) }
+
+        // The batch that waits to be handed out stays.
         ensures waits { covered_by self.new ≡ covered_by self.old }
+
+        // It is never refused for lack of memory.
         ensures memory { IfErr result (λ fault. fault ≢ OutOfMemory) }
     {
         if self.failed {
@@ -91,6 +101,8 @@ impl<D: Pmem + Drop> Room<D> {
     #[inline(always)]
     pub fn draw(&mut self, session: u8) -> Result<Option<Ts>, Fault>
         ensures step { Leads D.state self.old self.new (Draw session) (as_reply (drawn result)) }
+
+        // The batch that waits to be handed out stays.
         ensures waits { covered_by self.new ≡ covered_by self.old }
     {
         if self.failed {
@@ -103,6 +115,8 @@ impl<D: Pmem + Drop> Room<D> {
     #[inline(always)]
     pub fn stamp(&mut self, session: u8) -> Result<bool, Fault>
         ensures step { Leads D.state self.old self.new (Stamp session) (as_reply (stamped result)) }
+
+        // The batch that waits to be handed out stays.
         ensures waits { covered_by self.new ≡ covered_by self.old }
     {
         if self.failed {
@@ -128,6 +142,8 @@ impl<D: Pmem + Drop> Room<D> {
     #[inline(always)]
     pub fn abort(&mut self, session: u8) -> Result<(), Fault>
         ensures step { Leads D.state self.old self.new (Abort session) (as_reply (done result)) }
+
+        // The batch that waits to be handed out stays.
         ensures waits { covered_by self.new ≡ covered_by self.old }
     {
         if self.failed {
@@ -140,6 +156,8 @@ impl<D: Pmem + Drop> Room<D> {
     #[inline(always)]
     pub fn end(&mut self, session: u8) -> Result<(), Fault>
         ensures step { Leads D.state self.old self.new (End session) (as_reply (done result)) }
+
+        // The batch that waits to be handed out stays.
         ensures waits { covered_by self.new ≡ covered_by self.old }
     {
         if self.failed {

@@ -18,10 +18,14 @@ impl<D: Pmem + Drop> Room<D> {
     ghost use Rattle.room.specs.Ticks.{Waits, as_reply as ticked};
     ghost use Rattle.room.specs.Room.{Leads, covered_by, left_after};
 
-    /// A tick of the committer. The batch that it covers can be asked for.
+    /// A tick of the committer.
     #[inline(always)]
     pub fn advance(&mut self) -> Result<Tick, Fault>
+        // What `Room::step` does with `Commit`. What is returned, with the batch that was covered last, stands for the reply
+        // (`specs/Ticks.antt`). No reply is moved.
         ensures step { Leads D.state self.old self.new Commit (ticked result (covered_by self.new)) }
+
+        // The batch that the tick covers waits to be handed out. One that covers none leaves what waited.
         ensures waits { Waits result (covered_by self.old) (covered_by self.new) }
     {
         if self.failed {
@@ -32,7 +36,7 @@ impl<D: Pmem + Drop> Room<D> {
         returned
     }
 
-    /// The batch that a tick covered last, unless it was handed out.
+    /// The batch that waits to be handed out: the one that a tick covered last.
     pub fn covered(&self) -> Option<&Batch>
         ensures { option_copied result ≡ covered_by self.now }
     {
@@ -42,7 +46,10 @@ impl<D: Pmem + Drop> Room<D> {
     /// A visit of the collector.
     #[inline(always)]
     pub fn collect(&mut self) -> Result<Visit, Fault>
+        // What `Room::step` does with `Collect`. What is returned stands for the reply. No reply is moved.
         ensures step { Leads D.state self.old self.new Collect (visited result) }
+
+        // It leaves what waited.
         ensures waits { covered_by self.new ≡ covered_by self.old }
     {
         if self.failed {
@@ -53,10 +60,12 @@ impl<D: Pmem + Drop> Room<D> {
         returned
     }
 
-    /// A tick of the committer: `step` of `Step::Commit`, without moving a step. It hands out the batch that it covers.
+    /// A tick of the committer: `step` of `Step::Commit`, without moving a step.
     #[inline(always)]
     pub fn tick(&mut self) -> Reply
         ensures step { Leads D.state self.old self.new Commit result }
+
+        // A batch that the reply hands out waits no longer, and any other reply leaves what waits.
         ensures waits { covered_by self.new ≡ left_after (covered_by self.old) result }
     {
         let returned = self.advance();
@@ -67,6 +76,8 @@ impl<D: Pmem + Drop> Room<D> {
     #[inline(always)]
     pub fn visit(&mut self) -> Reply
         ensures step { Leads D.state self.old self.new Collect result }
+
+        // It leaves what waited.
         ensures waits { covered_by self.new ≡ left_after (covered_by self.old) result }
     {
         visited(self.collect())

@@ -37,17 +37,25 @@ pub enum Refusal {
     Fault(Fault),
 }
 
-/// Opens the file, which is created and formatted if it is missing or empty. The layout of an opened file is the one that was asked
-/// for.
+/// Opens the file, which is created and formatted if it is missing or empty.
 pub fn open_file<R: Files<File = File>>(
     rt: &R,
     alloc: Global,
     name: &str,
     geometry: Geometry,
 ) -> Result<Device, Refusal>
+    // The device is at rest, as `Database::open` needs it.
     ensures rest { IfOk result (λ device. IsAtRest (state_of device)) }
+
+    // Its image has the layout that was asked for, except that an image of version 1 is opened as 2.
     ensures layout { IfOk result (λ device. (found : Layout) × IsLaidOut found (image_of (state_of device)) × (opened_layout found ≡ opened_layout geometry) × (places_of device ≡ found.places)) }
+
+    // Another layout is reported only if a device at rest has it, and it isn't the one that was asked for.
     ensures other { IfErr result (ReportsLayout geometry) }
+
+    // A fault is reported only if it keeps a device at rest from being opened. Either that device isn't formatted with the layout
+    // because of this fault, or its superblock is wrong in this way. Or it has the layout that was asked for, and opening it as a
+    // database is refused with this fault. That a file failed is reported only if a write or a sync of one did, for that cause.
     ensures fault { IfErr result (ReportsFault geometry) }
 {
     let device = match open_formatted(rt, alloc, name, geometry) {
@@ -75,6 +83,8 @@ pub fn find_file<R: Files<File = File>>(
     alloc: Global,
     name: &str,
 ) -> Result<(Device, Geometry), OpenError>
+    // The device is at rest and its image has the layout that is handed out. Nothing was done to it since it was opened. It has
+    // the places of that layout.
     ensures found { IfOk result (λ found. IsFoundWith found.1 (state_of found.0)) }
     ensures untouched { IfOk result (λ found. state_of found.0 ≡ restarted (image_of (state_of found.0))) }
     ensures places { IfOk result (λ found. places_of found.0 ≡ found.1.places) }
@@ -147,7 +157,10 @@ pub fn open_database<R: Files<File = File> + Threads + Wait + Copy + Drop + Send
     name: &str,
     geometry: Geometry,
 ) -> Result<Database<Device, R>, Refusal>
+    // A device was opened that was at rest, whose image has the layout that was asked for and isn't refused.
     ensures ok { OnOk result (OpensLayout geometry) }
+
+    // As for `open_file`.
     ensures err { IfErr result (ReportsLayout geometry) }
     ensures fault { IfErr result (ReportsFault geometry) }
 {
@@ -170,6 +183,9 @@ pub fn open_over<R: Threads + Wait + Copy + Drop + Send + Sync + 'static>(
     ensures ok { OnOk result (opening_fault (image_of (state_of device)) ≡ None) }
     ensures err { (layout : Layout) → IfErr result (ReportsLayout layout) }
     ensures fault { (layout : Layout) → IsFoundWith layout (state_of device) → IfErr result (ReportsFault layout) }
+
+    // For a device at rest of a layout: opening it as a database is refused with this fault, or a write or a sync of its file
+    // failed.
     ensures found { (layout : Layout) → IsFoundWith layout (state_of device) → IfErr result (ReportsFound layout) }
 {
     match Database::open(*rt, alloc, device) {
@@ -181,8 +197,11 @@ pub fn open_over<R: Threads + Wait + Copy + Drop + Send + Sync + 'static>(
 // If a write or a sync of the file failed, the cause. Otherwise the fault with which opening was refused; then the file is closed.
 fn refusal_of(device: Device, fault: Fault) -> Refusal
     ensures layout { (layout : Layout) → ReportsLayout layout result }
+
+    // If a write or a sync of the file failed, that is reported, and otherwise the fault.
     ensures lost { IfSome (failure_of device) (λ cause. result ≡ Refusal.Lost cause) }
     ensures fault { IfNone (failure_of device) (result ≡ Refusal.Fault fault) }
+
     ensures why { (layout : Layout) → IsUnopened layout fault → ReportsFault layout result }
     ensures found { (layout : Layout) → IsRefusedWith layout fault → ReportsFound layout result }
 {

@@ -6,7 +6,7 @@ ghost use Rattle.std.specs.Range.Bound.{bound_map, start_index, end_index};
 
 use std::ops::{Bound, RangeBounds};
 
-/// The least and the greatest number of the range, or `None` if it is empty.
+/// The least and the greatest number of the range, both included, or `None` if it has no number.
 pub fn ends_of<B: RangeBounds<u64>>(range: &B) -> Option<(u64, u64)>
     ensures least { B.has_bounds range.now → IfSome result (λ ends. ends.0 ≡ start_index (B.start_bound range.now)) }
     ensures greatest { B.has_bounds range.now → IfSome result (λ ends. ends.1 + 1 ≡ end_index (B.end_bound range.now) (2 ^ 64)) }

@@ -31,13 +31,16 @@ impl<R: Wait + Drop> Snapshot<'_, R> {
 
     /// The row under the key, or `None` if there is none.
     pub fn get(&self, key: Key) -> Result<Option<Row>, StoreError>
+        // A run ends in this step of the transaction's session, and what is returned is read off its reply, at Ok and at Err.
         ensures { Answers (Get self.now.reads.session key) row_of result }
     {
         Ok(self.reads.get(key)?)
     }
 
-    /// The number under the key, or `None` if there is no row. If the row doesn't have 8 bytes, the error is `NotANumber`.
+    /// The number under the key.
     pub fn number(&self, key: Key) -> Result<Option<u64>, StoreError>
+        // What such a step as of `get` read: no row, or the number whose 8 bytes the row is. At Err `NotANumber`, if the row
+        // doesn't have 8 bytes, or the fault.
         ensures { AnswersNumber self.now.reads.session key result }
     {
         match self.get(key) {
@@ -57,6 +60,9 @@ impl<R: Wait + Drop> Snapshot<'_, R> {
         table: u16,
         range: B,
     ) -> Result<Vec<(Key, Row)>, StoreError>
+        // As for `get`, of the scan of the table from the first key of the range up to the last. If the range has no key, it is
+        // Ok without a row. Nothing is said about a range `a..=b` that was iterated to its end, here and of `first`, `last` and
+        // `count`.
         ensures ok { B.has_bounds range → IfOk result (λ rows. Scans self.now.reads.session table (start_index (B.start_bound range)) (end_index (B.end_bound range) (2 ^ 64)) rows.items) }
         ensures err { B.has_bounds range → IfErr result (λ error. ScanRefused self.now.reads.session table (start_index (B.start_bound range)) (end_index (B.end_bound range) (2 ^ 64)) error) }
     {
@@ -85,6 +91,7 @@ impl<R: Wait + Drop> Snapshot<'_, R> {
         range: B,
         limit: usize,
     ) -> Result<Vec<(Key, Row)>, StoreError>
+        // At Ok the first rows of such a scan. At Err the scan was refused.
         ensures ok { B.has_bounds range → IfOk result (λ rows. OfScanned self.now.reads.session table (start_index (B.start_bound range)) (end_index (B.end_bound range) (2 ^ 64)) (λ all. rows.items ≡ take limit all)) }
         ensures err { B.has_bounds range → IfErr result (λ error. ScanRefused self.now.reads.session table (start_index (B.start_bound range)) (end_index (B.end_bound range) (2 ^ 64)) error) }
     {
@@ -100,6 +107,7 @@ impl<R: Wait + Drop> Snapshot<'_, R> {
         range: B,
         limit: usize,
     ) -> Result<Vec<(Key, Row)>, StoreError>
+        // At Ok the last rows of such a scan, the last first. At Err the scan was refused.
         ensures ok { B.has_bounds range → IfOk result (λ rows. OfScanned self.now.reads.session table (start_index (B.start_bound range)) (end_index (B.end_bound range) (2 ^ 64)) (λ all. rows.items ≡ take limit (reverse all))) }
         ensures err { B.has_bounds range → IfErr result (λ error. ScanRefused self.now.reads.session table (start_index (B.start_bound range)) (end_index (B.end_bound range) (2 ^ 64)) error) }
     {
@@ -110,6 +118,7 @@ impl<R: Wait + Drop> Snapshot<'_, R> {
 
     /// The greatest key in the table, or `None` if the table has no rows. All its rows are read, as by `scan`.
     pub fn last_key(&self, table: u16) -> Result<Option<u64>, StoreError>
+        // At Ok the number of the last key of such a scan. At Err the scan was refused.
         ensures ok { IfOk result (λ number. OfScanned self.now.reads.session table 0 (2 ^ 64) (λ all. number ≡ last_key_of all)) }
         ensures err { IfErr result (λ error. ScanRefused self.now.reads.session table 0 (2 ^ 64) error) }
     {
@@ -119,6 +128,7 @@ impl<R: Wait + Drop> Snapshot<'_, R> {
 
     /// How many rows of the table have keys in the range. They are all read, as by `scan`.
     pub fn count<B: RangeBounds<u64>>(&self, table: u16, range: B) -> Result<usize, StoreError>
+        // At Ok the count of the rows of such a scan. At Err the scan was refused.
         ensures ok { B.has_bounds range → IfOk result (λ count. OfScanned self.now.reads.session table (start_index (B.start_bound range)) (end_index (B.end_bound range) (2 ^ 64)) (λ all. count ≡ length all)) }
         ensures err { B.has_bounds range → IfErr result (λ error. ScanRefused self.now.reads.session table (start_index (B.start_bound range)) (end_index (B.end_bound range) (2 ^ 64)) error) }
     {

@@ -47,7 +47,10 @@ impl RowExt for Row {
     }
 
     fn of_text(text: &str) -> Result<Row, StoreError>
+        // The text's bytes.
         ensures ok { IfOk result (λ row. row ≡ text.now) }
+
+        // Ok exactly up to 96 bytes, and otherwise `RowTooLong`.
         ensures limit { IsOk result ↔ (length text.now ≤ 96) }
         ensures error { IfErr result (λ error. error ≡ StoreError.RowTooLong 96) }
     {
@@ -58,7 +61,10 @@ impl RowExt for Row {
     }
 
     fn as_u64(&self) -> Option<u64>
+        // The number whose bytes they are, the lowest first.
         ensures some { IfSome result (λ number. number ≡ from_le_bytes w64 self.now) }
+
+        // Some exactly for a row of 8 bytes.
         ensures length { IsSome result ↔ (length self.now ≡ 8) }
     {
         match <[u8; 8]>::try_from(self.as_bytes()) {
@@ -68,7 +74,10 @@ impl RowExt for Row {
     }
 
     fn as_text(&self) -> Option<&str>
+        // The same bytes as a text.
         ensures some { IfSome result (λ text. text.now ≡ self.now) }
+
+        // Some exactly for a row that is UTF-8.
         ensures text { IsSome result ↔ IsUtf8 self.now }
     {
         str::from_utf8(self.as_bytes()).ok()

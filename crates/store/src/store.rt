@@ -53,18 +53,24 @@ impl<R: Files<File = File> + Threads + Wait + Copy + Drop + Send + Sync + 'stati
     ghost use Rattle.store.specs.Files.{OpensExisting, OpensLayout};
     ghost use Rattle.store.specs.Opening.{IsFindingError, IsOpeningError};
 
-    /// Opens the file, which is created with this layout if it is missing or empty. A file that holds a store with another layout is left
-    /// as it is, and the error has both layouts: `open_existing` opens that file. It reads the whole file and waits for its syncs, but not
-    /// for another process. If one has the file open, or the file isn't a store, the error is `File`. Its other errors are `Damaged`,
-    /// `NotOpened`, `Lost` and `OutOfMemory`.
+    /// Opens the file, which is created with this layout if it is missing or empty. It reads the whole file and waits for its
+    /// syncs, but not for another process.
     pub fn open(
         rt: R,
         alloc: Global,
         name: &str,
         geometry: Geometry,
     ) -> Result<Store<R>, StoreError>
+        // A device was opened that was at rest, whose image has the layout that was asked for and isn't refused.
         ensures ok { OnOk result (OpensLayout geometry) }
+
+        // The store keeps the name.
         ensures name { IfOk result (λ store. string_bytes store.name ≡ name.now) }
+
+        // At Err memory is lacking, or it is one of `File`, `OtherLayout`, `Damaged`, `NotOpened` and `Lost`, each of which names
+        // the file. `OtherLayout` has, as asked for, the layout that was, and as found, one that a device at rest has. Of `Lost`,
+        // a write or a sync of a file failed for its cause. Of `Damaged`, the part is the one that opening a device of this
+        // layout reports. Of `NotOpened`, the fault isn't damage, and it is one that `open_database` reports.
         ensures err { IfErr result (IsOpeningError name.now geometry) }
     {
         let name = String::from_str(alloc, name)?;
@@ -78,11 +84,18 @@ impl<R: Files<File = File> + Threads + Wait + Copy + Drop + Send + Sync + 'stati
         }
     }
 
-    /// Opens the store that the file holds, with the layout that it has: `status` says which. It creates no file: if there is none, or it
-    /// is empty, the error is `Missing`. Its other errors are those of `open` except `OtherLayout`, and it waits as `open` does.
+    /// Opens the store that the file holds, with the layout that it has: `status` says which. It creates no file, and it waits as
+    /// `open` does.
     pub fn open_existing(rt: R, alloc: Global, name: &str) -> Result<Store<R>, StoreError>
+        // A device was opened that was at rest, whose image has a layout and isn't refused.
         ensures ok { OnOk result OpensExisting }
+
+        // The store keeps the name.
         ensures name { IfOk result (λ store. string_bytes store.name ≡ name.now) }
+
+        // At Err memory is lacking, or it is one of `Missing`, `File`, `Damaged`, `NotOpened` and `Lost`, each of which names the
+        // file. Of `Damaged` and `NotOpened`, a device has a layout, and opening it is refused for this reason. `Damaged` names
+        // the part of that layout.
         ensures err { IfErr result (IsFindingError name.now) }
     {
         let name = String::from_str(alloc, name)?;
@@ -149,16 +162,26 @@ impl<R: Wait + Drop> Store<R> {
     ghost use Rattle.store.specs.Trying.{CommitsWithin, FailsWithin, Fails, EndsTry};
     ghost use Rattle.store.specs.Status.{ShowsLayout, ShowsNumbers, ShowsFill};
 
-    /// Makes the changes in one transaction and commits it. It returns what the changes return, and the timestamp, or `None` if nothing was
-    /// written. After a conflict it tries again, on the rows as the other commit left them, with at most a thousand tries in all. After
-    /// any other error, including the changes' own, nothing is kept, unless the error is `Unknown`. It waits for a sync of the file, as a
-    /// commit does.
+    /// Makes the changes in one transaction and commits it. It returns what the changes return, and the timestamp, or `None` if
+    /// nothing was written. After a conflict it tries again, on the rows as the other commit left them. After any other error,
+    /// including the changes' own, nothing is kept, unless the error is `Unknown`. It waits for a sync of the file, as a commit
+    /// does.
     pub fn transact<T: Drop, F: Drop + FnMut(&mut Transaction<'_, R>) -> Result<T, StoreError>>(
         &self,
         changes: F,
     ) -> Result<(T, Option<Ts>), StoreError>
+        // The changes may be called.
         requires callable { F.IsAlwaysCallable changes }
+
+        // The changes were called once for each try, a thousand at most, each time on a transaction that was begun for it. In
+        // each try but the last, the draw of its session was refused for a conflict, and what was drawn by then is covered. Or
+        // the committer has ended, or a tick was refused memory. In the last try the changes returned the value that is returned,
+        // and the session's commit returned the timestamp, as `Transaction::commit` says.
         ensures ok { IfOk result (λ done. CommitsWithin F.step (λ lent. lent.now.snapshot.reads.session) 1000 changes done.0 done.1) }
+
+        // After some such tries in vain, or none, no transaction was begun. Or the changes returned this error, and the session's
+        // abort was made. Or its commit was refused, but not for a conflict. Or all tries that were allowed were in vain, the
+        // last one on the key of `GivenUp`.
         ensures err { IfErr result (FailsWithin F.step (λ lent. lent.now.snapshot.reads.session) 1000 changes) }
     {
         self.transact_within(TRIES, changes)
@@ -170,6 +193,8 @@ impl<R: Wait + Drop> Store<R> {
         F: Drop + FnMut(&mut Transaction<'_, R>) -> Result<T, StoreError>,
     >(&self, tries: u64, mut changes: F) -> Result<(T, Option<Ts>), StoreError>
         requires callable { F.IsAlwaysCallable changes }
+
+        // As for `transact`.
         ensures ok { IfOk result (λ done. CommitsWithin F.step (λ lent. lent.now.snapshot.reads.session) tries changes done.0 done.1) }
         ensures err { IfErr result (FailsWithin F.step (λ lent. lent.now.snapshot.reads.session) tries changes) }
     {
@@ -216,8 +241,13 @@ impl<R: Wait + Drop> Store<R> {
     /// Begins a transaction, which reads the rows that are committed now, and what it writes itself. At most 62 transactions and snapshots
     /// can be open: another one is refused with `TooManyTransactions`. It waits as a read does.
     pub fn begin(&self) -> Result<Transaction<'_, R>, StoreError>
+        // A run ends in this call's Begin, and its reply has the number of the session.
         ensures ok { IfOk result (λ transaction. Answers Begin began_of (Ok transaction.snapshot.reads.session)) }
+
+        // The transaction knows the greatest length of a row in a state that a run comes to.
         ensures limit { IfOk result (λ transaction. ComesTo (λ q. transaction.row_limit ≡ row_limit q.layout.version)) }
+
+        // A run ends in this call's Begin, and its reply has the fault from which the error is made.
         ensures err { IfErr result (λ error. Answers Begin began_of (Err error)) }
     {
         Ok(Transaction {
@@ -229,6 +259,7 @@ impl<R: Wait + Drop> Store<R> {
     /// A snapshot of the rows that are committed now, which can be read until it is dropped. It counts among the 62 too. It waits as a
     /// read does.
     pub fn read(&self) -> Result<Snapshot<'_, R>, StoreError>
+        // A run ends in this call's Begin. Its reply has the number of the session, or the fault from which the error is made.
         ensures ok { IfOk result (λ snapshot. Answers Begin began_of (Ok snapshot.reads.session)) }
         ensures err { IfErr result (λ error. Answers Begin began_of (Err error)) }
     {
@@ -241,9 +272,18 @@ impl<R: Wait + Drop> Store<R> {
     /// The layout of the store, how far it has come, and how full it is. It looks at each key and each slot while other threads wait. Its
     /// numbers are read one after the other, and other threads may commit in between.
     pub fn status(&self) -> Status
+        // The layout of a state that a run comes to.
         ensures layout { ComesTo (λ q. ShowsLayout q result) }
+
+        // Of a state that a run comes to: the number and the timestamp of the ruling record, how many long commits and gaps it
+        // names, and how many commits may still be made. That is the lesser of two: how many timestamps may be drawn (the machine
+        // refuses a draw within two windows of the last one), and how many records may follow.
         ensures numbers { ComesTo (λ q. ShowsNumbers q result) }
+
+        // How many rows are covered in such a state, and how many slots hold no version.
         ensures fill { ComesTo (λ q. ShowsFill q result) }
+
+        // How many slots aren't free.
         ensures versions { result.versions ≡ result.slots - result.free }
     {
         let numbers = self.database.status();
@@ -258,10 +298,16 @@ impl<R: Wait + Drop> Store<R> {
         self.name.as_str()
     }
 
-    /// Covers all that was committed, and closes the file. It waits for the store's two threads to end, and for the last syncs. Its errors
-    /// are `Lost` and `NotClosed`. No transaction is open, since each borrows the store.
+    /// Covers all that was committed, and closes the file. It waits for the store's two threads to end, and for the last syncs.
+    /// No transaction is open, since each borrows the store.
     pub fn close(self) -> Result<(), StoreError>
+        // All that was covered and drawn since a device was opened is covered on it, whatever a crash leaves, as
+        // `Database::close` says.
         ensures ok { OnOk result IsCovered }
+
+        // `Lost` or `NotClosed`, which names the file. Of `NotClosed`, closing a device that was opened is refused for its fault,
+        // and no write or sync of its file failed. Of `Lost`, either closing is refused and a write or a sync failed for this
+        // cause, or all is covered and closing the file itself failed.
         ensures err { IfErr result (IsClosingError (string_bytes self.name)) }
     {
         let Store { name, database, .. } = self;
@@ -279,6 +325,9 @@ impl<R: Wait + Drop> Store<R> {
 fn not_closed(name: String, device: Device, fault: Fault) -> StoreError
     requires refused { ∥ ClosesRun (state_of device) (IsClosingRefused (state_of device) fault) ∥₁ }
     ensures names { IsClosingError (string_bytes name) result }
+
+    // If closing is refused, it is `Lost` and the cause exactly if a write or a sync of the file failed, and otherwise
+    // `NotClosed` and the fault.
     ensures lost { IfSome (failure_of device) (λ cause. result ≡ StoreError.Lost name cause) }
     ensures fault { IfNone (failure_of device) (result ≡ StoreError.NotClosed name fault) }
 {

@@ -47,7 +47,10 @@ impl<R: Wait + Drop> Transaction<'_, R> {
     /// Writes the row under the key. It may be refused with `RowTooLong`, `TooManyKeys` or `Full`. It waits as a read does, and if no slot
     /// is free, it first looks for slots that nobody needs.
     pub fn put(&mut self, key: Key, row: Row) -> Result<(), StoreError>
+        // As `Transaction::put` of `database` says, for this key and row. The error for TooLong has the greatest length.
         ensures made { Puts self.old.snapshot.reads.session key row self.old.row_limit result }
+
+        // The transaction is what it was, at Err too.
         ensures same { self.new ≡ self.old }
     {
         match self.snapshot.reads.put(key, row) {
@@ -58,6 +61,7 @@ impl<R: Wait + Drop> Transaction<'_, R> {
 
     /// Writes the number under the key, in 8 bytes.
     pub fn put_number(&mut self, key: Key, number: u64) -> Result<(), StoreError>
+        // As for `put`, of the number's 8 bytes.
         ensures made { Puts self.old.snapshot.reads.session key (to_le_bytes w64 number) self.old.row_limit result }
         ensures same { self.new ≡ self.old }
     {
@@ -66,7 +70,10 @@ impl<R: Wait + Drop> Transaction<'_, R> {
 
     /// Deletes the row under the key, if there is one. It may be refused with `TooManyKeys`.
     pub fn delete(&mut self, key: Key) -> Result<(), StoreError>
+        // A run ends in this step of the transaction's session, and what is returned is read off its reply, at Ok and at Err.
         ensures made { Answers (Delete self.old.snapshot.reads.session key) done_of result }
+
+        // The transaction is what it was, at Err too.
         ensures same { self.new ≡ self.old }
     {
         Ok(self.snapshot.reads.delete(key)?)
@@ -75,7 +82,10 @@ impl<R: Wait + Drop> Transaction<'_, R> {
     /// Makes these writes in their order, up to the first that is refused: each as `put` does, or as `delete` does if it has no row. It
     /// waits once for all, and no step of another thread comes in between.
     pub fn write(&mut self, writes: &[(Key, Option<Row>)]) -> Result<(), StoreError>
+        // As `Transaction::write` of `database` says, for these writes. The error for TooLong has the greatest length.
         ensures made { MakesWrites self.old.snapshot.reads.session writes.now self.old.row_limit result }
+
+        // The transaction is what it was, at Err too.
         ensures same { self.new ≡ self.old }
     {
         match self.snapshot.reads.write(writes) {
@@ -88,6 +98,7 @@ impl<R: Wait + Drop> Transaction<'_, R> {
     /// which commits of other threads share. After an error nothing of it is kept, unless the error is `Unknown`. `Conflict` is returned
     /// only once the commit that was in the way is covered.
     pub fn commit(self) -> Result<Option<Ts>, StoreError>
+        // As `Transaction::commit` of `database` says.
         ensures ok { IfOk result (ReportsCommit self.entry.snapshot.reads.session) }
         ensures err { IfErr result (IsCommitRefusal self.entry.snapshot.reads.session) }
     {
@@ -101,6 +112,7 @@ impl<R: Wait + Drop> Transaction<'_, R> {
 
     /// Rolls the transaction back, as a drop does, and fails if the file has failed.
     pub fn abort(self) -> Result<(), StoreError>
+        // A run ends in this step of the transaction's session, and what is returned is read off its reply, at Ok and at Err.
         ensures { Answers (Abort self.entry.snapshot.reads.session) done_of result }
     {
         let Transaction { snapshot, .. } = self;

@@ -58,7 +58,12 @@ fn make_commits<T: Wait, D: Pmem + Drop, J: Origin, B: Drop>(
     commits: u64,
 ) -> Result<(), Fault>
     requires fresh { session.old.receipts.items ≡ [] }
+
+    // As many commits as were asked for are acknowledged and drawn, and no transaction is open then.
     ensures ok { OnOk result (Makes commits session.new.receipts.items) }
+
+    // The thread's last step was refused with this fault, or the committer ended with it. Or, of WrongState, the thread's last
+    // commit reported that nothing was written, and ended its transaction.
     ensures err { IfErr result (GivesUp (HasHalted J.image) session.new.receipts.items) }
 {
     let key = Key { table: 1, key };
@@ -87,8 +92,11 @@ fn make_commit<T: Wait, D: Pmem + Drop, J: Origin, B: Drop>(
     key: Key,
     row: Row,
 ) -> Result<(), Fault>
+    // One commit more is acknowledged and drawn, and no transaction is open then.
     ensures ok { OnOk result (MakesOne session.old.phase session.old.receipts.items session.new.receipts.items) }
     ensures closed { OnOk result (session.new.phase ≡ Idle) }
+
+    // As for `make_commits`.
     ensures err { IfErr result (GivesUp (HasHalted J.image) session.new.receipts.items) }
 {
     for _ in rt.forever() {
@@ -112,9 +120,12 @@ fn attempt<T: Wait, D: Pmem + Drop, J: Origin, B: Drop>(
     key: Key,
     row: Row,
 ) -> Result<bool, Fault>
+    // One commit more is acknowledged and drawn, or at a fault that may pass none is, and no transaction is open then.
     ensures ok { IfOk result (λ made. MatchBool made (MakesOne session.old.phase session.old.receipts.items session.new.receipts.items)
         (MakesNone session.old.phase session.old.receipts.items session.new.phase session.new.receipts.items)) }
     ensures closed { IfOk result (λ made. IsTrue made → session.new.phase ≡ Idle) }
+
+    // As for `make_commits`.
     ensures err { IfErr result (GivesUp (HasHalted J.image) session.new.receipts.items) }
 {
     match try_commit(rt, session, key, row) {
@@ -134,9 +145,12 @@ fn try_commit<T: Wait, D: Pmem + Drop, J: Origin, B: Drop>(
     key: Key,
     row: Row,
 ) -> Result<(), Fault>
+    // One commit more is acknowledged and drawn, and no transaction is open then. At a fault that may pass none is.
     ensures ok { OnOk result (MakesOne session.old.phase session.old.receipts.items session.new.receipts.items) }
     ensures closed { OnOk result (session.new.phase ≡ Idle) }
     ensures none { IfErr result (λ fault. may_pass fault ≡ true → MakesNone session.old.phase session.old.receipts.items session.new.phase session.new.receipts.items) }
+
+    // As for `make_commits`.
     ensures err { IfErr result (λ fault. (fault ≡ OutOfMemory) ⊎ (((fault ≡ WrongState) × ReportsNothing session.new.receipts.items) ⊎ IsRefusedWith (HasHalted J.image) session.new.receipts.items fault)) }
 {
     match begin_once(rt, session, key, row) {
@@ -177,7 +191,10 @@ fn begin_with<T: Wait, D: Pmem + Drop, J: Origin, B: Drop>(
     row: Row,
 ) -> Result<(), Fault>
     requires { session.old.phase ≡ Idle }
+
+    // A transaction that is begun has this row under this key: its last step is that put, which was done.
     ensures put { OnOk result (EndsInPut key row session.new.receipts.items) }
+
     ensures none { MakesNone session.old.phase session.old.receipts.items session.new.phase session.new.receipts.items }
     ensures is_open { OnOk result (session.new.phase ≢ Idle) }
     ensures err { IfErr result (λ fault. (fault ≡ OutOfMemory) ⊎ ReportsLast session.new.receipts.items (Refused fault)) }

@@ -32,14 +32,21 @@ pub fn run_load<
 >(rt: &T, alloc: Global, device: D, load: Load) -> Result<Room<D>, Fault>
     requires at_rest { IsAtRest (D.state device) }
 
-    // The room shows the state to which a run from the image of this very device led. In it each session made exactly its
-    // commits, and all were acknowledged.
+    // A run from the image of the device that was opened leads to a state that the room shows. Its steps of sessions are those of
+    // as many threads as were asked for. Each of these made exactly as many commits as were asked for: that many times a poll
+    // reported a timestamp and the transaction was ended next. No more timestamps were drawn, and no transaction is left open.
     ensures made { IfOk result (λ room. MakesTo (image_of (D.state device)) load.sessions load.commits (Shows D.state room)) }
 
-    // It is done only if two slots for each session are free, and numbers are left: `SlotsOut` and `TimestampsOut` say that
-    // they aren't.
+    // The work is done only if two slots for each session are free in the state that the image opens as, and record numbers and
+    // timestamps are left for all commits.
     ensures has_slots { OnOk result (OpensTo (image_of (D.state device)) (HasFree (2 * load.sessions))) }
     ensures has_numbers { OnOk result (OpensTo (image_of (D.state device)) (HasNumbers (load.sessions * load.commits))) }
+
+    // At Err the image doesn't open (then that reason), memory is lacking, or an operation failed while opening. Or the slots
+    // aren't free (SlotsOut), or numbers aren't left (TimestampsOut). Or both are there, and one of these is why. A thread of the
+    // engine can't be started (NoThread). Closing the engine finds another room than was lent or other steps than those of its
+    // sessions, or a commit reports that nothing was written (WrongState). A run from that image has a step that was refused with
+    // this fault, which isn't one after which a thread tries again.
     ensures fault { IfErr result (IsLoadFault (image_of (D.state device)) load.sessions load.commits) }
 {
     lent::<Brand, D, T>(rt, alloc, History::new(), device, load)
