@@ -10,6 +10,7 @@ use Rattle.base.specs.Batches.{Batch}
 abbrev pub after_commit : Key → Option (List ℕ) → Commit → Option (List ℕ)
 after_commit key row commit = unwrap_or (lookup_key commit.writes key) row
 
+-- the key's row after these commits, in turn
 abbrev pub after_commits : Key → Option (List ℕ) → List Commit → Option (List ℕ)
 after_commits key row commits = fold (after_commit key) row commits
 
@@ -21,5 +22,6 @@ is_written key commits = list_any (writes_key key) commits
 abbrev pub after_batch : Key → ℕ → Option (List ℕ) → Batch → Option (List ℕ)
 after_batch key stamp row batch = if nat_le batch.stamp stamp then after_commits key row batch.commits else row
 
+-- and after the batches up to the stamp
 abbrev pub after_batches : Key → ℕ → Option (List ℕ) → List Batch → Option (List ℕ)
 after_batches key stamp row batches = fold (after_batch key stamp) row batches

@@ -5,11 +5,13 @@ use Rattle.board.specs.declared.change.Change.{Change}
 use Rattle.board.specs.declared.change.Change.TheVariants.{Begin, Add, Raise}
 use Rattle.board.specs.Openings.{opening}
 
+-- the list after a change: one more batch, or a higher floor
 abbrev pub changed : Published → Change → Published
 changed list (Begin start) = list
 changed list (Add batch) = record list { batches = list.batches ++ batch ∷ [] }
 changed list (Raise stamp) = record list { floor = max list.floor stamp }
 
+-- the list before any change
 abbrev pub nothing : Published
 nothing = opening (record { stamp = 0; persisted = 0; longs = [] }) []
 

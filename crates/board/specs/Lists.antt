@@ -28,6 +28,7 @@ last_longs list = longs_from list.longs list.batches
 abbrev pub last_coverage : Published → Coverage
 last_coverage list = record { stamp = last_stamp list; persisted = last_persisted list; longs = last_longs list }
 
+-- the timestamp is one of these
 abbrev pub is_among : List ℕ → ℕ → Bool
 is_among timestamps timestamp = list_any (nat_eq timestamp) timestamps
 

@@ -8,6 +8,7 @@ use Rattle.board.specs.declared.coverage.Coverage.{Coverage}
 use Rattle.board.specs.Lists.{persisted_from, longs_from, last_persisted, last_longs}
 use Rattle.board.specs.Cells.{after_batches}
 
+-- the rows, the batches and the floor that are stored are those of the list, from its floor on
 pub record Stands (coverage : Coverage) (floor : ℕ) (rows : List (Key × List ℕ)) (batches : List Batch) (list : Published) : Type 0 where
   pub floor_is : floor ≡ list.floor
   pub last : last_from coverage.stamp batches ≡ last_stamp list

@@ -38,20 +38,25 @@ subcommand_shape name rules = record (new_shape name) { rules = rules }
 abbrev pub app_with : Text → List Rule → App
 app_with name rules = record { top = subcommand_shape name rules; subs = [] }
 
+-- `format`, with its options and their defaults
 abbrev pub format_shape : Shape
 format_shape = subcommand_shape (codes "format") (name_rule (codes "FILE") ∷ number_rule (codes "slots") (codes "1024") 1 65536
     ∷ number_rule (codes "places") (codes "4") 2 64 ∷ number_rule (codes "window") (codes "64") 4 1024
     ∷ flag_rule (codes "wide") ∷ [])
 
+-- `run`
 abbrev pub run_shape : Shape
 run_shape = subcommand_shape (codes "run") (name_rule (codes "FILE") ∷ [])
 
+-- `check`
 abbrev pub check_shape : Shape
 check_shape = subcommand_shape (codes "check") (name_rule (codes "FILE") ∷ [])
 
+-- `lives`
 abbrev pub lives_shape : Shape
 lives_shape = subcommand_shape (codes "lives") (name_rule (codes "SCRIPT") ∷ [])
 
+-- `threads`, with its options and their defaults
 abbrev pub threads_shape : Shape
 threads_shape = subcommand_shape (codes "threads") (name_rule (codes "FILE")
     ∷ number_rule (codes "sessions") (codes "4") 1 32 ∷ number_rule (codes "commits") (codes "8") 1 1000 ∷ [])

@@ -54,12 +54,15 @@ geometry_line slots places window =
 abbrev pub close_line : Text → Option (Option ScriptLine)
 close_line name = if is_word name (codes "close") then Some (Some line.Close) else None
 
+-- `life` with a fuse and what its stop keeps, if this is the name
 abbrev pub named_life : Text → Text → Text → Option (Option ScriptLine)
 named_life name fuse keeps = if is_word name (codes "life") then Some (life_line fuse keeps) else None
 
+-- `geometry` with its numbers, if this is the name
 abbrev pub named_geometry : Text → Text → Text → Text → Option (Option ScriptLine)
 named_geometry name slots places window = if is_word name (codes "geometry") then Some (geometry_line slots places window) else None
 
+-- a line that only scripts have, by its words
 abbrev pub own_line : List Text → Option (Option ScriptLine)
 own_line [] = None
 own_line (name ∷ []) = close_line name
@@ -122,6 +125,7 @@ pub record SpellsScript (text : Text) (layout : Layout) (lives : List ScriptLife
 
 -- ---- a line that is wrong
 
+-- the line has the numbers of the image
 abbrev pub is_geometry : ScriptLine → Bool
 is_geometry (line.Geometry slots places window) = true
 is_geometry _ = false

@@ -55,6 +55,7 @@ pub record Wish : Type 0 where
 abbrev pub asked_by : Layout → ScriptLife → Wish
 asked_by layout life = record { steps = map (repeated_of layout) life.commands.items; closes = life.closes; fuse = life.fuse; choice = choice_of life.keeps }
 
+-- what a life of the code asks
 abbrev pub asked_of : Life → Wish
 asked_of life = record { steps = life.steps.items; closes = life.close; fuse = life.fuse; choice = life.choice }
 

@@ -95,6 +95,7 @@ IsPreparation session (Ok None) taken = DrawsAndEnds session (Ok tt) taken
 IsPreparation session (Err (Open fault)) taken = (t : ℕ) × DrawsAndStamps session t (Err fault) taken
 IsPreparation session (Err (Refused fault)) taken = IsStep (Draw session) drawn_of (Err fault) taken ⊎ DrawsAndEnds session (Err fault) taken
 
+-- a run from the opening of a device ends in such a preparation of the session, with this result
 abbrev pub IsPrepared : ℕ → Result (Option ℕ) CommitError → Type 0
 IsPrepared session result = EndsRun (IsPreparation session result)
 

@@ -6,16 +6,19 @@ use Rattle.base.specs.declared.key.Key.{Key}
 use Rattle.base.specs.declared.step.Reply.{Reply}
 use Rattle.base.specs.declared.step.Reply.TheVariants.{Began, Row, Rows, Done, Drawn, More, Stamped, Waiting, Committed, Refused}
 
+-- the session's number
 abbrev pub began_of : Reply → Result ℕ Fault
 began_of (Began n) = Ok n
 began_of (Refused fault) = Err fault
 began_of _ = Err WrongState
 
+-- the row that was read, if there is one
 abbrev pub row_of : Reply → Result (Option (List ℕ)) Fault
 row_of (Row row) = Ok row
 row_of (Refused fault) = Err fault
 row_of _ = Err WrongState
 
+-- that the step was done
 abbrev pub done_of : Reply → Result ⊤ Fault
 done_of Done = Ok tt
 done_of (Refused fault) = Err fault

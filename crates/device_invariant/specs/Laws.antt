@@ -37,6 +37,7 @@ EveryImageStands = (o : Origin) (q : State) (device : Device) (image : Image) �
 abbrev pub FlushesKeep : Type 0
 FlushesKeep = (o : Origin) (q : State) (old new : Device) (actor line : ℕ) → new ≡ flushed actor line old → Upholds o q old → Upholds o q new
 
+-- a fence, by whatever actor
 abbrev pub FencesKeep : Type 0
 FencesKeep = (o : Origin) (q : State) (old new : Device) (actor : ℕ) → new ≡ fenced actor old → Upholds o q old → Upholds o q new
 

@@ -29,6 +29,7 @@ wakes_waiting _ = false
 
 -- ---- a record that no stamp makes due
 
+-- there are gaps
 abbrev pub has_gaps : List Gap → Bool
 has_gaps [] = false
 has_gaps (gap ∷ gaps) = true
@@ -39,6 +40,7 @@ wants_record_of (Drawn timestamp) dirty gaps next window = nat_lt (2 * (dirty - 
 wants_record_of SweepEnd dirty gaps next window = has_gaps gaps
 wants_record_of _ dirty gaps next window = false
 
+-- the same, under the ruling record
 abbrev pub wants_record : Reply → Record → ℕ → ℕ → Bool
 wants_record reply ruling next window = wants_record_of reply ruling.dirty ruling.gaps next window
 
@@ -64,6 +66,7 @@ fails _ = false
 abbrev pub fourth_of : ℕ → ℕ
 fourth_of slots = max (slots / 4) 1
 
+-- the reply says that a sweep has ended
 abbrev pub ends_sweep : Reply → Bool
 ends_sweep SweepEnd = true
 ends_sweep _ = false

@@ -86,6 +86,7 @@ why_not None refusals = if nat_lt 100 refusals then Some OutOfMemory else None
 abbrev pub is_covered_in : ℕ → List ℕ → ℕ → Bool
 is_covered_in persisted longs timestamp = nat_le timestamp persisted && not (list_any (nat_eq timestamp) longs)
 
+-- it is persisted under this record, and isn't that of a long commit
 abbrev pub is_covered : Record → ℕ → Bool
 is_covered ruling timestamp = is_covered_in ruling.persisted ruling.longs timestamp
 

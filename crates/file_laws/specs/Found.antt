@@ -41,9 +41,9 @@ ClosesAbove = (q : State) (steps : List Step) (replies : List Reply) (states : L
 
 -- ---- what is found
 
--- What is found if all stopped at that moment: an image that a crash might have left at some moment from `since` on up to then, and each
--- word of its superblock and each gate is one that a crash at that very moment might have left. It stands for the same as what a crash at
--- that very moment leaves, even though its other words may be older (`found_images_stand`).
+-- What is found if all stopped at that moment: an image that a crash might have left at some moment from `since` on up to then. Each word of
+-- its superblock and each gate is one that a crash at that very moment might have left. It stands for the same as what a crash at that very
+-- moment leaves, even though its other words may be older (`found_images_stand`).
 -- Excluded: a found image that stands for less than what was covered by then.
 pub record IsFound (layout : Layout) (device : Device) (since moment : ℕ) (image : Image) : Type 0 where
   pub before : ℕ

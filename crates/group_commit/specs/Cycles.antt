@@ -45,6 +45,7 @@ abbrev pub operation_at : List ℕ → Progress → CycleStage → Operation
 operation_at lines writing (FlushLines flushed from) = flush_or_fence (find (nat_le from) lines)
 operation_at lines writing WriteRecord = operation_of writing
 
+-- the same of a cycle
 abbrev pub operation_in : List ℕ → Cycling → Operation
 operation_in lines cycle = operation_at lines cycle.writing cycle.stage
 
@@ -53,10 +54,12 @@ abbrev pub flushed_or_fenced : ℕ → Option ℕ → Option Stage
 flushed_or_fenced flushed None = Some LinesFenced
 flushed_or_fenced flushed (Some line) = Some (LineFlushed flushed)
 
+-- the stage that the next tick reaches, if it doesn't cover the batch
 abbrev pub reached_at : List ℕ → Progress → CycleStage → Option Stage
 reached_at lines writing (FlushLines flushed from) = flushed_or_fenced flushed (find (nat_le from) lines)
 reached_at lines writing WriteRecord = reached_by writing.stage
 
+-- the same of a cycle
 abbrev pub reached_in : List ℕ → Cycling → Option Stage
 reached_in lines cycle = reached_at lines cycle.writing cycle.stage
 
@@ -65,9 +68,11 @@ abbrev pub next_at : ℕ → Option ℕ → CycleStage
 next_at flushed None = WriteRecord
 next_at flushed (Some line) = FlushLines (flushed + 1) (line + 1)
 
+-- the cycle after a tick at this stage
 abbrev pub ticked_at : List ℕ → Cycling → CycleStage → Cycling
 ticked_at lines cycle (FlushLines flushed from) = record cycle { stage = next_at flushed (find (nat_le from) lines) }
 ticked_at lines cycle WriteRecord = record cycle { writing = advanced cycle.writing }
 
+-- the cycle after its next tick
 abbrev pub ticked_in : List ℕ → Cycling → Cycling
 ticked_in lines cycle = ticked_at lines cycle cycle.stage

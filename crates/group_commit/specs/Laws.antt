@@ -22,6 +22,7 @@ abbrev pub IsAt : List ℕ → ℕ → Progress → CycleStage → Type 0
 IsAt lines ticks writing (FlushLines flushed from) = (ticks ≡ 1 + flushed) × IsCut lines flushed from × (writing.stage ≡ StoreBody 1)
 IsAt lines ticks writing WriteRecord = (ticks ≡ 2 + length lines + operations_before writing.stage) × IsStage writing.stage
 
+-- this many ticks were made in the cycle
 abbrev pub IsAfter : List ℕ → ℕ → Cycling → Type 0
 IsAfter lines ticks cycle = IsAt lines ticks cycle.writing cycle.stage
 

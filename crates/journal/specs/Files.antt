@@ -16,12 +16,15 @@ abbrev pub pass_word : Bool → ℕ
 pass_word true = 0
 pass_word false = 1
 
+-- the pass that a word of the tail names
 abbrev pub pass_of : ℕ → Bool
 pass_of word = word == 0
 
+-- a tail: its first word, the words of the image, the room of the journal, and the pass
 abbrev pub tail_of : ℕ → ℕ → ℕ → Bool → List ℕ
 tail_of first words room pass = first ∷ words ∷ room ∷ pass_word pass ∷ 0 ∷ 0 ∷ 0 ∷ 0 ∷ []
 
+-- the journal of a file
 abbrev pub journal_in : ℕ → ℕ → List ℕ → List ℕ
 journal_in words room file = take room (drop words file)
 

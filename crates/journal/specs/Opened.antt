@@ -15,6 +15,7 @@ lines_found pass words = lines_of (length (joined (read_all pass words)) / 9) (j
 abbrev pub opened : Bool → List ℕ → List ℕ → ℕ → ℕ
 opened pass image words word = put_over (lines_found pass words) word (slice_index image word)
 
+-- the lines of these entries, in their order
 abbrev pub all_lines : List (List Line) → List Line
 all_lines [] = []
 all_lines (lines ∷ entries) = lines ++ all_lines entries
@@ -23,6 +24,7 @@ all_lines (lines ∷ entries) = lines ++ all_lines entries
 abbrev pub journal_of : Bool → List (List Line) → List ℕ → List ℕ
 journal_of pass entries behind = journal pass (map payloads_of_lines entries) ++ behind
 
+-- each of them is a line as memory has it
 abbrev pub AreLines : List Line → Type 0
 AreLines lines = All (λ line. IsLine line) lines
 

@@ -13,13 +13,16 @@ use Rattle.lives.specs.ReportedReplies.{ReportsOf, steps_of}
 abbrev pub asked_of : Life → Asked
 asked_of life = record { steps = steps_of life.steps.items; closes = life.close }
 
+-- a record's numbers, in these words
 abbrev pub numbers_of : Numbers → PlainNumbers
 numbers_of numbers = record { gate = numbers.gate; persisted = numbers.persisted; dirty = numbers.dirty }
 
+-- the outcome of opening, in these words
 abbrev pub opening_of : Result Opened Fault → Opening
 opening_of (Ok opened) = Opens (numbers_of opened.numbers) opened.next opened.gaps opened.rows.items
 opening_of (Err fault) = Fails fault
 
+-- the outcome of closing, if it was asked for, in these words
 abbrev pub closed_of : Option (Result Numbers Fault) → Option (Result PlainNumbers Fault)
 closed_of None = None
 closed_of (Some (Ok numbers)) = Some (Ok (numbers_of numbers))

@@ -57,6 +57,7 @@ pub record OpensUpdated (image : Image) : Type 0 where
   pub opened_as : (history : List Commit) (lost : List ℕ) (gaps : List Gap) → opened (updated image) history lost gaps ≡ opened image history lost gaps
   pub within : (history : List Commit) (next : ℕ) (other : Image) → StandsOpening (updated image) history next other → StandsOpening image history next other
 
+-- this holds of each image that opens
 abbrev pub UpdatedOpen : Type 0
 UpdatedOpen = (image : Image) → opening_fault image ≡ None → OpensUpdated image
 
@@ -152,6 +153,7 @@ pub record CycleIsWhole (q : State) : Type 0 where
   pub replies : replies_to q (replicate (lines_of q (chosen q) + 41) CommitTick) ≡ cycle_replies q
   pub covers : end q (replicate (lines_of q (chosen q) + 41) CommitTick) ≡ state_covered q (taken_in_hand q)
 
+-- this holds of each cycle that a tick may begin
 abbrev pub CyclesAreWhole : Type 0
 CyclesAreWhole = (q : State) → q.hand ≡ None → IsTrue (chooses q CommitTick) → refusal q CommitTick ≡ None → CycleIsWhole q
 
@@ -167,6 +169,7 @@ pub record KeepsHand (q q' : State) : Type 0 where
   pub layout : q'.layout ≡ q.layout
   pub ruling : q'.ruling ≡ q.ruling
 
+-- this holds of each such step
 abbrev pub OthersKeepHand : Type 0
 OthersKeepHand = (q : State) (step : Step) (reply : Reply) (q' : State) → Stepped q step reply q' → IsTrue (is_no_tick step) → KeepsHand q q'
 
@@ -210,6 +213,7 @@ abbrev pub covered_by : Reply → List Commit
 covered_by (Covered batch) = batch.commits
 covered_by _ = []
 
+-- the commits of all batches that these replies report as covered
 abbrev pub covered_in : List Reply → List Commit
 covered_in replies = flat_map covered_by replies
 
@@ -241,6 +245,7 @@ LivesAdd before (asked ∷ more) (report ∷ reports) after =
     (mid : World) × LifeAdds before asked.steps report.opening report.replies mid × LivesAdd mid more reports after
 LivesAdd before _ _ after = ⊥
 
+-- this holds of all lives over a world
 abbrev pub WorldsAdd : Type 0
 WorldsAdd = (before : World) (asked : List Asked) (reports : List Report) (after : World) → IsWorld before → Lives before asked reports after → LivesAdd before asked reports after
 

@@ -60,6 +60,7 @@ abbrev pub reply_on : State → Step → Option Fault → Reply
 reply_on q step None = answer q step
 reply_on q step (Some fault) = Refused fault
 
+-- the state after a step that this refuses, or that nothing refuses
 abbrev pub state_on : State → Step → Option Fault → State
 state_on q step None = next_state q step
 state_on q step (Some fault) = q

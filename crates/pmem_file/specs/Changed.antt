@@ -11,22 +11,27 @@ pub record Changes : Type 0 where
   pub count : ℕ
   pub places : ℕ
 
+-- the mark is that of a line that was stored to
 abbrev pub is_change : Mark → Bool
 is_change Unchanged = false
 is_change Plain = true
 is_change Gates = true
 
+-- and that holds no gate
 abbrev pub is_plain_change : Mark → Bool
 is_plain_change Unchanged = false
 is_plain_change Plain = true
 is_plain_change Gates = false
 
+-- the line is marked as stored to
 abbrev pub is_marked : List Mark → ℕ → Bool
 is_marked marks line = is_change (slice_index_or marks line Unchanged)
 
+-- the line is marked as stored to, and as one without a gate
 abbrev pub is_plain : List Mark → ℕ → Bool
 is_plain marks line = is_plain_change (slice_index_or marks line Unchanged)
 
+-- the mark of a line that is stored to
 abbrev pub mark_of : ℕ → ℕ → Mark
 mark_of places line = if is_gate_line places line then Gates else Plain
 

@@ -24,5 +24,6 @@ shows_prop log from clock word (suc n) value actors history =
       props,
     )
 
+-- that a log is sound has at most one proof
 pub sound_prop : (history : ℕ → List Entry) (values : List ℕ) (spans : List Span) (log : List Stored) (clock : ℕ) → IsProp (IsSound history values spans log clock)
 sound_prop history values spans log clock = hlevel (shows_prop log, props)

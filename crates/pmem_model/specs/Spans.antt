@@ -2,9 +2,11 @@
 use Rattle.std.specs.Prelude.{ℕ, ◌+◌, List, slice_index_or, if◌then◌else◌, nat_lt, nat_le}
 use Rattle.pmem_model.specs.declared.spans.Span.{Span}
 
+-- a span without places
 abbrev pub nowhere : Span
 nowhere = record { from = 0; to = 0 }
 
+-- the span of the line
 abbrev pub span_at : List Span → ℕ → Span
 span_at spans line = slice_index_or spans line nowhere
 

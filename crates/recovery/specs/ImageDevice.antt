@@ -10,9 +10,11 @@ use Rattle.recovery.specs.declared.image_device.ImageDevice.{ImageDevice}
 abbrev pub device_of : ImageDevice → Device
 device_of image = record (restarted image.words.now) { failures = number_of image.failures }
 
+-- an entry of a device at rest
 abbrev first : ℕ → Entry
 first value = record { value = value; born = 0; flushed = λ actor. false; kept = Some 0 }
 
+-- a history of that entry alone, or an empty one
 abbrev only : Bool → ℕ → List Entry
 only b value = cond b (first value ∷ []) []
 
@@ -29,6 +31,7 @@ some_in : (b : Bool) (value : ℕ) → b ≡ true → IsAmong (survivors_in (onl
 some_in true value is = inl refl
 some_in false value is = absurd (cc is)
 
+-- such a device is orderly, however many operations failed
 pub orderly_image : (words : List ℕ) (failures : ℕ) → AreWords words → IsOrderly (record (restarted words) { failures = failures })
 orderly_image words failures fits = record {
   now = λ word. now_in (nat_lt word (length words)) (get_or words word 0);

@@ -41,6 +41,7 @@ pub record IsExamined (image : Image) (layout : Layout) (r : Record) (gaps : Opt
   pub free_are : free ≡ free_below image layout.slots
   pub live_are : live ≡ live_below image layout.slots
 
+-- the same, as a word that isn't unfolded
 unfoldable pub Examined : Image → Layout → Record → Option (List Gap) → List Bool → List LiveSlot → Type 0
 Examined image layout r gaps free live = IsExamined image layout r gaps free live
 

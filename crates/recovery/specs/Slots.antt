@@ -60,6 +60,7 @@ is_free image slot = not (is_shown (ruling image) image slot)
 unfoldable pub free_below : Image → ℕ → List Bool
 free_below image n = map (λ slot. not (is_shown (ruling image) image slot)) (range_with_len 0 n)
 
+-- the slot is bad under the ruling record
 unfoldable pub is_bad : Image → ℕ → Bool
 is_bad image = is_bad_slot (ruling image) image
 

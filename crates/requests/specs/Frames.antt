@@ -74,6 +74,7 @@ ReceivesAfter head old new (received.Request request) = (payload : List ℕ) × 
 ReceivesAfter head old new received.Other = (payload : List ℕ) × Consumes old new payload × (length payload ≡ head.length) × IsRequestOf head payload None
 ReceivesAfter head old new received.End = (rest : List ℕ) × Consumes old new rest × (length rest < 96) × IsAtEnd new
 
+-- what was taken off the input: the frame of a request, one that isn't a request's, or less than a frame
 abbrev pub Receives : Option (List ℕ) → Option (List ℕ) → Received → Type 0
 Receives old new (received.Request request) = Consumes old new (request_bytes request)
 Receives old new received.Other = (head : Head) × (payload : List ℕ) × Consumes old new (head_bytes head ++ payload) × (length payload ≡ head.length) × IsRequestOf head payload None

@@ -22,9 +22,11 @@ asked_bytes layout.Existing = []
 asked_bytes (layout.Narrow numbers) = little_bytes 8 numbers.places ++ little_bytes 8 numbers.window
 asked_bytes (layout.Wide numbers) = little_bytes 8 numbers.places ++ little_bytes 8 numbers.window
 
+-- the head of the request
 abbrev pub opening_head : Opening → Head
 opening_head opening = asked_head opening.layout (length (string_bytes opening.name)) opening.channels
 
+-- and its payload: the numbers of a layout, if there is one, and the name
 abbrev pub opening_payload : Opening → List ℕ
 opening_payload opening = asked_bytes opening.layout ++ string_bytes opening.name
 

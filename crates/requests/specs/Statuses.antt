@@ -3,6 +3,7 @@ use Rattle.std.specs.Prelude.{ℕ}
 use Rattle.requests.specs.declared.status.Status.{Status}
 use Rattle.requests.specs.declared.status.Status.TheVariants.{Done, Missing, Misuse, File, OtherLayout, Damaged, NotOpened, Lost, NotClosed, NoStore, Conflict, Full, RowTooLong, TooManyKeys, TooManyTransactions, OutOfMemory, Failed, Unknown, Refused}
 
+-- the status as docs/FORMATS.md numbers it
 abbrev pub status_code : Status → ℕ
 status_code Done = 0
 status_code Missing = 1

@@ -35,5 +35,6 @@ pub record ShowsIn (sessions : Sessions) (cycle : Option Cycling) (device : Devi
   pub shown : SessionsShow sessions device q
   pub cycle_is : HoldsCycle q sessions.drawn.commits q.hand cycle
 
+-- the same of a room's volatile state
 abbrev pub Shows : VolatileState → Device → State → Type 0
 Shows c device q = ShowsIn c.sessions c.cycle device q

@@ -27,6 +27,7 @@ pub record StepsToIn (sessions : Sessions) (cycle : Option Cycling) (before now 
   pub shows : ShowsIn sessions cycle now q'
   pub effect : HasEffect before now (StandsWithin q q') (most_operations q step) (actor_of step) (λ fault. reply ≡ Refused fault)
 
+-- the same of a room's volatile state
 abbrev pub StepsTo : VolatileState → Device → Device → Step → Reply → State → State → Type 0
 StepsTo new before now step reply q q' = StepsToIn new.sessions new.cycle before now step reply q q'
 
@@ -34,6 +35,7 @@ StepsTo new before now step reply q q' = StepsToIn new.sessions new.cycle before
 abbrev pub StepsIn : Sessions → Option Cycling → VolatileState → Device → Device → Step → Reply → Type 0
 StepsIn sessions cycle new before now step reply = (q : State) → ShowsIn sessions cycle before q → q.failed ≡ false → (q' : State) × StepsTo new before now step reply q q'
 
+-- so does the room's volatile state
 abbrev pub Steps : VolatileState → VolatileState → Device → Device → Step → Reply → Type 0
 Steps old new before now step reply = StepsIn old.sessions old.cycle new before now step reply
 
@@ -41,6 +43,7 @@ Steps old new before now step reply = StepsIn old.sessions old.cycle new before 
 abbrev pub ShowsSomeIn : Sessions → Option Cycling → Device → Type 0
 ShowsSomeIn sessions cycle device = (q : State) × ShowsIn sessions cycle device q × (q.failed ≡ false)
 
+-- the same of a room's volatile state
 abbrev pub ShowsSome : VolatileState → Device → Type 0
 ShowsSome c device = ShowsSomeIn c.sessions c.cycle device
 

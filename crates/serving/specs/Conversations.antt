@@ -33,6 +33,7 @@ ServesFrame prior None told after = (told ≡ answer.Misuse) × (after ≡ prior
 abbrev pub IsFrameSent : Answer → List ℕ → Type 0
 IsFrameSent answer frame = (frame ≡ answer_bytes answer) ⊎ (IsLong answer × (frame ≡ frame_bytes status.OutOfMemory 0 []))
 
+-- the frame is that of the request, the reply is what it has to be, and its bytes were sent
 pub record IsExchange (prior : Option ℕ) (e : Exchange) : Type 0 where
   pub frame : IsFrameOf e.came e.request
   pub served : ServesFrame prior e.request e.answer e.after

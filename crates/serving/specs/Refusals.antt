@@ -3,6 +3,7 @@ use Rattle.requests.specs.declared.status.Status.{Status}
 use Rattle.requests.specs.declared.status.Status.TheVariants as status
 use Rattle.store.specs.declared.error.StoreError.{StoreError}
 
+-- the status of a store's error
 abbrev pub status_of : StoreError → Status
 status_of (StoreError.Missing name) = status.NoStore
 status_of (StoreError.File name cause) = status.File

@@ -111,6 +111,7 @@ pub record HoldsOn (s : Sessions) (h : Hidden) (device : Device) : Type 0 where
   pub upholds : Upholds h.origin (plain_of s h) device
   pub agrees : Agrees s h.origin h.seen (plain_of s h)
 
+-- something is hidden of which that holds
 abbrev pub HoldsSomeOn : Sessions → Device → Type 0
 HoldsSomeOn s device = (h : Hidden) × HoldsOn s h device
 
@@ -153,6 +154,7 @@ is_over drawn (Active snapshot writes) = false
 is_over drawn (Drawn t) = is_none (drawn_at t drawn)
 is_over drawn ReadOnly = true
 
+-- the same of a session, if it is open
 abbrev pub is_over_at : List DrawnCommit → Option Transaction → Bool
 is_over_at drawn None = false
 is_over_at drawn (Some transaction) = is_over drawn transaction

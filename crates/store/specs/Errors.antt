@@ -12,6 +12,7 @@ use Rattle.store.specs.declared.error.Part.{Part}
 abbrev pub part_of : Layout → ℕ → Part
 part_of layout number = if nat_lt number layout.places then Part.Place number else Part.Slot (number - layout.places)
 
+-- the error that a fault becomes
 abbrev pub error_of : Fault → StoreError
 error_of (Conflict key) = StoreError.Conflict key
 error_of SlotsOut = StoreError.Full

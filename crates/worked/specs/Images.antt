@@ -28,6 +28,7 @@ image_with words = with_words ((0, superblock_word) ∷ (1, 1) ∷ (2, 4) ∷ (3
 abbrev pub key_7 : Key
 key_7 = record { table = 1; key = 7 }
 
+-- a row of two bytes, the letters ab
 abbrev pub ab : List ℕ
 ab = 97 ∷ 98 ∷ []
 
@@ -63,6 +64,7 @@ commit_1 = record { timestamp = 1; writes = (key_7, Some ab) ∷ [] }
 abbrev pub gap : ℕ → ℕ → Gap
 gap first last = record { first = first; last = last }
 
+-- a record without long commits
 abbrev pub record_of : ℕ → ℕ → ℕ → List Gap → Record
 record_of gate persisted dirty gaps = record { gate = gate; persisted = persisted; dirty = dirty; gaps = gaps; longs = [] }
 
@@ -149,13 +151,15 @@ changed_opening =
 abbrev pub eight_gaps : Words
 eight_gaps = (43, 8) ∷ (44, 1) ∷ (45, 1) ∷ (46, 3) ∷ (47, 3) ∷ (48, 5) ∷ (49, 5) ∷ (50, 7) ∷ (51, 7) ∷ (52, 9) ∷ (53, 9) ∷ (54, 11) ∷ (55, 11) ∷ (56, 13) ∷ (57, 13) ∷ (58, 15) ∷ (59, 15) ∷ []
 
--- images in which opening adds a ninth gap; one joined to the eighth; none, since no timestamp is skipped
+-- an image in which opening adds a ninth gap
 abbrev pub ninth_gap_image : Image
 ninth_gap_image = with_words ((41, 17) ∷ (42, 20) ∷ eight_gaps) formatted_image
 
+-- the same, but the ninth gap is joined to the eighth
 abbrev pub joined_gap_image : Image
 joined_gap_image = with_words ((41, 15) ∷ (42, 20) ∷ eight_gaps) formatted_image
 
+-- the same, but no timestamp is skipped
 abbrev pub eight_gaps_image : Image
 eight_gaps_image = with_words ((41, 17) ∷ (42, 18) ∷ eight_gaps) formatted_image
 

@@ -141,6 +141,7 @@ pub record OwnWrites : Type 0 where
 abbrev pub key_6 : Key
 key_6 = record { table = 1; key = 6 }
 
+-- a key above both
 abbrev pub key_9 : Key
 key_9 = record { table = 1; key = 9 }
 

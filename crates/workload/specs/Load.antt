@@ -22,6 +22,7 @@ use Rattle.room.specs.Runs.{OpensTo, RunOf}
 abbrev pub HasFree : ℕ → State → Type 0
 HasFree count q = (rows : List (Key × List ℕ)) × Lists rows (after q.history) × (count + length rows ≤ q.layout.slots)
 
+-- fewer slots than that are free in an opened state: each row of the tables takes one then
 abbrev pub LacksFree : ℕ → State → Type 0
 LacksFree count q = (rows : List (Key × List ℕ)) × Lists rows (after q.history) × (q.layout.slots < count + length rows)
 
@@ -30,6 +31,7 @@ LacksFree count q = (rows : List (Key × List ℕ)) × Lists rows (after q.histo
 abbrev pub HasNumbers : ℕ → State → Type 0
 HasNumbers commits q = (2 * commits + q.ruling.gate + 2 < 2 ^ 62) × (commits + q.ruling.dirty + q.layout.window + 2 < 2 ^ 62)
 
+-- record numbers or timestamps are lacking for that many commits
 abbrev pub LacksNumbers : ℕ → State → Type 0
 LacksNumbers commits q = (2 ^ 62 ≤ 2 * commits + q.ruling.gate + 2) ⊎ (2 ^ 62 ≤ commits + q.ruling.dirty + q.layout.window + 2)
 
@@ -72,6 +74,7 @@ is_acknowledged poll (end ∷ rest) = is_same (reported_to poll.step poll.note) 
 abbrev pub draws : List Receipt → ℕ
 draws receipts = count_by (λ r. has_drawn r.step r.note) receipts
 
+-- how many commits were acknowledged in these receipts
 abbrev pub acknowledged : List Receipt → ℕ
 acknowledged [] = 0
 acknowledged (r ∷ rest) = (if is_acknowledged r rest then 1 else 0) + acknowledged rest

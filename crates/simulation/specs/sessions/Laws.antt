@@ -69,5 +69,6 @@ pub record CoversByRecord (o : Origin) (q : State) (hand : Hand) : Type 0 where
   pub written : (key : Key) (d : Drawn) → Contains q.drawn d → is_covered_by hand.target d ≡ true → writes_key key d.commit ≡ true → newest_of (state_covered q hand) key ≡ version_by key (ByCommit d.commit.timestamp)
   pub unwritten : (key : Key) → list_any (writes_key key) hand.commits ≡ false → newest_of (state_covered q hand) key ≡ newest_of q key
 
+-- this holds of each pending batch
 abbrev pub BatchesCover : Type 0
 BatchesCover = (o : Origin) (q : State) (hand : Hand) → Keeps o q → KeepsHand q hand → CoversByRecord o q hand
