@@ -9,7 +9,7 @@ ROWS = {
     "reads, 1,024 keys": "reads",
 }
 COLOURS = ("#2f9e6e", "#8fcfb1", "#4f7cc4", "#d9a441", "#8d99ab")
-# A label has so many pixels for each letter, in the widest of the usual fonts.
+# A label has that many pixels for each letter, in the widest of the usual fonts.
 LETTER = 8
 LEFT = 26 + LETTER * max(map(len, ROWS.values()))
 WIDTH, LINE, TOP, SPACE, RADIUS = 480, 16, 66, 12, 4.5
@@ -17,7 +17,7 @@ LEAST, MOST = 100, 100_000
 
 
 def table(text):
-    """Returns the names of the stores, and the figures of each row that is drawn, in thousands a second."""
+    """Returns the names of the stores, and the figures of each row that is drawn, in thousands per second."""
     head = re.search(r"^\| \| (Nipamast \|.*) \|$", text, re.M)
     figures = {}
     for name in ROWS:

@@ -1,4 +1,4 @@
-// libpmemobj: an array of rows in a pool, each changed where it lies, with an undo log. It has no snapshots, and a reader takes no
+// libpmemobj: an array of rows in a pool, each changed in place, with an undo log. It has no snapshots, and a reader takes no
 // transaction, so reads aren't measured.
 #include "work.h"
 #include <libpmemobj.h>

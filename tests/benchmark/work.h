@@ -16,13 +16,13 @@ struct work {
 
 // A store is opened in an empty folder, with a row of eight bytes under each key.
 void store_open(const char *folder, uint64_t keys);
-// Whoever commits in a thread of its own calls this first.
+// A thread that commits calls this first.
 void store_join(void);
 // Updates the keys of these numbers, modulo the keys, in one transaction.
 void store_commit(uint64_t first, uint64_t end, uint64_t keys);
-// Reads so many rows in one transaction. How many it found, or -1 where reads are not measured.
+// Reads that many rows in one transaction. How many it found, or -1 where reads are not measured.
 int64_t store_read(uint64_t reads, uint64_t keys);
-// Reads so many rows, each in a transaction of its own, as one of several threads. How many it found, or -1.
+// Reads that many rows, each in a transaction of its own, as one of several threads. How many it found, or -1.
 int64_t store_read_alone(uint64_t reads, uint64_t keys);
 
 static inline void fail(const char *what) {
@@ -65,7 +65,7 @@ static void *run_reader(void *found) {
     return NULL;
 }
 
-// So many readers, each in a thread of its own, beside a writer that commits until the last of them is done.
+// That many readers, each in a thread of its own, while a writer commits until the last of them is done.
 static void run_readers(uint64_t readers, uint64_t reads) {
     pthread_t threads[MOST_READERS];
     int64_t found[MOST_READERS] = {0};
@@ -93,7 +93,7 @@ static void *run_committer(void *number) {
     return NULL;
 }
 
-// So many threads, each of which makes so many commits of a row each.
+// That many threads, each of which makes that many commits of a row each.
 static void run_committers(uint64_t threads) {
     pthread_t started[MOST_READERS];
     uint64_t numbers[MOST_READERS];

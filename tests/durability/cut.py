@@ -1,4 +1,4 @@
-"""Files that another program cut or made longer while a journal stood in them, and images of before there was one."""
+"""Files that another program cut or made longer while a journal was in them, and images from before there was one."""
 import os
 import re
 import signal
@@ -123,7 +123,7 @@ def growing_files(kv, wbl, folder):
 
 
 def images_of_before(kv, wbl, folder):
-    """Images without a journal, as a close and as a crash leave them, are opened, and a close leaves such again, which wbl reads."""
+    """Images without a journal, as closing and as a crash leave them, are opened, and closing leaves such again, which wbl reads."""
     count = 0
     for layout in LAYOUTS:
         for end, rows in (("", {7: "6162"}), ("crash oldest\n", {7: "6162"}), ("crash newest\n", {7: "6162"})):

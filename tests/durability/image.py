@@ -30,7 +30,7 @@ def made(wbl, folder, name="image.img"):
     file = os.path.join(folder, name)
     ended = ask(wbl, "format", file, *FORMAT)
     want(ended.returncode == 0 and ended.stdout.startswith("formatted"), "a new image is made", ended)
-    want(os.listdir(folder).count(name) == 1 and not beside(folder), "nothing lies beside it", ended)
+    want(os.listdir(folder).count(name) == 1 and not beside(folder), "nothing is next to it", ended)
     return file
 
 
@@ -65,21 +65,21 @@ def two_programs(wbl, kv, folder):
             held.stdout.readline(), held.stdout.readline()
             if other == "kv":
                 ended = subprocess.run([kv, file], input="put 1 2 bb\n", capture_output=True, text=True, timeout=60, check=False)
-                want(ended.returncode == 1, f"kv beside {holder}", ended)
+                want(ended.returncode == 1, f"kv next to {holder}", ended)
             else:
                 ended = ask(wbl, other, file, *ORDERS.get(other, ()))
-                refused(ended, f"{other} beside {holder}")
-            want(BUSY in ended.stderr, f"{other} beside {holder} says why", ended)
+                refused(ended, f"{other} next to {holder}")
+            want(BUSY in ended.stderr, f"{other} next to {holder} says why", ended)
             output, _ = held.communicate("put 1 3 cc\n" if holder == "kv" else COMMIT.split("\n", 1)[1])
-            want(held.returncode == 0 and "closed" in output, f"{holder} ends well beside {other}: {output}")
+            want(held.returncode == 0 and "closed" in output, f"{holder} ends well next to {other}: {output}")
             rows = ask(wbl, "check", file).stdout
-            want(("1 1 aa" in rows and "1 3 cc" in rows) if holder == "kv" else "1 7 6162" in rows, f"{holder} beside {other} keeps its rows: {rows}")
+            want(("1 1 aa" in rows and "1 3 cc" in rows) if holder == "kv" else "1 7 6162" in rows, f"{holder} next to {other} keeps its rows: {rows}")
             count += 1
     return f"{count} pairs on one file; the second was refused, and what the first acknowledged is there"
 
 
 def held_by_others(wbl, kv, folder):
-    """While a format, threads or a check is delayed over the file, and while another program locks it, all are refused but checks beside a check."""
+    """While a format, threads or a check is delayed over the file, and while another program locks it, all are refused, except a check during a check."""
     count = 0
     for holder in ("format", "threads", "check", "another"):
         file = made(wbl, folder, f"{holder}.img")
@@ -100,21 +100,21 @@ def held_by_others(wbl, kv, folder):
         for other in (*ORDERS, "kv", "check"):
             if other == "kv":
                 ended = subprocess.run([kv, file], input="put 1 2 bb\n", capture_output=True, text=True, timeout=60, check=False)
-                want(ended.returncode == 1, f"kv beside {holder}", ended)
+                want(ended.returncode == 1, f"kv next to {holder}", ended)
             else:
                 ended = ask(wbl, other, file, *ORDERS.get(other, ()))
                 if holder == other == "check":
-                    want(ended.returncode == 0, "a check beside a check", ended)
+                    want(ended.returncode == 0, "a check during a check", ended)
                     continue
-                refused(ended, f"{other} beside {holder}")
-            want(BUSY in ended.stderr, f"{other} beside {holder} says why", ended)
+                refused(ended, f"{other} next to {holder}")
+            want(BUSY in ended.stderr, f"{other} next to {holder} says why", ended)
             count += 1
         if lock is not None:
             os.close(lock)
         else:
             output, _ = held.communicate(timeout=120)
             want(held.returncode == 0 and output.splitlines()[-1].split()[0] in ("formatted", "closed", "end"), f"{holder} ends well: {output}")
-    return f"{count} programs beside another that had the file, each refused; a check beside a check wasn't"
+    return f"{count} programs next to another that had the file, each refused; a check during a check wasn't"
 
 
 def answers_come_at_once(wbl, _kv, folder):
@@ -156,7 +156,7 @@ def failing_calls(wbl, _kv, folder):
         want("os error" in ended.stderr and contents(file) == old and not beside(folder), f"{call} fails: FILE is as it was", ended)
         os.remove(file)
         count += 1
-    return f"{count} calls failed in turn; FILE as it was, nothing beside it"
+    return f"{count} calls failed in turn; FILE as it was, nothing next to it"
 
 
 def killed(wbl, _kv, folder):
@@ -178,7 +178,7 @@ def killed(wbl, _kv, folder):
 def full_disk(wbl, _kv, folder):
     """On a full disk nothing is said to be done."""
     if os.getuid() != 0 or subprocess.run(["mount", "-t", "tmpfs", "-o", "size=100k", "tmpfs", folder], check=False, capture_output=True).returncode:
-        return "not tried: no leave to mount"
+        return "not tried: no permission to mount"
     try:
         file = os.path.join(folder, "full.img")
         want(ask(wbl, "format", file).returncode == 0, "an image of 66,624 bytes fits")
@@ -194,7 +194,7 @@ def full_disk(wbl, _kv, folder):
 
 
 def what_is_replaced(wbl, _kv, folder):
-    """A pipe, a device and a folder stay; a link is followed; what lies beside is another's."""
+    """A pipe, a device and a folder stay; a link is followed; what is next to it is another's."""
     fifo, there, link, away = (os.path.join(folder, name) for name in ("fifo", "there.img", "link.img", "away.img"))
     os.mkfifo(fifo)
     nodes = [fifo, folder]
@@ -218,9 +218,9 @@ def what_is_replaced(wbl, _kv, folder):
     os.symlink("victim", there + ".wbl-new-1")
     shutil.copy(victim, there + ".wbl-new")
     ended = ask(wbl, "run", there, text=COMMIT)
-    want(ended.returncode == 0 and contents(victim) == contents(there + ".wbl-new") == b"another's", "what lies beside is another's", ended)
-    want(os.path.islink(there + ".wbl-new-1") and not os.path.islink(there) and len(beside(folder)) == 2, f"beside lies {beside(folder)}", ended)
-    return f"{len(nodes)} that are no regular files stay, a link is followed, what lies beside is left alone"
+    want(ended.returncode == 0 and contents(victim) == contents(there + ".wbl-new") == b"another's", "what is next to it is another's", ended)
+    want(os.path.islink(there + ".wbl-new-1") and not os.path.islink(there) and len(beside(folder)) == 2, f"next to it is {beside(folder)}", ended)
+    return f"{len(nodes)} that aren't regular files stay, a link is followed, what is next to it is left alone"
 
 
 def owners_and_rights(wbl, _kv, folder):
@@ -263,7 +263,7 @@ def closed_streams(wbl, _kv, folder):
             subprocess.run([wbl, words, file, *ORDERS[words]], input=COMMIT.encode() if 0 not in closed else None, stdout=subprocess.DEVNULL, stderr=subprocess.DEVNULL,
                            preexec_fn=lambda closed=closed: [os.close(it) for it in closed], timeout=60, check=False)
             want(os.path.getsize(file) == size and ask(wbl, "check", file).returncode == 0, f"{words}: descriptors {closed} closed")
-            want(not beside(folder), f"{words}: descriptors {closed} closed: nothing lies beside it")
+            want(not beside(folder), f"{words}: descriptors {closed} closed: nothing is next to it")
             os.remove(file)
             count += 1
     return f"{count} runs with closed streams, and the image is sound"
@@ -292,7 +292,7 @@ def failing_output(wbl, _kv, folder):
 
 
 def foreign(wbl, _kv, folder):
-    """What is no image keeps its bytes and times."""
+    """What isn't an image keeps its bytes and times."""
     count = 0
     for held in (b"one line of a text\n" * 34, bytes(range(256)) * 50, b"SQLite format 3\0" + bytes(8_176), bytes(6_400), b"x", b""):
         for words in ("run", "threads", "check"):
@@ -307,7 +307,7 @@ def foreign(wbl, _kv, folder):
             want(contents(file) == held and not beside(folder), f"{words} of {held[:20]!r}: the bytes stay")
             want((before.st_mtime_ns, before.st_ctime_ns, before.st_ino) == (after.st_mtime_ns, after.st_ctime_ns, after.st_ino), f"{words} of {held[:20]!r}: the times stay")
             count += 1
-    return f"{count} orders over files that are no images, which kept their bytes and times"
+    return f"{count} orders over files that aren't images, which kept their bytes and times"
 
 
 def numbers_end(wbl, kv, folder):

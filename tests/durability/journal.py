@@ -20,7 +20,7 @@ def image_bytes(held):
 
 
 def tail_of(held):
-    """How many words the image has and how many the journal, where there is one."""
+    """How many words the image has and how many the journal, if there is one."""
     if len(held) < 2 * LINE or len(held) % 8:
         return None
     magic, words, room, turn, *rest = words_of(held[-LINE:])
@@ -51,6 +51,6 @@ def shorten(file):
 
 
 def is_append(held, offset, count):
-    """Whether a write of so many bytes there appends an entry to the journal of a file that holds this."""
+    """Whether a write of that many bytes there appends an entry to the journal of a file that holds this."""
     found = tail_of(held)
     return found is not None and 8 * found[0] <= offset and offset + count <= 8 * sum(found)

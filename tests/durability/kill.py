@@ -2,7 +2,7 @@
 
 In every second life, at random, the sender waits for the answer of each transaction before it sends the next; in the others it sends
 all without waiting. One is acknowledged where its answer reached the pipe before the kill. What is found must be the rows after
-exactly the acknowledged ones, or after these and the next few, each as a whole: the one in hand and, where nobody waited, those whose
+exactly the acknowledged ones, or after these and the next few, each as a whole: the one in progress and, where nobody waited, those whose
 answers were held while further lines were waiting. The same file goes through all lives; in some it has a journal that a few commits
 fill, and of some the next opening is killed too.
 """
@@ -18,7 +18,7 @@ KEYS = 40
 
 
 def live(kv, file, transactions, delay, from_ready):
-    """A life that a kill ends so many seconds after its start, or after it was ready: what it printed, and the writes of its
+    """A life that a kill ends that many seconds after its start, or after it was ready: what it printed, and the writes of its
     transactions."""
     sent = [transactions.next() for _ in range(400)]
     text = "".join("\n".join(lines) + "\n" for _, lines in sent)
@@ -44,7 +44,7 @@ def live(kv, file, transactions, delay, from_ready):
 
 
 def live_waiting(kv, file, transactions, delay):
-    """A life whose sender waits for each answer, ended by a kill so many seconds after its start: the same."""
+    """A life whose sender waits for each answer, ended by a kill that many seconds after its start: the same."""
     sent = [transactions.next() for _ in range(400)]
     child = subprocess.Popen([kv, *SMALL, file], stdin=subprocess.PIPE, stdout=subprocess.PIPE, stderr=subprocess.STDOUT, text=True)
     killer = threading.Timer(delay, child.kill)

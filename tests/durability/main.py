@@ -1,5 +1,5 @@
-"""Kills kv, takes the power from it and fails its writes, and looks for each row that it acknowledged; and tries what people
-do to it: closed streams, a failing output, a full disk, files of others, wrong lines. The same of FILE of wbl.
+"""Kills kv, cuts its power and makes its writes fail, and looks for each row that it acknowledged. It also tries what people do to
+kv: closed streams, a failing output, a full disk, files of others, wrong lines. FILE of wbl is tested in the same way.
 
 It takes minutes, and needs the programs that ./build makes, and strace for power failures and failing writes. It prints a line for
 each test, LOST if a row that was acknowledged isn't found, and last `N passed, N failed`; if one failed it ends with 1.
@@ -60,10 +60,10 @@ def main():
     parser.add_argument("--kills", type=int, default=200, help="kills at random instants")
     parser.add_argument("--fresh", type=int, default=100, help="kills of a first opening")
     parser.add_argument("--power", type=int, default=500, help="images of a power failure")
-    parser.add_argument("--twice", type=int, default=3000, help="images of a power failure within an opening after a kill or a failed sync")
+    parser.add_argument("--twice", type=int, default=3000, help="images of a power failure while the file is opened after a kill or a failed sync")
     parser.add_argument("--fail", type=int, default=200, help="how many writes and how many syncs fail or stop kv at most, each in a run")
     parser.add_argument("--seed", type=int, default=1, help="the same seed kills at the same instants")
-    parser.add_argument("--only", nargs="*", metavar="NAME", help="these tests alone, as closed_streams")
+    parser.add_argument("--only", nargs="*", metavar="NAME", help="these tests alone, such as closed_streams")
     parser.add_argument("--short", action="store_true", help="a tenth of each")
     words = parser.parse_args()
     part = 10 if words.short else 1

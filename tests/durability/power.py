@@ -2,7 +2,7 @@
 
 strace gives the order of the writes, the new lengths, the syncs and the answers. An image is made so: all that was done before the last
 sync began that had returned is there; of what was written since, each word of 8 bytes is there or not, by a coin, and so is each new length.
-What was answered by then must be found in it, and besides at most the one in hand and, where the sender doesn't wait for each answer, the
+What was answered by then must be found in it, and besides at most the one in progress and, if the sender doesn't wait for each answer, the
 commits whose answers were held.
 """
 import os
@@ -86,7 +86,7 @@ def some_words(held, event, rng, chance):
 
 def image_before(first, events, stop, rng):
     """What a power failure just before that event may leave of a file that held this first, how many were acknowledged, and how many
-    changes were open. Of those, a new length is there or not, and each word that was written; what lies past the length isn't."""
+    changes were open. Of those, a new length is there or not, and each word that was written; what is past the length isn't."""
     durable, since, done, synced = bytearray(first), [], 0, 0
     for event in events[:stop]:
         if event[0] == "sync":

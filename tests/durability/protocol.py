@@ -120,7 +120,7 @@ def layouts(kv, folder):
 
 
 def command_words(kv, folder):
-    """What is said of a command behind FILE that the shell or its user took for another one."""
+    """What is said about a command behind FILE that the shell or its user took for another one."""
     file = made(kv, folder)
     for words, status, told in (
         (["put", "1", "9", "beef"], 0, "kv: beef was read as bytes, two hexadecimal digits each; text needs quotation marks, which a shell takes away: '\"beef\"'"),
@@ -131,7 +131,7 @@ def command_words(kv, folder):
     ):
         ended = one(kv, file, *words)
         want(ended.returncode == status and ended.told.startswith(told) and bool(told) == bool(ended.told), f"{words}", ended)
-    return "10 commands, and what is said of those that may mean another thing"
+    return "10 commands, and what is said about those that may mean another thing"
 
 
 def near_end(kv, folder, record, last):

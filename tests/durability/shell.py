@@ -116,7 +116,7 @@ def small_disk(kv, folder):
     place = os.path.join(folder, "small")
     os.makedirs(place, exist_ok=True)
     if os.geteuid() != 0 or subprocess.run(["mount", "-t", "tmpfs", "-o", "size=64k", "tmpfs", place], check=False, stderr=subprocess.DEVNULL).returncode:
-        return "left out: it takes leave to mount a disk"
+        return "left out: it needs permission to mount a disk"
     try:
         file = os.path.join(place, "new.img")
         ended = kv_on(kv, file, FIRST, options=SMALL)
@@ -130,7 +130,7 @@ def small_disk(kv, folder):
 
 
 def foreign_files(image):
-    """Files that aren't stores, each with a word that is said of it."""
+    """Files that aren't stores, each with a word that is said about it."""
     yield "text", b"one line of a text\n" * 34, "no image begins here"
     yield "a multiple of a line", bytes(range(256)) * 50, "no image begins here"
     yield "another store", b"SQLite format 3\0" + bytes(8_176), "no image begins here"
@@ -169,7 +169,7 @@ def foreign(kv, folder):
     ended = kv_on(kv, cut, "")
     subprocess.run(re.search(r"truncate -s \d+ \S+", ended.told).group(0).split(), check=True)
     want(rows_in(kv, cut) == ROWS, "cut as it said, all rows are there")
-    return f"{count} files that are no stores kept their bytes and times; one with bytes after its image opened once cut as told"
+    return f"{count} files that aren't stores kept their bytes and times; one with bytes after its image opened once cut as told"
 
 
 def odd_names(kv, folder):
@@ -190,7 +190,7 @@ def odd_names(kv, folder):
 
 
 def folders(kv, folder):
-    """The folder that a new file lies in is synced, wherever a link leads; one that may not be read is only wanted for a new file."""
+    """The folder that a new file is in is synced, wherever a link leads; one that may not be read is needed only for a new file."""
     place, other = os.path.join(folder, "links"), os.path.join(folder, "links", "other")
     os.makedirs(other, exist_ok=True)
     link, trace = os.path.join(place, "link.img"), os.path.join(folder, "links.trace")
@@ -216,7 +216,7 @@ def folders(kv, folder):
 
 
 def lines(kv, folder):
-    """A line that isn't obeyed is refused by its number, and the next one is read; a transaction with one isn't committed."""
+    """A line that isn't run is refused by its number, and the next one is read; a transaction with one isn't committed."""
     file = made(kv, folder)
     for text, status, answers, told in (
         (b"get 1 1\nput 1 1 \xff\xfe\nget 1 2\n", 3, ["row a1", "NotText", "row a2"], ["line 2: the line is not valid UTF-8"]),
@@ -238,7 +238,7 @@ def lines(kv, folder):
         want(ended.returncode == status and found == ["ready", *answers, "closed"], f"{text[:60]!r}", ended)
         want(all(it in ended.told for it in told) and (bool(told) or ended.told == ""), f"{text[:60]!r} told", ended)
     want(rows_in(kv, file) == ROWS, "the rows stay")
-    return "13 inputs with wrong lines: each line was told by its number, the others were obeyed, and no transaction was kept in part"
+    return "13 inputs with wrong lines: each line was told by its number, the others were run, and no transaction was kept in part"
 
 
 def words(kv, folder):
@@ -284,7 +284,7 @@ def one(kv, file, *words, text=""):
 
 
 def one_command(kv, folder):
-    """A command behind the file's name is obeyed alone; one that is misspelt makes no store."""
+    """A command behind the file's name is run alone; one that is misspelt makes no store."""
     file = os.path.join(folder, "one.img")
     for words, status, output in (
         (["put", "1", "5", '"two words"'], 0, "committed 1\n"), (["get", "1", "5"], 0, "row 74776f20776f726473\n"), (["--text", "get", "1", "5"], 0, 'row "two words"\n'),
@@ -299,7 +299,7 @@ def one_command(kv, folder):
         want(ended.returncode == 2 and ended.output == "" and ended.told.startswith("kv: ") and not os.path.exists(none), f"{words}", ended)
     ended = one(kv, none, "help")
     want(ended.returncode == 0 and "--slots 65536 load" in ended.output and not os.path.exists(none), "help makes no store", ended)
-    return "11 commands behind the file's name were obeyed alone; 9 wrong ones made no store"
+    return "11 commands behind the file's name were run alone; 9 wrong ones made no store"
 
 
 def text_rows(kv, folder):
@@ -375,7 +375,7 @@ def full_store(kv, folder):
 
 
 def timed(kv, folder):
-    """Times stand on standard error, from the line that asks for them on."""
+    """Times are printed on standard error, from the line that asks for them on."""
     ended = kv_on(kv, made(kv, folder), "get 1 1\ntiming on\nget 1 1\nget 1 2\ntiming off\nget 1 1\n")
     want(ended.output == "ready\nrow a1\ntiming on\nrow a1\nrow a2\ntiming off\nrow a1\nclosed\n", "the answers", ended)
     want(re.fullmatch(r"(took \d+\.\d{6} s\n){2}", ended.told), "two times", ended)
@@ -383,7 +383,7 @@ def timed(kv, folder):
 
 
 def examples_of_help(kv, folder):
-    """The examples in the help, one after the other in its order: each is obeyed."""
+    """The examples in the help, one after the other in its order: each is run."""
     file = os.path.join(folder, "shop.img")
     listed = one(kv, file, "help").output
     names = re.findall(r"^    (\w+)\b.* {2,}\S", listed, re.M)
@@ -418,7 +418,7 @@ def shell_in(kv, folder, line):
 
 
 def examples_of_page(kv, folder):
-    """The examples of docs/KV.md, one after the other: each prints what stands there."""
+    """The examples of docs/KV.md, one after the other: each prints what is there."""
     with open(os.path.join(DOCS, "KV.md"), encoding="utf-8") as page:
         text = page.read()
     examples = re.findall(r"^    \$ (.*)\n((?:    (?!\$ ).*\n)*)", text, re.M)

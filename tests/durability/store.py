@@ -3,7 +3,7 @@ import re
 import subprocess
 
 
-# So many commits may be kept besides those that were answered. Where the sender waits for each answer, only the one in hand; else kv
+# That many commits may be kept besides those that were answered. If the sender waits for each answer, only the one in progress; else kv
 # holds up to 16 answers more, while further lines are waiting.
 IN_HAND = 1
 MOST_UNANSWERED = 16 + IN_HAND
@@ -73,7 +73,7 @@ def send_and_wait(child, sent):
 
 
 def may_be_found(models, done, unanswered=MOST_UNANSWERED):
-    """What may be found after so many commits were answered and at most so many weren't, where these are the rows after none, one and so on."""
+    """What may be found after that many commits were answered and at most that many weren't, where these are the rows after none, one and so on."""
     return models[done:done + 1 + unanswered]
 
 

@@ -1,11 +1,11 @@
 """Two faults in a row: kv is killed at a sync, or a sync of it fails, and then the power fails while the next run opens the file.
 
-What the first run wrote and didn't sync lies in the page cache, where the next one reads it as if it were on the disk; after a sync that
+What the first run wrote and didn't sync is in the page cache, where the next one reads it as if it were on the disk; after a sync that
 failed the system even takes it for written. Each life here is a real run under strace, over the file as the one before left it: each sync
 of it in turn is where it is killed, or fails. What the disk has is worked out from the calls: a write stays open until a sync has succeeded
 that began after it, and one that was open when a sync failed never comes to the disk but by words that are written again. Of what is open
 each word of 8 bytes, each sector of 512 or each page of 4096 is there or not, by a coin. The rows must be those that were acknowledged,
-with the commit in hand or without it.
+with the commit in progress or without it.
 """
 import os
 import subprocess
@@ -46,7 +46,7 @@ def some_units(held, event, rng, chance, unit):
 
 
 def some_changes(held, since, rng, unit):
-    """Makes some of these changes, which are open; what lies past the length isn't there."""
+    """Makes some of these changes, which are open; what is past the length isn't there."""
     if rng.random() < 0.2:
         since = since[:rng.randint(0, len(since))]
     chance, length = rng.choice([0.1, 0.3, 0.5, 0.7, 0.9]), len(held)
@@ -92,7 +92,7 @@ def closed_store(kv, folder, options, is_short):
 
 
 def scenarios(kv, folder, rng, closed):
-    """For each sync of a run with one commit, killed there or failing: whether the commit was in hand then, the rows that may be found, the
+    """For each sync of a run with one commit, killed there or failing: whether the commit was in progress then, the rows that may be found, the
     lives up to then, and that of the next opening. One of three is disturbed a second time, at any sync of an opening."""
     file = os.path.join(folder, "lives.img")
     for fault in FAULTS:

@@ -1,4 +1,4 @@
-"""Judges what a run printed of which a request for memory was refused, beside a run of which none was."""
+"""Judges what a run printed of which a request for memory was refused, and compares it with a run of which none was."""
 import re
 
 # what a refused request is told by: a thread that there is no memory for isn't started, and a file isn't read or written
@@ -47,7 +47,7 @@ def judge_ending(ended, whole):
 
 
 def judge_wbl(ended, whole, known):
-    """The first line that differs says that memory was wanting, or is missing, and no row is wrong. Whether nothing was told."""
+    """The first line that differs says that memory was lacking, or is missing, and no row is wrong. Whether nothing was told."""
     judge_ending(ended, whole)
     judge_rows(ended.lines, known | set(read_in(whole.lines)))
     for mine, other in zip(ended.lines, whole.lines):

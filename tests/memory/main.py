@@ -1,4 +1,4 @@
-"""Refuses each request for memory in turn of the built programs, and looks at status, output and file.
+"""Refuses each request for memory of the built programs in turn, and checks status, output and file.
 
 It runs `wbl lives` over the scripts of lives in crates/test_scripts/data; the commands of wbl over one file that the other scripts
 there name; `wbl threads`; the lives and the board of test_lives, with memory for all stores of the device and without; and
@@ -131,7 +131,7 @@ def judge_command(programs, ended, whole, known, kept, counts):
     if ended.status != 0 and bytes_of(file) != before:
         raise judging.Wrong("the file changed")
     if any(it.startswith("db.img.wbl-new") for it in os.listdir(os.path.dirname(file))):
-        raise judging.Wrong("a file was left beside it")
+        raise judging.Wrong("a file was left next to it")
     if bytes_of(file) is not None and bytes_of(file) != before:
         judge_file(programs, file, known)
 
@@ -248,7 +248,7 @@ def main():
     parser.add_argument("--wbl", default=os.path.join(TOP, "crates/wbl/out/wbl"), help="the program, as rt run builds it")
     parser.add_argument("--runs", default=os.path.join(TOP, "crates/test_lives/out/test_lives"), help="test_lives, the same")
     parser.add_argument("--kv", default=os.path.join(TOP, "crates/kv/out/kv"), help="kv, the same")
-    parser.add_argument("--only", nargs="*", metavar="NAME", help="these kinds alone, as kv")
+    parser.add_argument("--only", nargs="*", metavar="NAME", help="these kinds alone, such as kv")
     parser.add_argument("--jobs", type=int, default=max(1, (os.cpu_count() or 2) // 2), help="runs at a time")
     parser.add_argument("--short", action="store_true", help="every twelfth script")
     words = parser.parse_args()

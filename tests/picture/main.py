@@ -43,7 +43,7 @@ NAMES = {"s": "store", "G": "store of the record's number", "f": "flush", "|": "
 
 
 def script(stop, survivor):
-    """Returns the lives: one that commits the old row, one whose update stops after so many operations, and one that reads."""
+    """Returns the lives: one that commits the old row, one whose update stops after that many operations, and one that reads."""
     writes = ["begin", "put 2 1 7 {}", "draw 2", "stamp 2", "commit {}", "poll 2"]
     first = "\n".join(writes).format(OLD, 42)
     second = "\n".join(writes).format(NEW, 43)

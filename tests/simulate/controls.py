@@ -36,7 +36,7 @@ def planted(tree, control):
         elif key == "new":
             source = path.read_text(encoding="utf-8")
             if source.count(old) != 1:
-                raise SystemExit(f"{control.name}: its text stands {source.count(old)} times in {path.name}")
+                raise SystemExit(f"{control.name}: its text is there {source.count(old)} times in {path.name}")
             path.write_text(source.replace(old, text), encoding="utf-8")
 
 
@@ -59,7 +59,7 @@ def processor_seconds():
 
 
 def said_of(control):
-    """Plants a control, if one is given, and plays. Returns what is said of it, and whether a difference was found."""
+    """Plants a control, if one is given, and plays. Returns what is said about it, and whether a difference was found."""
     with tempfile.TemporaryDirectory() as folder:
         tree = copied(folder)
         if control:

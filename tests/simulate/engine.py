@@ -1,4 +1,4 @@
-"""The engine in Python: openings, the steps of sessions, the committer, the collector and closes, over the device beside this.
+"""The engine in Python: openings, the steps of sessions, the committer, the collector and closes, over the device in the file next to this.
 
 It is written from docs/FORMATS.md and docs/REFERENCE.md and shares nothing with the crates, so that what both answer can be compared.
 """
@@ -108,7 +108,7 @@ class Room:
         self.device.fence(0)
 
     def _clear(self, slot, gapped):
-        """Stores 0 in the begin and the end of the slot that lie in a gap. Did it store?"""
+        """Stores 0 in the begin and the end of the slot that are in a gap. Did it store?"""
         start, stored = self.geometry.slot_word(slot), False
         for word in (start, start + 1):
             if gapped.is_in_gap(self.device.load(word)):
@@ -123,13 +123,13 @@ class Room:
     # what sessions see
 
     def _is_seen(self, commit_timestamp, begun):
-        """Whether a commit is among the first so many that are covered, or was when the device was opened."""
+        """Whether a commit is among the first that many that are covered, or was when the device was opened."""
         if commit_timestamp in self.places:
             return self.places[commit_timestamp] < begun
         return commit_timestamp is not None and commit_timestamp < self.first
 
     def _seen(self, begun):
-        """Returns the rows that the first so many covered commits leave."""
+        """Returns the rows that the first that many covered commits leave."""
         rows = {version.key: version.row for version in self.held if version and self._is_there(version, begun)}
         return rows
 
@@ -362,7 +362,7 @@ class Room:
 
 
 def many(count, step):
-    """Returns the answer to the last of so many steps, or to the first that finds nothing to do."""
+    """Returns the answer to the last of that many steps, or to the first that finds nothing to do."""
     answer = ""
     for _ in range(count):
         answer = step()
@@ -390,7 +390,7 @@ def obeyed(room, line):
 
 
 def lived(words, lines, fuse, choose):
-    """Lives a life over these words, stopped after so many operations. Returns what it prints, the words that its stop leaves, and
+    """Lives a life over these words, stopped after that many operations. Returns what it prints, the words that its stop leaves, and
     how many operations it made."""
     device, printed = Device(words, fuse), []
     try:

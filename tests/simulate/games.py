@@ -19,7 +19,7 @@ SECONDS = 900
 
 
 class Found(Exception):
-    """A difference: what was wanted, what was found, and a script that shows it where there is one."""
+    """A difference: what was wanted, what was found, and a script that shows it if there is one."""
 
     def __init__(self, said, script=None):
         super().__init__(said)
@@ -148,7 +148,7 @@ class Unknown(Exception):
 
 
 class Followed:
-    """A script that is obeyed beside what a program printed for it: a line that was refused for want of memory isn't obeyed."""
+    """A script that is run by what a program printed for it: a line that was refused for lack of memory isn't run."""
 
     def __init__(self, script, found, status, said):
         self.script, self.found, self.status, self.said, self.at = script, found, status, said, 0

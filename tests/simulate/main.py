@@ -1,9 +1,9 @@
-"""Lets the engine live at random, without end, beside an engine in Python that was written from the documents alone.
+"""Runs the engine at random, without end, and compares it with an engine in Python that was written from the documents alone.
 
     ./simulate                    plays until it is stopped, or until it finds a difference
-    ./simulate --minutes 60       plays an hour
+    ./simulate --minutes 60       plays for an hour
     ./simulate --jobs 4           in four processes
-    ./simulate --seed 17 --games 1        plays the game of one seed: the one that was found, again
+    ./simulate --seed 17 --games 1        plays one game again, by its seed
     ./simulate --only lives       one kind of game: lives, images, room, memory or file
     ./simulate --controls         plants five defects, each in a copy of the tree, and looks for it by games of kind room
 
@@ -12,7 +12,7 @@ A seed is a game, and the same seed is the same game. There are five kinds:
     lives     a script for `wbl lives`: sessions, committer, collector, long commits, sweeps and closes over the modelled device,
               which is stopped after any number of operations, also within an opening, with the oldest or the newest survivors
     images    lives over an image of version 1, 2 or 3, stopped anywhere with any survivor of each word: what is left is checked by
-              `wbl check`, and lives on by `wbl run`, and what that leaves is compared word by word
+              `wbl check`, and goes on by `wbl run`, and what that leaves is compared word by word
     room      lives over a device of version 1, 2 and 3, stopped anywhere with any survivor of each word, by the proved program of
               crates/test_lives, which the gate runs on 30 seeds
     memory    a script of lives one of whose requests for memory is refused, where the program takes its memory from the C library
@@ -21,7 +21,7 @@ A seed is a game, and the same seed is the same game. There are five kinds:
 
 What each prints is compared with what the engine in Python says, to the letter (`room` with a model of its own). It prints how much was
 played, and of a difference its seed and the least script that it found for it, and ends with 1. If it can't go on, since the disk is
-full or it fails itself, it says so and ends with 2: that is no difference. It needs `bin/wbl` and `bin/kv`, which `./build` makes, and for
+full or it fails itself, it says so and ends with 2: that isn't a difference. It needs `bin/wbl` and `bin/kv`, which `./build` makes, and for
 `room` the program that `rt run` in crates/test_lives makes. The controls need nothing, since `rt try` builds their programs without
 proofs.
 """
@@ -101,7 +101,7 @@ def timed(seed, kinds, programs):
 
 
 def work(words, kinds, refuse, job, out):
-    """Plays every so many games from the job's first seed on, and puts what comes of each out: what was found, or why it can't go on."""
+    """Plays each of the job's games, from its first seed on, and puts out what comes of it: what was found, or why it can't go on."""
     end = time.monotonic() + 60 * words.minutes if words.minutes else None
     with tempfile.TemporaryDirectory() as folder:
         programs = Programs(words.wbl, words.kv, words.room, refuse, folder)
@@ -134,7 +134,7 @@ def print_found(seed, said, script):
 
 
 def simulate(words, refuse):
-    """Plays in so many processes, and prints what comes of it. The status."""
+    """Plays in that many processes, and prints what comes of it. The status."""
     kinds = kinds_here(words, refuse)
     if not kinds:
         raise SystemExit("nothing can be played")
@@ -171,8 +171,8 @@ def simulate(words, refuse):
 def main():
     parser = argparse.ArgumentParser(prog="./simulate", description=__doc__, formatter_class=argparse.RawDescriptionHelpFormatter)
     parser.add_argument("--seed", type=int, default=0, metavar="N", help="the first seed, else one that was never played")
-    parser.add_argument("--minutes", type=float, default=0, metavar="M", help="after so many it ends; else it doesn't")
-    parser.add_argument("--games", type=int, default=0, metavar="N", help="after so many it ends; else it doesn't")
+    parser.add_argument("--minutes", type=float, default=0, metavar="M", help="ends after that many; by default it doesn't end")
+    parser.add_argument("--games", type=int, default=0, metavar="N", help="ends after that many; by default it doesn't end")
     parser.add_argument("--jobs", type=int, default=1, metavar="J", help="how many processes play")
     parser.add_argument("--only", choices=list(KINDS), help="this kind of game alone")
     parser.add_argument("--wbl", default=str(ROOT / "bin/wbl"), metavar="FILE", help="the program, by default bin/wbl")
