@@ -19,6 +19,7 @@ pub struct Audited<D: Pmem> {
     pub(crate) room: Room<D>,
     pub(crate) opening: Status,
     pub(crate) entries: Vec<(Step, Note)>,
+    /// Of every value: its entries are such a run.
     pub ghost audited: { ∥ HasHistory D.state room opening entries.items ∥₁ },
 }
 
@@ -51,8 +52,6 @@ impl<D: Pmem + Drop> Audited<D> {
 
         // The numbers of the opening stay, and a run from an image stays one from it.
         ensures opening { self.new.opening ≡ self.old.opening }
-
-        // If the history is a run from an image, it stays one from there.
         ensures audited { (image : Image) → IsAudited D.state self.old.room image self.old.opening self.old.entries.items → IsAudited D.state self.new.room image self.new.opening self.new.entries.items }
     {
         if self.entries.reserve(1).is_err() {

@@ -41,17 +41,11 @@ impl<D: Pmem + Drop + Send + Sync> Audited<D> {
         // As for `Room::open`.
         ensures no_failure { IfOk result (λ audited. HasNoFailure (D.state device) (device_of D.state audited.room)) }
         ensures fault { IfErr result (λ e. IsRefusal (opening_fault (image_of (D.state device))) (D.state device) (D.state e.1) e.0) }
-
-        // What is wrong with its log is reported before lack of memory.
         ensures log { IfErr result (λ e. ReportsLogFault (image_of (D.state device)) e.0) }
-
-        // The operations, and the words of superblock and slots, are as when a room is opened.
         ensures made { IfOk result (λ audited. MakesOpening (image_of (D.state device)) (D.state device) (device_of D.state audited.room)) }
         ensures superblock { IfOk result (λ audited. (word : ℕ) → word < 8 → IsSettledAt (device_of D.state audited.room) word (slice_index (updated (image_of (D.state device))) word)) }
         ensures slots { IfOk result (λ audited. (word : ℕ) → 8 + 32 * (layout_of (image_of (D.state device))).places ≤ word → word < (D.state device).words
             → IsSettledAt (device_of D.state audited.room) word (slice_index (opened_slots (image_of (D.state device))) word)) }
-
-        // A crash at any moment leaves the same history, as a crash does while a room is opened.
         ensures images { (history drawn : List Commit) (next : ℕ)
             → Stands (image_of (D.state device)) history drawn next
             → MatchResult result

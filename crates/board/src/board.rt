@@ -93,6 +93,7 @@ impl<J: Naming, R: Wait + Drop> BoardWriter<J, Shelf<J>, Step<J>, R> {
         // long commits.
         ensures board { IfOk result (λ opened. opened.0 ≡ record { list = opening coverage rows.now; waits = [] }) }
 
+        // There are readers, from one up to the number asked for, each of which has seen them.
         ensures readers { IfOk result (λ opened. (0 < length opened.1.items) × (length opened.1.items ≤ readers) × All (λ reader. reader ≡ opened.0.list) opened.1.items) }
 
         // It is refused only for lack of memory.

@@ -23,8 +23,6 @@ pub fn words_give_orders()
     // before the file or after it. A value is in a word of its own or follows a `=`.
     ensures run { (a : Bor Text) → a.now ≡ codes "a" → Gives (codes "run" ∷ codes "a" ∷ []) (Run a) }
     ensures defaults { (a : Bor Text) → a.now ≡ codes "a" → Gives (codes "format" ∷ codes "a" ∷ []) (Format a false 1024 4 64) }
-
-    // Options come before the file or after it. A value is in a word of its own or follows a `=`.
     ensures options { (a : Bor Text) → a.now ≡ codes "a" → Gives (codes "format" ∷ codes "--slots" ∷ codes "8" ∷ codes "a" ∷ codes "--places=2" ∷ codes "--wide" ∷ []) (Format a true 8 2 64) }
     ensures threads { (a : Bor Text) → a.now ≡ codes "a" → Gives (codes "threads" ∷ codes "a" ∷ codes "--commits" ∷ codes "3" ∷ []) (Threads a 4 3) }
 

@@ -33,8 +33,6 @@ pub fn parse_script_line(alloc: Global, line: &[u8]) -> Result<Option<ScriptLine
     // As for `parse_line`.
     ensures ok { IfOk result (λ read. script_line_of line.now ≡ Some read) }
     ensures refused { IfErr result (λ fault. fault ≡ NotACommand → script_line_of line.now ≡ None) }
-
-    // Only a row takes memory.
     ensures memory { IfErr result (λ fault. fault ≡ OutOfMemory → SpellsScriptPut line.now) }
 {
     if is_skipped(line) {

@@ -18,6 +18,8 @@ pub struct OpenedRoom<D: Pmem> {
     pub(crate) room: Room<D>,
     /// Why nothing more will be covered: the fault that the committer was refused with, in this very run.
     pub(crate) ended: Option<Fault>,
+    /// Of every value: the room shows the end of a run from the opening of some device. If a fault is kept as the reason why the
+    /// committer has ended, a tick in that run was refused with it.
     ghost run: { ∥ HasTaken D.state room (EndedAlong ended) ∥₁ },
 }
 

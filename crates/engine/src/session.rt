@@ -44,7 +44,7 @@ impl<D: Pmem + Drop, J: Origin, B: Drop> Session<D, J, B> {
     ghost use Rattle.engine.specs.Receipts.{Asks, Refuses, Answers, Declines};
     ghost use Rattle.engine.specs.Calls.{note_of_poll};
 
-    /// Begins a transaction. Fails with `WrongState`, without a step, exactly if one is open.
+    /// Begins a transaction.
     pub fn begin<R: Wait>(&mut self, rt: &R) -> Result<(), Fault>
         // The step asked was kept, its receipt is added, and what is returned is its note's.
         ensures ok { IfOk result (λ _. (n : ℕ) × (self.old.phase ≡ Idle) × Asks self.old.receipts.items self.new.receipts.items Begin (Began n) × (self.new.phase ≡ Active n)) }
@@ -72,13 +72,9 @@ impl<D: Pmem + Drop, J: Origin, B: Drop> Session<D, J, B> {
 
     /// The row under the key, as the transaction sees it.
     pub fn get<R: Wait>(&mut self, rt: &R, key: Key) -> Result<Option<Row>, Fault>
-        // The step asked was kept, its receipt is added, and what is returned is its note's.
+        // As for `begin`, but it is NoSession without a step, exactly if no transaction is open.
         ensures ok { IfOk result (λ row. Answers self.old.phase self.old.receipts.items self.new.receipts.items (Get (number_of self.old.phase) key) (RowNote row)) }
-
-        // As for `begin`, but NoSession without a step, exactly if no transaction is open.
         ensures err { IfErr result (λ fault. Declines self.old.phase self.old.receipts.items self.new.receipts.items (Get (number_of self.old.phase) key) fault) }
-
-        // As for `begin`.
         ensures phase { self.new.phase ≡ self.old.phase }
         ensures published { self.new.published ≡ self.old.published }
     {
@@ -98,13 +94,9 @@ impl<D: Pmem + Drop, J: Origin, B: Drop> Session<D, J, B> {
         lo: u64,
         hi: u64,
     ) -> Result<Vec<(Key, Row)>, Fault>
-        // The step asked was kept, its receipt is added, and what is returned is its note's.
+        // As for `begin`, but it is NoSession without a step, exactly if no transaction is open.
         ensures ok { IfOk result (λ rows. Answers self.old.phase self.old.receipts.items self.new.receipts.items (Scan (number_of self.old.phase) table lo hi) (Rows rows.items)) }
-
-        // As for `begin`, but NoSession without a step, exactly if no transaction is open.
         ensures err { IfErr result (λ fault. Declines self.old.phase self.old.receipts.items self.new.receipts.items (Scan (number_of self.old.phase) table lo hi) fault) }
-
-        // As for `begin`.
         ensures phase { self.new.phase ≡ self.old.phase }
         ensures published { self.new.published ≡ self.old.published }
     {
@@ -124,13 +116,9 @@ impl<D: Pmem + Drop, J: Origin, B: Drop> Session<D, J, B> {
 
     /// Writes the row under the key.
     pub fn put<R: Wait>(&mut self, rt: &R, key: Key, row: Row) -> Result<(), Fault>
-        // The step asked was kept, its receipt is added, and what is returned is its note's.
+        // As for `begin`, but it is NoSession without a step, exactly if no transaction is open.
         ensures ok { IfOk result (λ _. Answers self.old.phase self.old.receipts.items self.new.receipts.items (Put (number_of self.old.phase) key row) Done) }
-
-        // As for `begin`, but NoSession without a step, exactly if no transaction is open.
         ensures err { IfErr result (λ fault. Declines self.old.phase self.old.receipts.items self.new.receipts.items (Put (number_of self.old.phase) key row) fault) }
-
-        // As for `begin`.
         ensures phase { self.new.phase ≡ self.old.phase }
         ensures published { self.new.published ≡ self.old.published }
     {
@@ -144,13 +132,9 @@ impl<D: Pmem + Drop, J: Origin, B: Drop> Session<D, J, B> {
 
     /// Deletes the row under the key, if there is one.
     pub fn delete<R: Wait>(&mut self, rt: &R, key: Key) -> Result<(), Fault>
-        // The step asked was kept, its receipt is added, and what is returned is its note's.
+        // As for `begin`, but it is NoSession without a step, exactly if no transaction is open.
         ensures ok { IfOk result (λ _. Answers self.old.phase self.old.receipts.items self.new.receipts.items (Delete (number_of self.old.phase) key) Done) }
-
-        // As for `begin`, but NoSession without a step, exactly if no transaction is open.
         ensures err { IfErr result (λ fault. Declines self.old.phase self.old.receipts.items self.new.receipts.items (Delete (number_of self.old.phase) key) fault) }
-
-        // As for `begin`.
         ensures phase { self.new.phase ≡ self.old.phase }
         ensures published { self.new.published ≡ self.old.published }
     {
@@ -164,13 +148,9 @@ impl<D: Pmem + Drop, J: Origin, B: Drop> Session<D, J, B> {
 
     /// Rolls the transaction back.
     pub fn abort<R: Wait>(&mut self, rt: &R) -> Result<(), Fault>
-        // The step asked was kept, its receipt is added, and what is returned is its note's.
+        // As for `begin`, but it is NoSession without a step, exactly if no transaction is open.
         ensures ok { IfOk result (λ _. Answers self.old.phase self.old.receipts.items self.new.receipts.items (Abort (number_of self.old.phase)) Done × (self.new.phase ≡ Idle)) }
-
-        // As for `begin`, but NoSession without a step, exactly if no transaction is open.
         ensures err { IfErr result (λ fault. Declines self.old.phase self.old.receipts.items self.new.receipts.items (Abort (number_of self.old.phase)) fault) }
-
-        // As for `begin`.
         ensures phase { IfErr result (λ fault. self.new.phase ≡ self.old.phase) }
         ensures published { self.new.published ≡ self.old.published }
     {
@@ -184,13 +164,9 @@ impl<D: Pmem + Drop, J: Origin, B: Drop> Session<D, J, B> {
 
     /// Whether the commit is covered.
     pub fn poll<R: Wait>(&mut self, rt: &R) -> Result<PollReply, Fault>
-        // The step asked was kept, its receipt is added, and what is returned is its note's.
+        // As for `begin`, but it is NoSession without a step, exactly if no transaction is open.
         ensures ok { IfOk result (λ reply. Answers self.old.phase self.old.receipts.items self.new.receipts.items (Poll (number_of self.old.phase)) (note_of_poll reply)) }
-
-        // As for `begin`, but NoSession without a step, exactly if no transaction is open.
         ensures err { IfErr result (λ fault. Declines self.old.phase self.old.receipts.items self.new.receipts.items (Poll (number_of self.old.phase)) fault) }
-
-        // As for `begin`.
         ensures phase { self.new.phase ≡ self.old.phase }
         ensures published { self.new.published ≡ self.old.published }
     {

@@ -16,7 +16,7 @@ ghost use Rattle.room.specs.Room.{Shows, StepsTo, device_of};
 use pmem::Pmem;
 use room::Room;
 
-/// A number of a record names one record, along a run.
+/// Along a run the number of a record says which record it is.
 pub fn each_gate_has_one_cover()
     // If two of the records that may rule along a run have the same number, they are the same record, over the same commits. The
     // record of closing has a greater number than all of them.

@@ -59,7 +59,7 @@ pub fn snapshots_stay()
     ensures { SnapshotsStay }
 {}
 
-/// A cycle that meets no fault is covered after as many ticks as its batch touches lines, and 41 more.
+/// How long a cycle takes, and what it replies.
 pub fn cycles_are_whole()
     // A cycle that meets no fault takes as many ticks as its batch has lines, and 41 more. Its replies are the stages in order,
     // then Covered with the batch.
@@ -76,7 +76,7 @@ pub fn timestamps_are_drawn_once()
     ensures lives { DrawnOnceOverLives }
 {}
 
-/// Whatever lives come, and wherever each is stopped, the image left stands for a history that only grows.
+/// What a chain of lives (`specs/Lives.antt`) leaves. `run_lives` of `lives` promises that its reports are such a chain.
 pub fn lives_keep_the_history()
     // Whatever lives follow each other, the image that is left stands for the history that belongs to it.
     ensures stand { WorldsStand }

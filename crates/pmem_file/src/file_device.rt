@@ -51,8 +51,8 @@ impl JournaledPmem<JournaledImages<FileStorage>> {
         open_as(rt, alloc, name, Some(geometry))
     }
 
-    /// Opens the file as [`FileDevice::open`] does, if an image is in it, of whatever geometry. No file is made: a missing or
-    /// an empty one is `Missing`. One whose format was cut short is refused, as any that isn't an image.
+    /// Opens the file as `open` does, if an image is in it, of whatever geometry. No file is made: a missing or an empty one is
+    /// `Missing`. One whose format was cut short is refused, as any that isn't an image.
     pub fn open_existing<R: Files<File = File>>(
         rt: &R,
         alloc: Global,

@@ -302,25 +302,18 @@ impl<S: Storage> JournaledPmem<JournaledImages<S>> {
         // As for `JournaledImages::open`: the journal and the tail are found only as they were read.
         requires back { length file.now ≡ words + room + 8 → IsReadBack (S.may_hold storage) words room file.now }
 
-        // It is at rest.
+        // It is at rest with the image that the file stands for, and has these places. Nothing was done to it yet, and no failure
+        // to keep an image is noted.
         ensures rest { IfOk result (λ device. IsAtRest (state_of device)) }
-
-        // Nothing was done to the device yet.
         ensures device { IfOk result (λ device. state_of device ≡ restarted (image_of (state_of device))) }
-
-        // Its image is the one that the file stands for.
         ensures stands { IfOk result (λ device. Opens words room file.now (image_of (state_of device))) }
-
-        // It has these places.
         ensures places { IfOk result (λ device. places_of device ≡ places) }
-
-        // No failure to keep an image is noted.
         ensures works { IfOk result (λ device. failure_of device ≡ None) }
 
         // No image but the device's may be found there (`MayFindIn`).
         ensures found { IfOk result (λ device. (image : List ℕ) → MayFindIn S.may_hold device image → image ≡ image_of (state_of device)) }
 
-        // At Err, whichever write fails: what `JournaledImages::open` leaves (`StandsAsBefore`).
+        // At Err, whichever write fails, it is what `JournaledImages::open` leaves (`StandsAsBefore`).
         ensures unopened { IfErr result (λ unopened. StandsAsBefore (S.may_hold storage) (S.may_hold unopened.storage) words room file.now) }
     {
         let images = JournaledImages::open(alloc, storage, file, words, room)?;
@@ -448,6 +441,7 @@ impl<I: Images> Pmem for JournaledPmem<I> {
 
     // Most fences are made while no gate is stored, and order only. One fails only where an image wasn't kept.
     fn fence(&mut self, actor: Actor) -> Result<(), Fault>
+        // As for `Pmem::fence`.
         ensures ok { OnOk result (state_of self.new ≡ fenced actor.number (state_of self.old)) }
         ensures err { OnErr result (state_of self.new ≡ failed (state_of self.old)) }
         ensures fault { IfErr result (λ fault. fault ≡ Fault.Device) }

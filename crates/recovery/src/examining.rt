@@ -59,6 +59,7 @@ pub fn read<R: Threads + Sync, D: Pmem + Sync>(
     // What was read of the log, and of each slot once.
     ensures ok { IfOk result (AreOf (image_of (D.state device.now))) }
 
+    // At Err it is the first fault of the log, or OutOfMemory.
     ensures fault { IfErr result (IsLogRefusal (image_of (D.state device.now))) }
 {
     let found = match latest(device) {
@@ -105,10 +106,15 @@ pub fn examine<R: Threads + Sync, D: Pmem + Sync>(
     alloc: Global,
     device: &D,
 ) -> Result<Examined, Fault>
+    // The image has no fault that opening reports, and this is what opening needs of it.
     ensures ok { IfOk result (λ found. IsExaminedAs (image_of (D.state device.now)) found.geometry found.ruling found.gaps found.free.items found.live.items) }
     ensures places { IfOk result (λ found. HavePlaces found.live.items found.places.entries) }
     ensures hits { IfOk result (λ found. AreHits (image_of (D.state device.now)) found.geometry found.gaps found.hits.items) }
+
+    // At Err it is the first fault that opening reports, or OutOfMemory.
     ensures fault { IfErr result (Refuses (image_of (D.state device.now))) }
+
+    // A fault of the superblock, of a gate or of the ruling record is reported even if memory is lacking.
     ensures log { IfErr result (ReportsLogFault (image_of (D.state device.now))) }
 {
     let readings = match read(rt, alloc, device) {

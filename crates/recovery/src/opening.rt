@@ -126,6 +126,8 @@ pub fn open_device<R: Threads + Sync, D: Pmem + Sync>(
     device: &mut D,
 ) -> Result<OpenedImage, Fault>
     requires { IsAtRest (D.state device.old) }
+
+    // As for `open`, and each key of a live slot has this place.
     ensures ok { IfOk result (λ life. HasOpened (D.state device.old) (D.state device.new) life.geometry life.ruling life.next life.free.items life.live.items) }
     ensures places { IfOk result (λ life. HavePlaces life.live.items life.places.entries) }
     ensures fault { IfErr result (IsRefusal (opening_fault (image_of (D.state device.old))) (D.state device.old) (D.state device.new)) }

@@ -21,7 +21,7 @@ impl Head {
     /// How many bytes a head has.
     pub const SIZE: usize = 16;
 
-    /// The head in these bytes.
+    /// The head in these bytes: its numbers are those of the 16 bytes.
     pub fn of(bytes: &[u8; 16]) -> Head
         ensures { head_bytes result ≡ bytes.now }
     {
@@ -33,7 +33,7 @@ impl Head {
         }
     }
 
-    /// Its bytes.
+    /// Its 16 bytes, which have its numbers.
     pub fn bytes(&self) -> [u8; 16]
         ensures { result ≡ head_bytes self.now }
     {

@@ -13,11 +13,11 @@ impl Sessions {
     ghost use Rattle.base.specs.declared.fault.Fault.TheVariants.{OutOfMemory};
     ghost use Rattle.session_steps.specs.Shows.{Shows, ShowsAny};
 
-    /// The covered rows.
+    /// The covered rows by rising key.
     pub fn tables<D: Pmem>(&self, alloc: Global, device: &D) -> Result<Vec<(Key, Row)>, Fault>
         requires shown { ∥ ShowsAny self.now (D.state device.now) ∥₁ }
 
-        // By rising key, those of every state that the sessions show, a failed one too. It is refused only for lack of memory.
+        // They are those of every state that the sessions show, a failed one too. It is refused only for lack of memory.
         ensures ok { IfOk result (λ rows. (q : State) → Shows self.now (D.state device.now) q → Lists rows.items (after q.history)) }
         ensures fault { IfErr result (λ fault. fault ≡ OutOfMemory) }
     {

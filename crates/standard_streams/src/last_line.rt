@@ -16,6 +16,7 @@ const ROOM: usize = 128;
 pub struct LastLine<W> {
     output: W,
     held: Vec<u8>,
+    /// Of every value: what is held has a line feed nowhere but at its end.
     ghost one_line: { IsOneLine held.items },
 }
 

@@ -20,20 +20,21 @@ pub enum StoreError {
     Missing {
         name: String,
     },
-    /// No store can be opened over this file.
+    /// No store can be opened over this file: it belongs to another program, is locked, isn't a store, is cut short or can't be
+    /// read. The file stays as it was.
     #[error("{name}: {cause}")]
     File {
         name: String,
         cause: OpenError,
     },
-    /// The file holds a store with another layout, and is left as it is.
+    /// The file holds a store with another layout, and is left as it is. `open_existing` opens that file.
     #[error("{name} has {found}, and {asked} are asked for: open it as it is by `Store::open_existing`, or copy its rows into a new one")]
     OtherLayout {
         name: String,
         found: Layout,
         asked: Layout,
     },
-    /// The contents of the file aren't what a store wrote.
+    /// The contents of the file aren't what a store wrote, at this place or slot.
     #[error("{name} is damaged at {part}: take a copy of it from before")]
     Damaged {
         name: String,
@@ -45,7 +46,7 @@ pub enum StoreError {
         name: String,
         fault: Fault,
     },
-    /// A write or a sync of the file failed, with this cause.
+    /// A write or a sync of the file failed, with this cause. All acknowledged commits are kept.
     #[error("{name}: {cause}: what was committed is kept; open it again")]
     Lost {
         name: String,
@@ -61,13 +62,15 @@ pub enum StoreError {
     /// or lacks memory.
     #[error("another commit has written table and key {0}: begin again")]
     Conflict(Key),
-    /// All tries that were allowed ended in a conflict, the last one on this key.
+    /// All tries that were allowed ended in a conflict, the last one on this key. Nothing of the transaction is kept, as after
+    /// `Conflict`.
     #[error("given up after {tries} tries, since others wrote table and key {key} each time: try again later")]
     GivenUp {
         tries: u64,
         key: Key,
     },
     /// A put found no free slot. Each row takes a slot, and so does each older version that an open transaction may still read.
+    /// The transaction stays open, as after each of the refusals below, with what it wrote before.
     #[error("no slot is free, since rows fill the store or an open transaction keeps old ones: end that transaction, or delete rows; one of fewer than 65,536 slots can be copied into a larger one")]
     Full,
     /// The row isn't a number as `put_number` writes it.
@@ -85,10 +88,10 @@ pub enum StoreError {
     /// The allocator refused memory. The step changed nothing.
     #[error("memory was refused: free some, then ask again")]
     OutOfMemory,
-    /// A write or a sync of the file failed earlier. Closing the store reports the cause.
+    /// A write or a sync of the file failed earlier. Nothing more is committed, and closing the store reports the cause.
     #[error("the file failed, and the close tells why: what was committed is kept; open the store again")]
     Failed,
-    /// The commit is kept as a whole or not at all, and it isn't known yet which.
+    /// A commit fails with this after a failure: it is kept as a whole or not at all, and the next opening shows which.
     #[error("whether the commit is kept is known when the store is opened again: {0}")]
     Unknown(Fault),
     /// The step was refused for another reason.

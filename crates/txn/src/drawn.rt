@@ -77,7 +77,8 @@ impl DrawnCommits {
         }
     }
 
-    /// The commits, by rising timestamp. The sessions that drew them have numbers below 64.
+    /// The commits in the order of their draws, which is that of their timestamps. The sessions that drew them have numbers below
+    /// 64.
     pub fn as_slice(&self) -> &[DrawnCommit]
         ensures commits { result.now ≡ self.now.commits }
         ensures numbered { IsTrue (are_numbered self.now.commits) }
@@ -136,8 +137,8 @@ impl DrawnCommits {
         stamp_in(self.commits.as_mut_slice(), timestamp);
     }
 
-    /// Commits that the snapshot covers are no longer drawn, and transactions that begin may have their sets. The others keep
-    /// their order.
+    /// Commits that the snapshot covers are no longer drawn, and no others, and transactions that begin may have their sets. The
+    /// others keep their order.
     pub fn cover(&mut self, snapshot: &Snapshot, transactions: &mut Transactions)
         ensures commits { self.new.commits ≡ filter (is_uncovered snapshot.now) self.old.commits }
         ensures transactions { transactions.new ≡ transactions.old }
