@@ -2,8 +2,8 @@
 //!
 //! `Audited` has a ghost field, so this holds whenever a value is got, from a lock too. For some image that opens, and whatever
 //! history that image stands for, the entries are a run of the plain machine (`Noted`). The run goes from the state that the
-//! image opens as, with the numbers of `opening()`, to one that the room shows. So every image that its device may leave stands
-//! for that last state.
+//! image opens as, with the numbers of `opening()`, to one that the room shows. So every image that its device may leave
+//! stands for that last state.
 #![tactic(auto)]
 
 mod audited;

@@ -1,5 +1,9 @@
 //! Counts what the modelled device, the engine and the board do: rounds of stores on the device, commits and reads of the engine, and
 //! reads on a board while a writer publishes. With `time` as the first word it also measures how fast they are.
+//!
+//! The operations that it counts are in `stdout`: ten stores, a flush and a fence for each round, 12 for an update, and one for each line
+//! and 40 for a cycle. The collector visits a place with each tick, so that the small run makes 1,600 commits on 16 slots.
+//!
 //! - `engine SLOTS KEYS COMMITS BATCH READS` runs only the engine.
 //! - `plain` takes the same numbers and runs the engine over a device that keeps no history.
 //! - `together` does so too, with the updates of a batch in one transaction.

@@ -47,8 +47,8 @@ pub fn execute<T: Threads + Wait + Copy + Drop + Send + Sync + 'static, R: Read,
     // There is something for FILE exactly if the status is 0 and the order is `format`, `run` or `threads`.
     ensures written { IsSome result.file ↔ ((result.status ≡ 0) × IsTrue (writes_file order.now)) }
 
-    // Of `format` it is byte for byte the fresh image's file. Of `run` it keeps, of whatever history the old image stands for,
-    // all commits at its beginning, and the geometry (`KeepsHistories`). So does that of `threads`.
+    // For `format` it is byte for byte the fresh image's file. For `run` and `threads` it keeps, of whatever history the old
+    // image stands for, all commits at its beginning, and the geometry (`KeepsHistories`).
     ensures file { IfSome result.file (λ left. Leaves order.now file.now left.items) }
 
     // A `format` that ends with 0 was asked for numbers within their limits.
@@ -57,35 +57,36 @@ pub fn execute<T: Threads + Wait + Copy + Drop + Send + Sync + 'static, R: Read,
     // The input is as it was, except for a `run`.
     ensures unread { IfReadsNoInput order.now (input.new ≡ input.old) }
 
-    // Of `format` its line. Of `run` a whole life: the image opens, and the lines of the input, all or up to a crash, are run
-    // from the opened state. The line of the opening, of each reply and of the end are printed, and nothing else. After a crash,
-    // what is left is an image as between two steps of the last state, with the survivor that the line names of each word of a
-    // device that shows that state. Otherwise it is an image as after closing that state (`Lives`). Of `threads`, printed are the
-    // number of commits that were asked for of all threads and the rows that the image in FILE then has in table 1 under keys
-    // below the number of threads. That number, and that the room is closed, are printed too. The image opened, with two slots
-    // free for each thread and numbers left for all commits. FILE is left with an image as closing leaves it. The state that was
-    // closed is the very one to which a run came in which the threads made their commits (`PrintsThreads`).
+    // `format` prints its line. `run` plays a whole life: the image opens, and the lines of the input, all or up to a crash, are
+    // run from the opened state. It prints the lines of the opening, of each reply and of the end, and nothing else. After a
+    // crash, what is left is an image as between two steps of the last state, with the survivor that the line names of each word
+    // of a device that shows that state. Otherwise it is an image as after closing that state (`Lives`). `threads` prints how
+    // many commits were asked for of all threads, and then the rows of table 1 that the image in FILE has under keys below the
+    // number of threads. It also prints that number, and that the room is closed. The image opened, with two slots free for each
+    // thread and numbers left for all commits. FILE is left with an image as closing leaves it. The state that was closed is the
+    // very one to which a run came in which the threads made their commits (`PrintsThreads`).
     ensures printed { IfSome result.file (λ left. Prints order.now file.now (R.remaining input.old) (W.contents output.old) (W.contents output.new) left.items) }
 
-    // Of `check` with 0 the file is that of a sound image. Printed are its ruling record, its tables' rows by rising key, how
-    // many they are, and nothing else.
+    // For `check` with 0 the file is that of a sound image. Its ruling record, its tables' rows by rising key, and how many they
+    // are, are printed, and nothing else.
     ensures checked { result.status ≡ 0 → IfCheck order.now (PrintsChecked file.now (W.contents output.old) (W.contents output.new)) }
 
-    // Of `lives` with 0 the script spells lives. Reports of a chain of these lives, asked as the script asks them, from a fresh
+    // For `lives` with 0 the script spells lives. Reports of a chain of these lives, asked as the script asks them, from a fresh
     // image of its geometry on, are printed line by line, and nothing else (`PrintsLives`, `AreLives`).
     ensures lived { result.status ≡ 0 → IfLives order.now (PrintsLives file.now (W.contents output.old) (W.contents output.new)) }
 
     // If a line is to blame, one of two things holds. Either `lives` found the script's line of the printed number wrong, and
-    // printed nothing else. Or a `run` came to a line that isn't a command, and those before it were run. Printed are then the
-    // opening, their replies and that line's number, and nothing else.
+    // printed nothing else. Or `run` came to a line that isn't a command, and those before it were run. Then the opening, their
+    // replies and that line's number are printed, and nothing else.
     ensures bad_line { IfSome result.stopped (IfBadLine (ReportsLine order.now file.now (R.remaining input.old) (W.contents output.old) (W.contents output.new))) }
 
-    // If a refusal ended the work, its fault is one of these. OutOfMemory. Of `format` and `lives`, that the numbers are out of
-    // their limits, and of `run` and `check`, the file's length or the first fault of its image. Exactly that refusal's line is
-    // printed. Of `run`, the fault of closing after all lines were run, and printed are the opening, the replies and that line.
-    // Of `threads`, the file's length, why its image doesn't open, or SlotsOut if two slots for each thread aren't free. If they
-    // are free, TimestampsOut if numbers aren't left, what `run_load` says of the engine, or why the state to which the threads'
-    // commits led can't be closed. Of `threads`, that line alone is printed (`Refuses`).
+    // If a refusal ended the work, its fault is OutOfMemory or one of these. For `format` and `lives` it says that the numbers
+    // are out of their limits, and for `run` and `check` it is the file's length or the first fault of its image. Exactly that
+    // refusal's line is printed. For `run` it may also be the fault of closing after all lines were run, and then the opening,
+    // the replies and that line are printed. For `threads` it is the file's length, why its image doesn't open, or SlotsOut if
+    // two slots for each thread aren't free. If they are free, it is TimestampsOut if numbers aren't left, what `run_load` says
+    // of the engine, or why the state to which the threads' commits led can't be closed. For `threads` that line alone is printed
+    // (`Refuses`).
     ensures refused { IfSome result.stopped (IfRefused (Refuses order.now file.now (R.remaining input.old) (W.contents output.old) (W.contents output.new))) }
 
     // If the bytes of each writer of that kind are known, a refusal's line is the last that was printed, for lack of memory too.

@@ -39,8 +39,8 @@ impl<R: Wait + Drop> Snapshot<'_, R> {
 
     /// The number under the key.
     pub fn number(&self, key: Key) -> Result<Option<u64>, StoreError>
-        // What such a step as of `get` read: no row, or the number whose 8 bytes the row is. At Err `NotANumber`, if the row
-        // doesn't have 8 bytes, or the fault.
+        // What such a step as that of `get` read: no row, or the number whose 8 bytes the row is. At Err it is `NotANumber`, if
+        // the row doesn't have 8 bytes, or the fault.
         ensures { AnswersNumber self.now.reads.session key result }
     {
         match self.get(key) {

@@ -68,9 +68,9 @@ impl<R: Files<File = File> + Threads + Wait + Copy + Drop + Send + Sync + 'stati
         ensures name { IfOk result (λ store. string_bytes store.name ≡ name.now) }
 
         // At Err memory is lacking, or it is one of `File`, `OtherLayout`, `Damaged`, `NotOpened` and `Lost`, each of which names
-        // the file. `OtherLayout` has, as asked for, the layout that was, and as found, one that a device at rest has. Of `Lost`,
-        // a write or a sync of a file failed for its cause. Of `Damaged`, the part is the one that opening a device of this
-        // layout reports. Of `NotOpened`, the fault isn't damage, and it is one that `open_database` reports.
+        // the file. `OtherLayout` has the layout that was asked for and, as found, one that a device at rest has. `Lost` has the
+        // cause for which a write or a sync of a file failed. `Damaged` names the part that opening a device of this layout
+        // reports. `NotOpened` has a fault that isn't damage, and that `open_database` reports.
         ensures err { IfErr result (IsOpeningError name.now geometry) }
     {
         let name = String::from_str(alloc, name)?;
@@ -94,7 +94,7 @@ impl<R: Files<File = File> + Threads + Wait + Copy + Drop + Send + Sync + 'stati
         ensures name { IfOk result (λ store. string_bytes store.name ≡ name.now) }
 
         // At Err memory is lacking, or it is one of `Missing`, `File`, `Damaged`, `NotOpened` and `Lost`, each of which names the
-        // file. Of `Damaged` and `NotOpened`, a device has a layout, and opening it is refused for this reason. `Damaged` names
+        // file. With `Damaged` and `NotOpened`, a device has a layout, and opening it is refused for this reason. `Damaged` names
         // the part of that layout.
         ensures err { IfErr result (IsFindingError name.now) }
     {
@@ -174,9 +174,9 @@ impl<R: Wait + Drop> Store<R> {
         requires callable { F.IsAlwaysCallable changes }
 
         // The changes were called once for each try, a thousand at most, each time on a transaction that was begun for it. In
-        // each try but the last, the draw of its session was refused for a conflict, and what was drawn by then is covered. Or
-        // the committer has ended, or a tick was refused memory. In the last try the changes returned the value that is returned,
-        // and the session's commit returned the timestamp, as `Transaction::commit` says.
+        // each try but the last, the draw of its session was refused for a conflict. By then what was drawn is covered, or the
+        // committer has ended, or a tick was refused memory. In the last try the changes returned the value that is returned, and
+        // the session's commit returned the timestamp, as `Transaction::commit` says.
         ensures ok { IfOk result (λ done. CommitsWithin F.step (λ lent. lent.now.snapshot.reads.session) 1000 changes done.0 done.1) }
 
         // After some such tries in vain, or none, no transaction was begun. Or the changes returned this error, and the session's
@@ -305,9 +305,9 @@ impl<R: Wait + Drop> Store<R> {
         // `Database::close` says.
         ensures ok { OnOk result IsCovered }
 
-        // `Lost` or `NotClosed`, which names the file. Of `NotClosed`, closing a device that was opened is refused for its fault,
-        // and no write or sync of its file failed. Of `Lost`, either closing is refused and a write or a sync failed for this
-        // cause, or all is covered and closing the file itself failed.
+        // `Lost` or `NotClosed`, which names the file. With `NotClosed`, closing a device that was opened is refused for its
+        // fault, and no write or sync of its file failed. With `Lost`, either closing is refused and a write or a sync failed for
+        // this cause, or all is covered and closing the file itself failed.
         ensures err { IfErr result (IsClosingError (string_bytes self.name)) }
     {
         let Store { name, database, .. } = self;

@@ -43,10 +43,10 @@ pub fn run_load<
     ensures has_numbers { OnOk result (OpensTo (image_of (D.state device)) (HasNumbers (load.sessions * load.commits))) }
 
     // At Err the image doesn't open (then that reason), memory is lacking, or an operation failed while opening. Or the slots
-    // aren't free (SlotsOut), or numbers aren't left (TimestampsOut). Or both are there, and one of these is why. A thread of the
-    // engine can't be started (NoThread). Closing the engine finds another room than was lent or other steps than those of its
-    // sessions, or a commit reports that nothing was written (WrongState). A run from that image has a step that was refused with
-    // this fault, which isn't one after which a thread tries again.
+    // aren't free (SlotsOut), or numbers aren't left (TimestampsOut). Or both are there, and one of the following is why. A
+    // thread of the engine can't be started (NoThread). Closing the engine finds another room than was lent or other steps than
+    // those of its sessions, or a commit reports that nothing was written (WrongState). A run from that image has a step that was
+    // refused with this fault, which isn't one after which a thread tries again.
     ensures fault { IfErr result (IsLoadFault (image_of (D.state device)) load.sessions load.commits) }
 {
     lent::<Brand, D, T>(rt, alloc, History::new(), device, load)
