@@ -92,14 +92,14 @@ impl<D: Pmem + Drop> Audited<D> {
         &self.entries
     }
 
-    /// As `Room` says, now.
+    /// The layout of the device.
     pub fn geometry(&self) -> Geometry
         ensures { (q : State) → Shows D.state self.now.room q → result ≡ q.layout }
     {
         self.room.geometry()
     }
 
-    /// As `Room` says, now.
+    /// The numbers. It takes no memory.
     pub fn status(&self) -> Status
         ensures { (q : State) → Shows D.state self.now.room q → ShowsStatus q result }
     {

@@ -85,8 +85,6 @@ impl<J: Naming, R: Wait + Drop> BoardWriter<J, Shelf<J>, Step<J>, R> {
         readers: usize,
     ) -> Result<(BoardWriter<J, Shelf<J>, Step<J>, R>, Vec<Reader<J>>), Fault>
         requires name { history ≡ J.book }
-
-        // There are readers, from one up to the number asked for, each of which has seen them.
         requires readers { (0 < readers) × (readers ≤ 8) }
 
         // These rows alone are published, and what they cover (`Coverage`): at this stamp, up to this timestamp, without these

@@ -89,7 +89,7 @@ impl<D: Pmem + Drop> Desk<D> {
 
         ensures made { AnswersStep Begin began_of result }
 
-        // One more is open if one was begun, and one less if one was ended. Whether and why the committer has ended stays as it
+        // One more is open if one was begun, and otherwise as many as before. Whether and why the committer has ended stays as it
         // was.
         ensures ended { ended_of self.new.room ≡ ended_of self.old.room }
         ensures open { self.new.open ≡ open_after self.old.open result }
@@ -153,8 +153,8 @@ impl<D: Pmem + Drop> Desk<D> {
 
         ensures made { AnswersStep (Abort session) done_of result }
 
-        // One more is open if one was begun, and one less if one was ended. Whether and why the committer has ended stays as it
-        // was.
+        // As many are open as before: `leave`, by which a transaction is over, makes no step. Whether and why the committer has
+        // ended stays as it was.
         ensures ended { ended_of self.new.room ≡ ended_of self.old.room }
         ensures open { self.new.open ≡ self.old.open }
 

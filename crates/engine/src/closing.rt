@@ -42,7 +42,7 @@ pub fn take_room<D: Pmem + Drop, J: Origin, B: Drop>(
     ensures none { IfNone result (IfSome desk.old.audited (λ audited. IsReturned opening.now first (receipts_in sessions.now) audited → ⊥)) }
     ensures kept { IfNone result (desk.new.audited ≡ desk.old.audited) }
 
-    // What else is under the lock stays.
+    // A room that is taken out is no longer there. What else is under the lock stays.
     ensures taken { IfSome result (λ _. desk.new.audited ≡ None) }
     ensures rest { (desk.new.closing ≡ desk.old.closing) × (desk.new.handed ≡ desk.old.handed) × (desk.new.halted ≡ desk.old.halted) × (desk.new.refusals ≡ desk.old.refusals) }
     ensures due { (desk.new.due ≡ desk.old.due) × (desk.new.asleep ≡ desk.old.asleep) }

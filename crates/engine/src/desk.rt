@@ -130,8 +130,7 @@ impl<D: Pmem + Drop, J: Origin> Desk<D, J> {
 
     /// A worker's step, unless the engine is being closed or there is no room.
     pub fn tick(&mut self, step: &Step) -> Option<(Reply, Option<Receipt>)>
-        // The step asked was made in the room. It is kept last, with its reply's note, and leads where the reply does. Or, for
-        // lack of memory, it was neither kept nor made.
+        // A receipt is that of the step asked, with its reply's note.
         ensures made { IfSome result (λ made. IfSome made.1 (λ receipt. (receipt.step ≡ step.now) × (receipt.note ≡ note_of made.0))) }
 
         // What the committer was refused with is kept, and nothing else is taken for it.
@@ -141,7 +140,8 @@ impl<D: Pmem + Drop, J: Origin> Desk<D, J> {
         ensures none { (result ≡ None) ↔ (IsTrue self.old.closing ⊎ (self.old.audited ≡ None)) }
         ensures same { IfNone result ((self.new.audited ≡ self.old.audited) × (self.new.halted ≡ self.old.halted) × (self.new.refusals ≡ self.old.refusals)) }
 
-        // No other step is made.
+        // Otherwise the step asked, and no other, was made in the room. It is kept last, with its reply's note, and leads where
+        // the reply does. Or, for lack of memory, it was neither kept nor made.
         ensures only { IfSome result (λ made. MakesOnly D.state self.old.audited self.new.audited step.now made.0 made.1) }
 
         // A batch that it covered is one that a run from the lent image covered last.

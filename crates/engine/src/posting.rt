@@ -179,7 +179,7 @@ fn publish<R: Wait + Drop, J: Naming>(board: &mut Board<J, R>, left: Option<Batc
 
 // Raises the lowest stamp that may be read, so that sixteen stay readable.
 fn prune<R: Wait + Drop, J: Naming>(board: &mut Board<J, R>) -> Result<(), Fault>
-    // Sixteen stamps stay readable. If memory is lacking, the change waits on the board.
+    // Sixteen stamps stay readable. If memory is lacking, the board is as before, or the change waits there.
     ensures few { last_stamp board.old.list ≤ board.old.list.floor + 15 → (result ≡ Ok tt) × (board.new ≡ board.old) }
     ensures many { board.old.list.floor + 15 < last_stamp board.old.list → MatchResult result
         (λ _. board.new ≡ shown (waiting board.old (Raise (last_stamp board.old.list - 15))))

@@ -4,7 +4,6 @@
 //! The laws of `src/law.rt` are about a room over any device. The others are about a room over a `JournaledPmem` that came from a
 //! device at rest, whose clock is 0: `RunsSince` with 0, as `journaled_rooms_begin` gives it. A device at an instant within a
 //! step goes on to the one that the step leaves (`Continues`).
-
 #![tactic(auto)]
 
 mod journaled;

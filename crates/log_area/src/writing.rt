@@ -86,7 +86,7 @@ impl Writing {
         requires unfinished { self.old.stage ≢ WritingStage.Done }
         requires size { (D.state device.old).words ≡ total_words self.old.layout }
 
-        // At Ok the writing is at the next stage, which is returned.
+        // At Ok the writing is at its next stage, and what the committer reports of that is returned.
         ensures reached { IfOk result (λ stage. stage ≡ reached_by self.old.stage) }
         ensures ok { OnOk result (self.new ≡ advanced self.old) }
 

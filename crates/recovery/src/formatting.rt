@@ -58,7 +58,7 @@ pub fn format_new<D: Pmem>(device: &mut D, geometry: Geometry) -> Result<bool, F
     // isn't 0, and it is as it was.
     ensures made { IfOk result (HasFormattedNew geometry (D.state device.old) (D.state device.new)) }
 
-    // As many operations were made as formatting makes, or none.
+    // At Ok(true) exactly as many operations were made as formatting makes.
     ensures operations { result ≡ Ok true → Makes (total_words geometry + 33) (total_words geometry / 8 + 7) 6 0 (D.state device.old) (D.state device.new) }
 
     // As for `format`.

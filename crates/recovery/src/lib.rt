@@ -2,7 +2,6 @@
 //!
 //! Opening has two halves. `examine` reads what the image holds, and takes all the memory that opening takes. `Examined::open`
 //! makes the operations, and takes none.
-
 #![tactic(auto)]
 
 mod clearing;

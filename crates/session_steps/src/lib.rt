@@ -7,7 +7,6 @@
 //! `put` and `stamp` make operations (`TakesOn`). Of them also: the device upholds that state, and each image that a crash leaves
 //! meanwhile stands within the step. Device is returned exactly if an operation failed, and any other refusal leaves the device
 //! as it was. No more operations are made than the machine allows, and each flush and fence is of the step's session.
-
 #![tactic(auto)]
 
 mod abort;

@@ -2,7 +2,6 @@
 //! theirs may get.
 //!
 //! Nothing is claimed about `reserve`: no clause says which number the system gives.
-
 #![tactic(auto)]
 
 mod descriptors;

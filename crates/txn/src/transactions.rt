@@ -211,7 +211,7 @@ impl Transactions {
         // Under it a transaction reads the snapshot and has written nothing.
         ensures opened { IfOk result (λ n. Sets self.old self.new n (Some (Active covered.now []))) }
 
-        // SessionsFull exactly if 62 are open, and at a refusal nothing changes.
+        // SessionsFull exactly if 62 are open, and otherwise OutOfMemory. At a refusal nothing changes.
         ensures same { IfErr result (λ fault. self.new ≡ self.old) }
         ensures fault { IfErr result (λ fault. (fault ≡ SessionsFull) × IsFull self.old ⊎ (fault ≡ OutOfMemory) × ((n : ℕ) × IsLowestFree self.old n)) }
     {

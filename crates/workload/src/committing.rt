@@ -120,7 +120,7 @@ fn attempt<T: Wait, D: Pmem + Drop, J: Origin, B: Drop>(
     key: Key,
     row: Row,
 ) -> Result<bool, Fault>
-    // One commit more is acknowledged and drawn, or at a fault that may pass none is, and no transaction is open then.
+    // If it is made, one commit more is acknowledged and drawn, and no transaction is open then. Otherwise none is.
     ensures ok { IfOk result (λ made. MatchBool made (MakesOne session.old.phase session.old.receipts.items session.new.receipts.items)
         (MakesNone session.old.phase session.old.receipts.items session.new.phase session.new.receipts.items)) }
     ensures closed { IfOk result (λ made. IsTrue made → session.new.phase ≡ Idle) }
