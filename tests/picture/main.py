@@ -15,7 +15,7 @@ The page shows another update, of a row of four words, whose new version takes t
 54 operations the reader chooses the survivor of each word, and sees what the next opening finds. `wbl` has opened the image of each
 choice, 261 different ones, and what the page shows is what it printed: 723 runs with those that hold the images to the program.
 
-How far it is appears on standard error. The build takes a minute or two on an idle machine, and each run of a program that was built
+Progress appears on standard error. The build takes a minute or two on an idle machine, and each run of a program that was built
 so half a second, so the page takes ten minutes, or half a minute by --program.
 """
 import argparse
