@@ -3,8 +3,9 @@
 //! keeps.
 //!
 //! No clause can name the room under the lock. What the type of that room says is known whenever the lock is taken: the room
-//! shows the end of a run from the opening of a device that was at rest (`HasTaken`). Below, *a run* is such a run.
-//! `docs/PROMISES.md` says call by call what that proves, and what it leaves open.
+//! shows the end of a run from the opening of a device that was at rest (`HasTaken`). Below, *a run* is such a run. So the clause
+//! of a call speaks of some run: that it ends in the step of the call, and that what is returned is read off its reply. That the
+//! room is that of this very database is seen in the code.
 //!
 //! After a Conflict, begin again: the commit in the way is covered by then. A transaction that is dropped is aborted, and one
 //! that only reads needs no commit. `JournaledPmem::open` keeps the layout of a file that exists. If the file is missing or

@@ -231,7 +231,7 @@ impl Index {
 
     /// Makes room for an entry of the key.
     pub fn reserve(&mut self, key: Key, near: Option<usize>) -> Result<(), Fault>
-        // There is room for the key, and every entry is as it was.
+        // Every entry is as it was.
         ensures entries { OnOk result ((k : KeyValue) → entry_at self.new k ≡ entry_at self.old k) }
         ensures room { OnOk result (GainsRoom self.old self.new key) }
 

@@ -13,11 +13,9 @@ use std::io::ErrorKind;
 
 /// The image that a file stands for: its first words, and over them the lines of the journal's entries, if the journal counts.
 pub fn image_in(alloc: Global, file: &[u64], words: usize, room: usize) -> io::Result<Vec<u64>>
-    // At Ok the words are a file with an image and a journal of these lengths, with a pass.
+    // At Ok the words are a file with an image and a journal of these lengths, with a pass, and it stands for this image.
     ensures file { OnOk result (IsFile words room (length file.now)) }
     ensures pass { OnOk result (slice_index file.now (words + room + 3) < 2) }
-
-    // The file stands for this image.
     ensures stands { IfOk result (λ image. Opens words room file.now image.items) }
 
     // At Err InvalidInput, if the words aren't a file of this length, InvalidData, if the file has no pass, or OutOfMemory.

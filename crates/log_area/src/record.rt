@@ -140,9 +140,9 @@ impl Record {
         }
     }
 
-    /// The record that a place's words hold in an image of this version, if they hold one.
+    /// The record that a place's words hold in an image of this version.
     pub fn from_words(words: &[u64], version: u64) -> Option<Record>
-        // The record that the words hold in this version. None exactly if they hold none.
+        // None exactly if they hold none.
         ensures read { IfSome result (IsRecord version words.now) }
         ensures refused { IfNone result (NoneFits version words.now) }
     {

@@ -19,7 +19,7 @@ pub fn openings_are_decided()
     ensures updated { UpdatedOpen }
 {}
 
-/// A refused step changes nothing, except that a failing device is remembered: from then on each step is refused.
+/// A refused step changes nothing, except that a failing device is remembered.
 pub fn refused_steps_change_nothing()
     // A refused step leaves the state as it was. After Device, only `failed` is set.
     ensures keeps { RefusedKeeps }

@@ -68,7 +68,7 @@ impl<I: Images> JournaledPmem<I> {
     ghost use Rattle.pmem.specs.Words.{IsAtRest, Survives};
     ghost use Rattle.pmem_file.specs.Devices.{MayFind, images_of, kept_at, places_of, state_of};
 
-    /// A device at rest with these words, whose image is kept there.
+    /// A device over a place in which images are kept.
     pub fn new(
         alloc: Global,
         words: Vec<u64>,
@@ -78,12 +78,10 @@ impl<I: Images> JournaledPmem<I> {
         // No other image is found there than these words.
         requires holds { (image : List ℕ) → I.may_hold images image → image ≡ words.items }
 
-        // It is at rest with these words, and with this number of places for records.
+        // It is at rest with these words and has this number of places for records. Its image is kept there (`images_of`).
         ensures rest { IfOk result (λ made. IsAtRest (state_of made)) }
         ensures device { IfOk result (λ made. state_of made ≡ restarted words.items) }
         ensures places { IfOk result (λ made. places_of made ≡ places) }
-
-        // Its image is kept there (`images_of`).
         ensures keeps { IfOk result (λ made. images_of made ≡ images) }
 
         // At Err memory was refused, and these images are returned.

@@ -77,7 +77,7 @@ impl Snapshot {
         self.longs
     }
 
-    /// Whether the commit of this timestamp is covered: whether a record with these numbers commits it.
+    /// Whether the commit of this timestamp is covered.
     pub fn covers(&self, ts: Ts) -> bool
         // Exactly whether a record with these numbers commits the timestamp.
         ensures covers { result ≡ covers self.now ts }

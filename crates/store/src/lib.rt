@@ -16,8 +16,9 @@
 //! but flipped bits in a row or its key aren't noticed.
 //!
 //! A `get` or a `scan` waits for the lock: for another call's step, or for the ticks of a committer's turn. No read waits for a
-//! commit, nor for the sync of one. In the clauses, *a run* is one of the plain machine that begins with the opening of a device.
-//! `docs/PROMISES.md` says call by call what that proves, and what it leaves open.
+//! commit, nor for the sync of one. None of these calls can name the store that a lock holds, so each speaks of some run, as the
+//! calls of `database` do: *a run* is one of the plain machine that begins with the opening of a device. That it is the run of
+//! this very store is seen in the code.
 //!
 //! `error_of` says which `StoreError` each fault becomes by `?`, and `commit_error` which one each refusal of a commit becomes
 //! (`crates/store/specs/Errors.antt`). This is proved of the conversions. A transaction that is read as a snapshot shows its own

@@ -203,7 +203,7 @@ impl Transactions {
         self.active.next(from)
     }
 
-    /// Opens a transaction that reads what is covered, under the lowest number that is free. Its memory is taken here.
+    /// Opens a transaction that reads what is covered. Its memory is taken here.
     pub fn begin(&mut self, covered: &Covered<'_>) -> Result<u8, Fault>
         // The lowest free number from 2.
         ensures number { IfOk result (λ n. IsLowestFree self.old n) }
