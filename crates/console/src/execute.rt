@@ -200,7 +200,7 @@ fn report_stop<W: Write>(alloc: Global, stop: &Stop, output: &mut W) -> Ended
 
 // Prints the line of a refusal, or of a line that isn't a command. If that fails, the failure is what ended the work.
 fn announce<W: Write>(alloc: Global, stop: &Stop, output: &mut W) -> Stop
-    // It is the one with which the work stopped, and it was printed.
+    // The line that isn't a command, or the fault, is the one with which the work stopped, and it was printed.
     ensures bad_line { IfBadLine (λ number. IsLineOf stop.now number × PrintsBadLine (W.contents output.old) (W.contents output.new) number) result }
     ensures refused { IfRefused (λ fault. IsFaultOf stop.now fault × Appends (W.contents output.old) (W.contents output.new) (refusal_line fault)) result }
 
