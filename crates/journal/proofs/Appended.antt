@@ -37,7 +37,7 @@ over-append : (a b : List Line) (word v : ℕ) → put_over (a ++ b) word v ≡ 
 over-append [] b word v = refl
 over-append (line ∷ a) b word v = over-append a b word _
 
--- ---- the journal of a file that is as another one but for what is appended
+-- ---- the journal of a file that is as another one, except for what is appended
 
 -- a place behind the entries of the journal
 pub record IsBehind (words room position : ℕ) (file begun behind : List ℕ) : Type 0 where

@@ -108,7 +108,7 @@ only-stands may_hold words room file image opens only = opened-stands may_hold w
 
 -- ---- the image is put in place
 
--- what is found is as it was, but for a run
+-- what is found is as it was, except for a run
 pub found_beside : (old new : ℕ → ℕ → Type 0) (count start : ℕ) (news file found : List ℕ) → HoldsOnly old count file → Puts old new start news → IsFound new count found
     → (word : ℕ) → word < count → (get_or found word 0 ≡ get_or file word 0) ⊎ IsInRun start news word (get_or found word 0)
 found_beside old new count start news file found holds puts is word lt = grind (arith)

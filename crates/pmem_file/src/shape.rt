@@ -335,7 +335,7 @@ fn growing_shape(alloc: Global, file: &[u64], asked: &Option<Geometry>) -> io::R
 }
 
 /// How many words the image has of a file of these words that was being made longer, by a program of now or an older one: behind
-/// it there is nothing yet, but for words of a journal's first tail.
+/// it there is nothing yet, except for words of a journal's first tail.
 #[tactic(auto, using(crate::proofs::Shapes::grown, crate::proofs::Shapes::ungrown))]
 pub fn grown_image(file: &[u64]) -> Option<usize>
     // Exactly of these files (`IsGrown`).
@@ -354,7 +354,7 @@ pub fn grown_image(file: &[u64]) -> Option<usize>
     None
 }
 
-// Whether the file was being made as long as this shape: behind its image there is nothing yet, but for words of the first tail.
+// Whether the file was being made as long as this shape: behind its image there is nothing yet, except for words of the first tail.
 fn is_grown(file: &[u64], shape: Shape) -> bool
     requires { whole shape < 2 ^ 58 }
     ensures { IsTrue result ↔ (length file.now ≡ whole shape) × IsNothingBehind shape.words shape.room (drop shape.words file.now) }
@@ -362,7 +362,7 @@ fn is_grown(file: &[u64], shape: Shape) -> bool
     file.len() == shape.whole() && is_first_behind(&file[shape.words..], shape)
 }
 
-// This shape, if the file was being made as long: behind its image there is nothing yet, but for words of the first tail.
+// This shape, if the file was being made as long: behind its image there is nothing yet, except for words of the first tail.
 #[tactic(auto, using(crate::proofs::Shapes::growing))]
 fn grown_shape(
     alloc: Global,

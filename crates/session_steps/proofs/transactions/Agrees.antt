@@ -24,7 +24,7 @@ pub session-kept : (o : Origin) (n m : ℕ) (q q' : State) (seen : ℕ) (t : Opt
     → HoldsSession o q m seen t → HoldsSession o q' m seen t
 session-kept o n m q q' seen a same sees apart holds = grind (arith, writes-kept)
 
--- what agrees but for the sessions and the free slots
+-- what agrees, except for the sessions and the free slots
 pub agrees-changed : (s : Sessions) (h : Hidden) (ts : List (Option Transaction)) (slots : List Bool) (seen : ℕ → ℕ) (held : ℕ → Option Version) (n : ℕ) (x : Option Transaction)
     → Agrees s h.origin h.seen (plain_of s h) → Sets s.transactions ts n x → Moves n h.held held
     → ((m : ℕ) → nat_eq m n ≡ false → seen m ≡ h.seen m)
