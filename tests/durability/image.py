@@ -224,7 +224,7 @@ def what_is_replaced(wbl, _kv, folder):
 
 
 def owners_and_rights(wbl, _kv, folder):
-    """A replaced file keeps owner and permissions, but for rights that it would give to others."""
+    """A replaced file keeps owner and permissions, except for rights that it would give to others."""
     for mode in (0o600, 0o640, 0o444, 0o666, 0o4600, 0o2755):
         file = made(wbl, folder)
         if os.getuid() == 0:
@@ -235,7 +235,7 @@ def owners_and_rights(wbl, _kv, folder):
         new = os.stat(file)
         want((new.st_uid, new.st_gid, stat.S_IMODE(new.st_mode)) == (old.st_uid, old.st_gid, mode & 0o777), f"{mode:o}: {new}")
         os.remove(file)
-    return "six modes, each kept but for set-user-id and set-group-id"
+    return "six modes, each kept except for set-user-id and set-group-id"
 
 
 def one_lasts(wbl, kv, folder):

@@ -188,7 +188,7 @@ def refuse_run(programs, name, reserved, folder):
 
 
 def refuse_kv(programs, is_new, folder):
-    """kv over a file: what it answered committed is there, as a whole, and what it didn't isn't, but for the last of a run that failed."""
+    """kv over a file: what it answered committed is there, as a whole, and what it didn't isn't, except for the last of a run that failed."""
     counts = Counter()
     file = os.path.join(folder, "kv.img")
     refusing.run([programs.kv, file], b"", folder)
