@@ -585,7 +585,7 @@ const char *nipamast_strerror(int result) {
     case NIPAMAST_TOO_MANY_OPEN: return "as many transactions, stores or cursors are open as there may be";
     case NIPAMAST_NO_MEMORY: return "memory was refused";
     case NIPAMAST_FAILED: return "the file failed before: open the store again";
-    case NIPAMAST_UNKNOWN: return "whether the commit is kept is known when the store is opened again";
+    case NIPAMAST_UNKNOWN: return "it isn't known whether the commit is kept until the store is opened again";
     case NIPAMAST_REFUSED: return "refused";
     default: return "an unknown result";
     }

@@ -145,7 +145,7 @@ fn format_command<'a>(alloc: Global) -> Result<Command<'a>, AllocError>
     let slots = with_argument(
         file,
         number_option(alloc, "slots", "1024", 1, 65_536).help(
-            "How many versions of rows there is room for, 1 to 65536",
+            "How many row versions there is room for, 1 to 65536",
         ),
     );
     let places = with_argument(
@@ -169,7 +169,7 @@ fn run_command<'a>(alloc: Global) -> Result<Command<'a>, AllocError>
     subcommand(
         alloc,
         "run",
-        "Opens the image in FILE and obeys the lines of standard input",
+        "Opens the image in FILE and runs the lines of standard input",
         RUN_EXAMPLE,
         file_argument(alloc),
     )
@@ -203,7 +203,7 @@ fn lives_command<'a>(alloc: Global) -> Result<Command<'a>, AllocError>
     subcommand(
         alloc,
         "lives",
-        "Lives the lives of the script in SCRIPT, each stopped by a crash, and reports them",
+        "Runs the lives of the script in SCRIPT, each ended by a simulated crash, and reports them",
         LIVES_EXAMPLE,
         name_argument(alloc, "SCRIPT", "The file that holds the script"),
     )

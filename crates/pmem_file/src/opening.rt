@@ -17,17 +17,17 @@ pub enum OpenError {
     Busy,
     #[error("another process has just replaced the file: open it again")]
     Replaced,
-    #[error("it is no regular file")]
+    #[error("it isn't a regular file")]
     NotAFile,
     #[error("a standard stream is closed, and the file would take its number")]
     StandardStream,
     #[error("no image begins here, and it isn't empty: name another file")]
     NotAnImage,
-    #[error("{extra} bytes stand after its image, which has {length}")]
+    #[error("{extra} bytes follow its image, which has {length}")]
     Trailing { extra: u64, length: u64 },
     #[error("its image is cut short: {missing} bytes of {length} are missing")]
     Short { missing: u64, length: u64 },
-    #[error("a journal lies behind its image, and its last 64 bytes, which name it, are damaged")]
+    #[error("a journal follows its image, and the last 64 bytes, which name it, are damaged")]
     NoTail,
     #[error("{0}")]
     Image(Fault),

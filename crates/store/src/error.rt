@@ -28,14 +28,14 @@ pub enum StoreError {
         cause: OpenError,
     },
     /// The file holds a store with another layout, and is left as it is. `open_existing` opens that file.
-    #[error("{name} has {found}, and {asked} are asked for: open it as it is by `Store::open_existing`, or copy its rows into a new one")]
+    #[error("{name} has {found}, but {asked} were asked for: open it as it is by `Store::open_existing`, or copy its rows into a new one")]
     OtherLayout {
         name: String,
         found: Layout,
         asked: Layout,
     },
     /// The contents of the file aren't what a store wrote, at this place or slot.
-    #[error("{name} is damaged at {part}: take a copy of it from before")]
+    #[error("{name} is damaged at {part}: restore a backup")]
     Damaged {
         name: String,
         part: Part,
@@ -64,7 +64,7 @@ pub enum StoreError {
     Conflict(Key),
     /// All tries that were allowed ended in a conflict, the last one on this key. Nothing of the transaction is kept, as after
     /// `Conflict`.
-    #[error("given up after {tries} tries, since others wrote table and key {key} each time: try again later")]
+    #[error("{tries} tries ended in conflicts, the last one on table and key {key}: try again later")]
     GivenUp {
         tries: u64,
         key: Key,
@@ -86,13 +86,13 @@ pub enum StoreError {
     #[error("62 transactions are open: end one first")]
     TooManyTransactions,
     /// The allocator refused memory. The step changed nothing.
-    #[error("memory was refused: free some, then ask again")]
+    #[error("out of memory: free some, then try again")]
     OutOfMemory,
     /// A write or a sync of the file failed earlier. Nothing more is committed, and closing the store reports the cause.
-    #[error("the file failed, and the close tells why: what was committed is kept; open the store again")]
+    #[error("a write or a sync of the file failed before, and closing says why: what was committed is kept; open the store again")]
     Failed,
     /// A commit fails with this after a failure: it is kept as a whole or not at all, and the next opening shows which.
-    #[error("whether the commit is kept is known when the store is opened again: {0}")]
+    #[error("it isn't known whether the commit is kept until the store is opened again: {0}")]
     Unknown(Fault),
     /// The step was refused for another reason.
     #[error("{0}")]
