@@ -15,7 +15,7 @@ impl<D: Pmem + Drop + Send + Sync> Audited<D> {
     ghost use Rattle.base.specs.Stands.{Stands};
     ghost use Rattle.machine.specs.Openings.{StandsOpening, opened_slots, updated};
     ghost use Rattle.pmem.specs.Words.{LeavesOnly, IsAtRest, image_of, IsSettledAt, HasNoFailure};
-    ghost use Rattle.recovery.specs.Opened.{IsRefusal, MakesOpening};
+    ghost use Rattle.recovery.specs.Opened.{IsRefusal, IsUpdatedFirst, MakesOpening};
     ghost use Rattle.recovery.specs.Read.{ReportsLogFault};
     ghost use Rattle.room.specs.Room.{Shows, ShowsStatus, device_of};
     ghost use Rattle.room.specs.Runs.{OpensTo};
@@ -51,6 +51,9 @@ impl<D: Pmem + Drop + Send + Sync> Audited<D> {
             → MatchResult result
             (λ audited. LeavesOnly (D.state device) (device_of D.state audited.room) (StandsOpening (image_of (D.state device)) history next))
             (λ e. LeavesOnly (D.state device) (D.state e.1) (StandsOpening (image_of (D.state device)) history next)) }
+        ensures version { MatchResult result
+            (λ audited. LeavesOnly (D.state device) (device_of D.state audited.room) (IsUpdatedFirst (image_of (D.state device))))
+            (λ e. LeavesOnly (D.state device) (D.state e.1) (IsUpdatedFirst (image_of (D.state device)))) }
     {
         let room = match Room::open(rt, alloc, device) {
             Ok(room) => room,

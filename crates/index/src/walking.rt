@@ -69,6 +69,7 @@ impl Index {
         // The same row, put where the caller has room for one, and its slot.
         ensures slot { IfSome result (λ slot. slot < geometry.slots) }
         ensures some { IfSome result (λ slot. (counts : ℕ → Bool) → CountsAs counts snapshot.now geometry (image_of (D.state device.now)) → HasSeen counts (image_of (D.state device.now)) slot key row.new) }
+        ensures none { IfNone result ((counts : ℕ → Bool) → CountsAs counts snapshot.now geometry (image_of (D.state device.now)) → IsLinked snapshot.now (image_of (D.state device.now)) key (entry_at self.now key).newest → (slot : ℕ) (row : List ℕ) → ¬ HasSeen counts (image_of (D.state device.now)) slot key row) }
         ensures tables { (counts : ℕ → Bool) (tables : Tables) → CountsAs counts snapshot.now geometry (image_of (D.state device.now)) → IsLinked snapshot.now (image_of (D.state device.now)) key (entry_at self.now key).newest
             → ShowsTables counts geometry (image_of (D.state device.now)) tables → option_map (λ slot. row.new) result ≡ tables key }
     {

@@ -4,6 +4,7 @@ pub mod UntouchedWords
 pub mod Ticks
 pub mod Replacing
 pub mod Whole
+pub mod Among
 pub mod Heads
 pub mod Finding
 pub mod AtRest

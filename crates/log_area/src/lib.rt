@@ -12,7 +12,7 @@ mod updating;
 mod write;
 mod writing;
 
-pub use law::records_are_replaced_whole;
+pub use law::{records_are_replaced_among_others, records_are_replaced_whole};
 pub use reading::latest;
 pub use record::Record;
 pub use ruling::Ruling;

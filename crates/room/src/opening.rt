@@ -7,7 +7,7 @@ ghost use Rattle.base.specs.Images.{Image, opening_fault};
 ghost use Rattle.base.specs.Stands.{Stands};
 ghost use Rattle.machine.specs.Openings.{StandsOpening};
 ghost use Rattle.pmem.specs.Words.{LeavesOnly, IsAtRest, image_of};
-ghost use Rattle.recovery.specs.Opened.{HasExamined, IsRefusal, MakesOpening, Refuses};
+ghost use Rattle.recovery.specs.Opened.{HasExamined, IsRefusal, IsUpdatedFirst, MakesOpening, Refuses};
 ghost use Rattle.recovery.specs.Read.{AreOf, ReportsLogFault};
 ghost use Rattle.room.specs.Opening.{HasBegun, HasEntries, HasLearnt};
 
@@ -73,6 +73,12 @@ impl<D: Pmem + Drop + Send + Sync> Room<D> {
             → MatchResult result
             (λ room. LeavesOnly (D.state device) (device_of D.state room) (StandsOpening (image_of (D.state device)) history next))
             (λ e. LeavesOnly (D.state device) (D.state e.1) (StandsOpening (image_of (D.state device)) history next)) }
+
+        // If the version changes, it persists before anything else is stored. Each image that a crash may leave since then, at
+        // Err too, has the new version, or is the old one as a whole.
+        ensures version { MatchResult result
+            (λ room. LeavesOnly (D.state device) (device_of D.state room) (IsUpdatedFirst (image_of (D.state device))))
+            (λ e. LeavesOnly (D.state device) (D.state e.1) (IsUpdatedFirst (image_of (D.state device)))) }
     {
         let mut device = device;
         match begin(rt, alloc, &mut device) {
@@ -99,6 +105,7 @@ fn begin<R: Threads + Sync, D: Pmem + Sync>(
     ensures log { IfErr result (ReportsLogFault (image_of (D.state device.old))) }
     ensures images { (history drawn : List Commit) (next : ℕ) → Stands (image_of (D.state device.old)) history drawn next
         → LeavesOnly (D.state device.old) (D.state device.new) (StandsOpening (image_of (D.state device.old)) history next) }
+    ensures version { LeavesOnly (D.state device.old) (D.state device.new) (IsUpdatedFirst (image_of (D.state device.old))) }
 {
     let learnt = match learn(rt, alloc, device) {
         Ok(learnt) => learnt,

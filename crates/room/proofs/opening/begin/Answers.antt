@@ -3,7 +3,7 @@ use Rattle.base.specs.Layout.{total_words}
 use Rattle.base.specs.declared.fault.Fault.TheVariants.{OutOfMemory}
 use Rattle.pmem.specs.Words.{image_of}
 use Rattle.recovery.specs.Slots.{free_below}
-use Rattle.recovery.proofs.openings.Devices.{is, images-refused, refusal-examined, refusal-device}
+use Rattle.recovery.proofs.openings.Devices.{is, images-refused, version-refused, refusal-examined, refusal-device}
 use Rattle.recovery.proofs.reads.Images.{tells-examined}
 use Rattle.session_steps.specs.declared.sessions.Sessions.{Sessions}
 use Rattle.session_steps.specs.Opening.{HasFound, ShowsOpened}
@@ -23,6 +23,9 @@ returns-in-Err-clause-fault g c = refusal-examined (g.D.Pmem.state c.args.device
 pub returns-in-Err-clause-images : goal.returns-in-Err-clause-images
 returns-in-Err-clause-images g c = images-refused (g.D.Pmem.state c.args.device.now) ((g.met.D.Pmem g.world.𝓛 g.world.𝓜 g.world.𝓡 ((λ s x. x), (λ x. x), (λ x. x), λ x. x)).orderly c.args.device.now) c.requires.at_rest
 
+pub returns-in-Err-clause-version : goal.returns-in-Err-clause-version
+returns-in-Err-clause-version g c = version-refused (g.D.Pmem.state c.args.device.now) ((g.met.D.Pmem g.world.𝓛 g.world.𝓜 g.world.𝓡 ((λ s x. x), (λ x. x), (λ x. x), λ x. x)).orderly c.args.device.now) c.requires.at_rest
+
 -- ---- the free slots
 
 pub new-requires : goal.new-requires
@@ -37,6 +40,9 @@ returns-in-Err-new-clause-log g c =
 pub returns-in-Err-new-clause-images : goal.returns-in-Err-new-clause-images
 returns-in-Err-new-clause-images g c = images-refused (g.D.Pmem.state c.args.device.now) ((g.met.D.Pmem g.world.𝓛 g.world.𝓜 g.world.𝓡 ((λ s x. x), (λ x. x), (λ x. x), λ x. x)).orderly c.args.device.now) c.requires.at_rest
 
+pub returns-in-Err-new-clause-version : goal.returns-in-Err-new-clause-version
+returns-in-Err-new-clause-version g c = version-refused (g.D.Pmem.state c.args.device.now) ((g.met.D.Pmem g.world.𝓛 g.world.𝓜 g.world.𝓡 ((λ s x. x), (λ x. x), (λ x. x), λ x. x)).orderly c.args.device.now) c.requires.at_rest
+
 -- ---- the table of lines
 
 pub returns-in-Err-new-2-clause-log : goal.returns-in-Err-new-2-clause-log
@@ -45,6 +51,9 @@ returns-in-Err-new-2-clause-log g c =
 
 pub returns-in-Err-new-2-clause-images : goal.returns-in-Err-new-2-clause-images
 returns-in-Err-new-2-clause-images g c = images-refused (g.D.Pmem.state c.args.device.now) ((g.met.D.Pmem g.world.𝓛 g.world.𝓜 g.world.𝓡 ((λ s x. x), (λ x. x), (λ x. x), λ x. x)).orderly c.args.device.now) c.requires.at_rest
+
+pub returns-in-Err-new-2-clause-version : goal.returns-in-Err-new-2-clause-version
+returns-in-Err-new-2-clause-version g c = version-refused (g.D.Pmem.state c.args.device.now) ((g.met.D.Pmem g.world.𝓛 g.world.𝓜 g.world.𝓡 ((λ s x. x), (λ x. x), (λ x. x), λ x. x)).orderly c.args.device.now) c.requires.at_rest
 
 -- ---- the operations
 
