@@ -11,11 +11,11 @@ use Rattle.worked.specs.Runs.{start, key_8, ticks}
 use Rattle.session_laws.specs.Logs.{state_after, is_refusal, own}
 use Rattle.session_laws.specs.Sessions.{transacted}
 
--- session 2 begins, then session 3; each writes a key, and session 3 draws
+-- session 2 begins, then session 3, and each writes a key
 abbrev pub opened_both : List Step
 opened_both = Begin ∷ Begin ∷ Put 2 key_7 ab ∷ Put 3 key_8 ab ∷ []
 
--- and session 3 draws and stamps its commit
+-- then session 3 draws and stamps its commit
 abbrev pub drawn_by_3 : List Step
 drawn_by_3 = opened_both ++ Draw 3 ∷ Stamp 3 ∷ []
 
