@@ -62,13 +62,14 @@ pub record MarksTell : Type 0 where
 
 -- ---- quiet sessions
 
--- While an open session makes no step, it stays as it is. Excludes a step that changes another session's writes or its
--- timestamp, a begin under its number, and a committer that adds to what it sees
+-- While an open session makes no step, it stays as it is.
+-- Excluded: a step that changes another session's writes or its timestamp, a begin under its number, and a committer that adds to what it
+-- sees.
 abbrev pub QuietStays : Type 0
 QuietStays = (q : State) (s : ℕ) (session : Session) (log : List Step) → IsOfLife q → AreMade q log → q.sessions s ≡ Some session → own s log ≡ [] → Stays s q (state_after q log)
 
--- A session that isn't active any more stays as it is until its own end, whatever it does before that. Excludes an abort, or
--- a write, of a session that has drawn
+-- A session that isn't active any more stays as it is until its own end, whatever it does before that.
+-- Excluded: an abort, or a write, of a session that has drawn.
 abbrev pub DrawnWaits : Type 0
 DrawnWaits = (q : State) (s : ℕ) (session : Session) (log : List Step) → AreMade q log → q.sessions s ≡ Some session → standing_of q session ≢ IsActive → list_any (is_end_of s) log ≡ false
     → (state_after q log).sessions s ≡ Some session
@@ -84,11 +85,13 @@ StampedGoesOn = (q : State) (t : ℕ) (log : List Step) → AreMade q log → Go
 
 -- ---- the history
 
--- the history only grows at its end. Excludes a commit that is taken back, changed or put elsewhere
+-- The history only grows at its end.
+-- Excluded: a commit that is taken back, changed or put elsewhere.
 abbrev pub HistoryGrows : Type 0
 HistoryGrows = (q : State) (log : List Step) → AreMade q log → (more : List Commit) × ((state_after q log).history ≡ q.history ++ more)
 
--- what is drawn stays drawn, with its writes, until the history has it. Excludes a drawn commit that is forgotten
+-- What is drawn stays drawn, with its writes, until the history has it.
+-- Excluded: a drawn commit that is forgotten.
 abbrev pub DrawnIsKept : Type 0
 DrawnIsKept = (q : State) (log : List Step) (commit : Commit) → IsOfLife q → AreMade q log → Contains (drawn_of q) commit
     → Contains (drawn_of (state_after q log)) commit ⊎ Contains (state_after q log).history commit
@@ -106,14 +109,15 @@ pub record HasBegun (q : State) (s : ℕ) : Type 0 where
   pub sees : (key : Key) → seen_by (next_state q Begin) s key ≡ after q.history key
   pub others : (n : ℕ) → n ≢ s → (next_state q Begin).sessions n ≡ q.sessions n
 
--- each begin that is made opens such a session. Excludes an older or a later snapshot, and a session that is taken over
+-- Each begin that is made opens such a session.
+-- Excluded: an older or a later snapshot, and a session that is taken over.
 abbrev pub BeginsFresh : Type 0
 BeginsFresh = (q : State) → refusal q Begin ≡ None → (s : ℕ) × (free_session q ≡ Some s) × HasBegun q s
 
 -- ---- reads
 
--- an active session that reads and writes stays active, with the same snapshot, and its writes are those that it made. Excludes
--- a write that is lost, or one by another session
+-- An active session that reads and writes stays active, with the same snapshot, and its writes are those that it made.
+-- Excluded: a write that is lost, or one by another session.
 abbrev pub AccessesAddUp : Type 0
 AccessesAddUp = (q : State) (s begun : ℕ) (writes : Writes) (log : List Step) → AreMade q log → q.sessions s ≡ Some (Active begun writes) → IsTrue (list_all reads_or_writes (own s log))
     → (state_after q log).sessions s ≡ Some (Active begun (fold with_step writes (own s log)))
@@ -125,7 +129,7 @@ pub record Reads (q : State) (s : ℕ) (snapshot : List Commit) (tables : Tables
   pub scan : (table lo hi : ℕ) (rows : List (Key × List ℕ)) (q' : State) → Stepped q (Scan s table lo hi) (Rows rows) q' → Lists rows (in_range table lo hi tables)
 
 -- Since its begin a session that only reads and writes has these tables: its own writes over what was covered when it began.
--- Excludes a row that was covered since, and one that another session has written
+-- Excluded: a row that was covered since, and one that another session has written.
 abbrev pub ReadsSnapshot : Type 0
 ReadsSnapshot = (q : State) (s : ℕ) (log : List Step) → free_session q ≡ Some s → AreMade q (Begin ∷ log) → IsTrue (list_all reads_or_writes (own s log))
     → Reads (state_after q (Begin ∷ log)) s q.history (overlaid (written_by (own s log)) (after q.history))
@@ -150,9 +154,9 @@ pub record Draws (q : State) (s : ℕ) : Type 0 where
 abbrev pub DrawsWrites : Type 0
 DrawsWrites = (q : State) (s : ℕ) → IsOfLife q → refusal q (Draw s) ≡ None → Draws q s
 
--- From its draw on a commit is the only one under its timestamp, with exactly the writes that its session had; once the
--- timestamp is covered, the history has it. Excludes a commit whose writes are changed between its draw and its record, and
--- an older one that is taken for it
+-- From its draw on a commit is the only one under its timestamp, with exactly the writes that its session had; once the timestamp is
+-- covered, the history has it.
+-- Excluded: a commit whose writes are changed between its draw and its record, and an older one that is taken for it.
 abbrev pub DrawnStaysOne : Type 0
 DrawnStaysOne = (q : State) (s : ℕ) (log : List Step) → IsOfLife q → AreMade q (Draw s ∷ log) → writes_of (q.sessions s) ≢ []
     → IsOnly (commits_of (state_after q (Draw s ∷ log))) (commit_by q s)
@@ -163,9 +167,10 @@ pub record EndsCovered : Type 0 where
   pub ends : (q : State) (s t : ℕ) → q.sessions s ≡ Some (Drew t) → refusal q (End s) ≡ None → has_timestamp q.history t ≡ true
   pub polls : (q : State) (s t : ℕ) (q' : State) → Stepped q (Poll s) (Committed t) q' → (q.sessions s ≡ Some (Drew t)) × (has_timestamp q.history t ≡ true)
 
--- The history then has exactly what the session wrote since its begin, under the timestamp that it drew, and nothing else has
--- that timestamp. Excludes a write that is left out or added, one of an earlier session under the number, and a commit that is
--- acknowledged and not covered
+-- The history then has exactly what the session wrote since its begin, under the timestamp that it drew, and nothing else has that
+-- timestamp.
+-- Excluded: a write that is left out or added, one of an earlier session under the number, and a commit that is acknowledged and not
+-- covered.
 abbrev pub CommitsExactly : Type 0
 CommitsExactly = (q : State) (s : ℕ) (before more : List Step) → IsOfLife q → Transacts q s before more
     → IsKept (state_after q (Begin ∷ (before ++ Draw s ∷ more))) (transacted q s before)
@@ -175,6 +180,6 @@ abbrev pub KeptStays : Type 0
 KeptStays = (q : State) (log : List Step) (commit : Commit) → IsOfLife q → AreMade q log → IsKept q commit → IsKept (state_after q log) commit
 
 -- And there is nothing else: each commit that a state has was there, or one of the steps since is the draw that made it.
--- Excludes a commit that no session drew
+-- Excluded: a commit that no session drew.
 abbrev pub NothingElse : Type 0
 NothingElse = (q : State) (log : List Step) (commit : Commit) → IsOfLife q → AreMade q log → Contains (commits_of (state_after q log)) commit → Contains (commits_of q) commit ⊎ IsDrawnIn q log commit

@@ -11,7 +11,8 @@ use Rattle.machine.specs.Machine.{State, session_of, refusal, next_state}
 abbrev pub state_after : State → List Step → State
 state_after q log = fold next_state q log
 
--- each of the steps can be made: nothing refuses it in the state that those before it lead to
+-- Each of the steps can be made: nothing refuses it in the state that those before it lead to.
+-- Excluded: a log with a begin that found no free number.
 abbrev pub AreMade : State → List Step → Type 0
 AreMade q [] = Unit {0}
 AreMade q (step ∷ log) = (refusal q step ≡ None) × AreMade (next_state q step) log
