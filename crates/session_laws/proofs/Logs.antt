@@ -32,7 +32,7 @@ own-append s log more = filter-append (is_own s) log more
 
 -- ---- reads and polls
 
-silent-step : (q : State) (step : Step) → may_change step ≡ false → next_state q step ≡ q
+pub silent-step : (q : State) (step : Step) → may_change step ≡ false → next_state q step ≡ q
 silent-step q a silent = grind (arith)
 
 pub silent-go : (q : State) (log : List Step) → AreMade q log → AreMade q (filter may_change log) × (state_after q (filter may_change log) ≡ state_after q log)
@@ -49,20 +49,20 @@ silent-go q (step ∷ log) m = by (silent-go (next_state q step) log m.1) (may_c
 -- ---- of a run
 
 -- an answer refuses nothing
-answer-counts : (reply : Reply) → IsAnswer reply → is_refusal reply ≡ false
+pub answer-counts : (reply : Reply) → IsAnswer reply → is_refusal reply ≡ false
 answer-counts a is = grind (arith)
 
 abbrev Leads : State → List Step → State → Type 0
 Leads q log end = AreMade q log × ((end ≡ state_after q log) ⊎ (end ≡ record (state_after q log) { failed = true }))
 
-made-refusal : (one : Step × Reply) (taken : List (Step × Reply)) → is_refusal one.1 ≡ true → made (one ∷ taken) ≡ made taken
+pub made-refusal : (one : Step × Reply) (taken : List (Step × Reply)) → is_refusal one.1 ≡ true → made (one ∷ taken) ≡ made taken
 made-refusal one taken is = ap (λ (b : Bool). map (λ (x : Step × Reply). x.0) (cond (not b) (one ∷ filter (λ x. not (is_refusal x.1)) taken) (filter (λ x. not (is_refusal x.1)) taken))) is
 
-made-answer : (one : Step × Reply) (taken : List (Step × Reply)) → is_refusal one.1 ≡ false → made (one ∷ taken) ≡ one.0 ∷ made taken
+pub made-answer : (one : Step × Reply) (taken : List (Step × Reply)) → is_refusal one.1 ≡ false → made (one ∷ taken) ≡ one.0 ∷ made taken
 made-answer one taken is = ap (λ (b : Bool). map (λ (x : Step × Reply). x.0) (cond (not b) (one ∷ filter (λ x. not (is_refusal x.1)) taken) (filter (λ x. not (is_refusal x.1)) taken))) is
 
 -- a failed state makes nothing
-all_refused : (q : State) (taken : List (Step × Reply)) (states : List State) → q.failed ≡ true → Run q (map (λ one. one.0) taken) (map (λ one. one.1) taken) states
+pub all_refused : (q : State) (taken : List (Step × Reply)) (states : List State) → q.failed ≡ true → Run q (map (λ one. one.0) taken) (map (λ one. one.1) taken) states
     → (made taken ≡ []) × (final q states ≡ q)
 all_refused q [] [] failed run = (refl, refl)
 all_refused q [] (q1 ∷ states) failed run = absurd run

@@ -35,6 +35,10 @@ may_change (Scan n table lo hi) = false
 may_change (Poll n) = false
 may_change _ = true
 
+-- what was made of them, except for reads and polls
+abbrev pub changes : List (Step × Reply) → List Step
+changes taken = filter may_change (made taken)
+
 -- ---- of one session
 
 -- the step names the session. A begin names none

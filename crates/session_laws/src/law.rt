@@ -1,6 +1,7 @@
 //! What follows from the definitions. The functions do nothing: the contract of each is a law.
 
 ghost use Rattle.session_laws.specs.Laws.{RunsAreLogs, StepsAdd, SilentStepsGo, LivesBegin, LivesGoOn, LogsSplit, MarksTell, QuietStays, DrawnWaits, StampedGoesOn, HistoryGrows, DrawnIsKept, FreeIsClosed, BeginsFresh, AccessesAddUp, ReadsSnapshot, ReadsRepeat, DrawsWrites, DrawnStaysOne, EndsCovered, CommitsExactly, KeptStays, NothingElse};
+ghost use Rattle.session_laws.specs.Images.{CommitsSurvive, RunsStandInLogs};
 ghost use Rattle.session_laws.specs.Transactions.{TransactionsAddUp};
 ghost use Rattle.session_laws.specs.Example.{SideBySide};
 
@@ -76,6 +77,14 @@ pub fn commits_are_exact()
     ensures stays { KeptStays }
     // Each commit of a state was there before, or is made by the draw of a session that the log has.
     ensures only { NothingElse }
+{}
+
+/// What a crash leaves while a log goes on.
+pub fn crashes_keep_commits()
+    // What represents something along a run represents what a beginning of its log leads to, or what is within the next step.
+    ensures along { RunsStandInLogs }
+    // So it stands for a history that has each commit which was covered before.
+    ensures survive { CommitsSurvive }
 {}
 
 /// A transaction by beginnings of one log: it has begun after what was known, its calls add one step each to what it did, its

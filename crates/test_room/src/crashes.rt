@@ -1,5 +1,5 @@
 use crate::counts::operations;
-use crate::fixture::{device_after, leave, open, opened, step};
+use crate::fixture::{device_after, fresh, leave, open, opened, step};
 use crate::stories::{Opening, Shown};
 use asks::{Story, steps};
 use base::fault::Fault;
@@ -50,7 +50,8 @@ pub fn words_before<R: Threads + Sync + Abort>(
     alloc: Global,
     story: &Story,
 ) -> Result<Vec<u64>, Fault> {
-    let mut words = device_after(rt, alloc, story.slots, story.before)?.image()?;
+    let device = fresh(alloc, story.slots, 8)?;
+    let mut words = device_after(rt, alloc, device, story.before)?.image()?;
     if let Some(version) = words.get_mut(1) {
         *version = story.version;
     }

@@ -114,14 +114,14 @@ fn make_each(rt: &impl Abort, room: &mut Room<SimPmem>, steps: &[Step]) {
     }
 }
 
-/// A fresh device with this many slots and a window of 8, after these lives.
+/// The device after these lives.
 pub fn device_after<R: Threads + Sync + Abort>(
     rt: &R,
     alloc: Global,
-    slots: u64,
+    device: SimPmem,
     lives: &[Past],
 ) -> Result<SimPmem, Fault> {
-    let mut device = fresh(alloc, slots, 8)?;
+    let mut device = device;
     for past in lives {
         device = device_after_life(rt, alloc, device, past)?;
     }

@@ -1,5 +1,5 @@
 //! Formats a device that has rows, and stops after each number of operations.
-use crate::fixture::device_after;
+use crate::fixture::{device_after, fresh};
 use asks::ONE_ROW;
 use base::fault::Fault;
 use base::geometry::Geometry;
@@ -96,7 +96,8 @@ fn assert_stops<R: Threads + Sync + Abort>(
 
 #[test]
 fn format_leaves_the_old_image_or_none_or_the_new(rt: HostRuntime) -> Result<(), Fault> {
-    let image = device_after(&rt, rt.alloc(), 4, &[(ONE_ROW, false)])?.image()?;
+    let device = fresh(rt.alloc(), 4, 8)?;
+    let image = device_after(&rt, rt.alloc(), device, &[(ONE_ROW, false)])?.image()?;
     for stops in STOPS {
         assert_stops(&rt, rt.alloc(), &image, stops)?;
     }

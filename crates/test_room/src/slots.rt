@@ -2,7 +2,7 @@ ghost use Rattle.std.specs.Prelude.{◌≡◌, ◌<◌, ◌≤◌, IfOk, length}
 ghost use Rattle.base.specs.Layout.{layout_with, plain_version};
 ghost use Rattle.pmem_model.specs.Sim.{device_of};
 
-use crate::fixture::device_after;
+use crate::fixture::{device_after, fresh};
 use asks::Ask::{Begin, End, Put};
 use asks::{ONE_LINE_COVERED, Past, THREE_LINES_COVERED};
 use base::actor::Actor;
@@ -63,7 +63,7 @@ const REPLACED: Past = (
 
 #[test]
 fn opening_lists_the_live_slots(rt: HostRuntime) -> Result<(), Fault> {
-    let stopped = device_after(&rt, rt.alloc(), 4, &[REPLACED])?;
+    let stopped = device_after(&rt, rt.alloc(), fresh(rt.alloc(), 4, 8)?, &[REPLACED])?;
     assert!(rt; stopped.at_rest());
     let opened = match open(&rt, rt.alloc(), stopped) {
         Ok(opened) => opened,

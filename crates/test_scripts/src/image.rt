@@ -21,6 +21,17 @@ pub fn print_words<H: Print>(
     Ok(())
 }
 
+/// Prints this many bytes of the file, from this one on, in one line, each as two hexadecimal digits.
+pub fn print_bytes<H: Print>(rt: &H, file: &[u8], first: &str, count: &str) -> Result<(), Error> {
+    let first = first.parse::<usize>()?;
+    let count = count.parse::<usize>()?;
+    for byte in file.iter().skip(first).take(count) {
+        print!(rt; "{byte:02x}")?;
+    }
+    println!(rt; "")?;
+    Ok(())
+}
+
 /// Changes words of the image: each change is a word and its new value.
 pub fn set_words(alloc: Global, file: &mut Vec<u8>, changes: &[&str]) -> Result<(), Error> {
     let mut words = words_of_file(alloc, file.as_slice())?;

@@ -12,7 +12,7 @@ mod image;
 mod whole;
 
 use crate::failing::{Short, Torn};
-use crate::image::{print_words, set_words};
+use crate::image::{print_bytes, print_words, set_words};
 use crate::whole::{ask_program, run_beside, run_program};
 use anyhow::Error;
 use command_line::orders::{Order, WordFault};
@@ -80,6 +80,7 @@ fn obey<
         .collect(alloc)?;
     match words.as_slice() {
         ["words", first, count] => print_words(rt, alloc, file.as_slice(), first, count),
+        ["bytes", first, count] => print_bytes(rt, file.as_slice(), first, count),
         ["set", changes @ ..] => set_words(alloc, file, changes),
         ["length", bytes] => Ok(file.resize(bytes.parse::<usize>()?, 0)?),
         ["text"] => Ok(*file = Vec::from_slice(alloc, input.as_bytes())?),

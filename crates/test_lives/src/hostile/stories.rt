@@ -1,7 +1,7 @@
 use asks::{
     BATCH_OF_THREE, CLOSE_OF_THREE, COLLECTOR_SWEEPS, FIRST_VERSION_UPDATED, LONG_COMMIT_COVERED,
-    NINE_GAPS_UPDATED, NINE_ROWS, Story, Table, UPDATE_COVERED, UPDATE_LOST, UPDATE_LOST_AGAIN,
-    WIDE_ROW_INSERTED, WIDE_ROW_UPDATED,
+    NINE_GAPS_UPDATED, NINE_ROWS, SLOT_REUSED, Story, Table, UPDATE_COVERED, UPDATE_LOST,
+    UPDATE_LOST_AGAIN, WIDE_ROW_INSERTED, WIDE_ROW_UPDATED,
 };
 
 /// A story, and whether opening an image that is judged after a stop is stopped for each image, or for some. The tables
@@ -27,6 +27,7 @@ pub const STORIES: &[StoryTables] = &[
     (UPDATE_LOST, true, &[&[], &[(7, 1)]]),
     (UPDATE_LOST_AGAIN, true, &[&[(7, 1)]]),
     (UPDATE_COVERED, true, &[&[(7, 1)], &[(7, 4)]]),
+    (SLOT_REUSED, false, &[&[], &[(7, 1)], &[], &[(8, 2)]]),
     (NINE_GAPS_UPDATED, false, &[NINE_ROWS, NINE_ROWS_UPDATED]),
     (COLLECTOR_SWEEPS, false, &[&[(7, 1)], &[(7, 1)], &[(7, 2)]]),
     (BATCH_OF_THREE, false, THREE_COMMITTED),
