@@ -81,17 +81,13 @@ fn time_reads<H: Clock + Threads + Wait + Drop + Send + Sync>(
     store: &Store<H>,
     readers: &Readers,
 ) -> Result<Duration, Error> {
+    let reads = readers.reads;
     let start = Instant::now(rt)?;
-    let found = map_indices(
-        rt,
-        alloc,
-        readers.threads,
-        &|_| read_each(store, 0..readers.reads),
-    )?;
+    let found = map_indices(rt, alloc, readers.threads, &|_| read_each(store, 0..reads))?;
     for one in &found {
         match one {
-            Ok(rows) if *rows == readers.reads => {}
-            Ok(rows) => bail!("{rows} rows of {} are there", readers.reads),
+            Ok(rows) if *rows == reads => {}
+            Ok(rows) => bail!("{rows} rows of {reads} are there"),
             Err(error) => bail!("{error}"),
         }
     }
