@@ -14,6 +14,8 @@ import unittest
 
 import nipamast
 
+# How many bytes a store of the standard layout has: 65,536 slots of 64 bytes, two places of 256, and a superblock of 64.
+WHOLE = 65_536 * 64 + 2 * 256 + 64
 BY_STACK = os.environ.get("BY_STACK") == "1"
 FOLDER = os.environ.get("TEST_FOLDER")
 
@@ -267,6 +269,18 @@ class Tests(unittest.TestCase):
         self.path.write_text("this is a text and not a store")
         with self.assertRaises(nipamast.FileRefused):
             self.open()
+
+    def test_a_store_whose_making_was_cut_off_is_made_to_its_end(self):
+        with open(self.path, "wb") as file:
+            file.truncate(WHOLE)
+        with self.assertRaises(nipamast.FileRefused):
+            nipamast.open(self.path, create=False)
+        with nipamast.open(self.path) as store:
+            self.assertEqual(store.status().slots, 65_536)
+        with open(self.path, "wb") as file:
+            file.write(b"a text, and no store")
+        with self.assertRaises(nipamast.FileRefused):
+            nipamast.open(self.path)
 
     def test_damage_is_said(self):
         with self.open() as store:

@@ -22,10 +22,7 @@ LONGEST = 4.0
 
 
 def open_store(path, by_stack):
-    try:
-        return nipamast.open(path, create=False, channels=THREADS + 1, by_stack=by_stack)
-    except nipamast.NoStore:
-        return nipamast.open(path, slots=SLOTS, channels=THREADS + 1, by_stack=by_stack)
+    return nipamast.open(path, slots=SLOTS, channels=THREADS + 1, by_stack=by_stack)
 
 
 def number_of(row):

@@ -484,7 +484,8 @@ def open(
     handle = c_void_p()
     if slots is None:
         code = _open(name, byref(asked), byref(handle))
-        if code != 16 or not create:
+        # A store that was being made when its process ended is no store yet (10), and is made to its end.
+        if code not in (10, 16) or not create:
             _must(code)
             return Store(handle)
     asked.slots, asked.places, asked.window, asked.wide = slots or 65_536, places, window, wide

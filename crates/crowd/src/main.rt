@@ -1,9 +1,11 @@
 //! Measures how many commits per second several threads make in one store in a file, if each commit waits for its sync.
 //! `crowd NAME SLOTS THREADS COMMITS [ROWS [read]]` creates or opens the store in the file NAME. Each of THREADS threads makes COMMITS
 //! commits, of one row or of ROWS rows. With `read`, one more thread reads meanwhile, one row in each transaction, and the time that the
-//! reads take is printed. Without arguments it prints these words.
+//! reads take is printed. `crowd NAME SLOTS readers THREADS READS` times READS reads in each of THREADS threads, while another thread
+//! commits without a pause. Without arguments it prints these two forms.
 #![tactic(auto)]
 
+mod beside;
 mod reading;
 
 use anyhow::{Error, anyhow, bail};
@@ -11,6 +13,7 @@ use base::fault::Fault;
 use base::geometry::Geometry;
 use base::key::Key;
 use base::row::Row;
+use beside::{Readers, time_readers};
 use database::Database;
 use reading::{Reads, read_while};
 use std::alloc::Global;
@@ -24,7 +27,8 @@ use std::thread::{Threads, join, map_indices};
 use std::time::{Duration, Instant};
 use store::{Device, Refusal, open_database};
 
-const WORDS: &str = "crowd NAME SLOTS THREADS COMMITS [ROWS [read]]";
+const WORDS: &str =
+    "crowd NAME SLOTS THREADS COMMITS [ROWS [read]], or crowd NAME SLOTS readers THREADS READS";
 
 // The least number of keys that each thread updates, one after the other. No other thread updates them.
 const KEYS: u64 = 8;
@@ -63,6 +67,14 @@ fn main(rt: HostRuntime) -> Result<(), Error> {
     let words: Vec<&str> = words.iter().map(|word| word.as_str()).collect(alloc)?;
     match words.as_slice() {
         [] => println!(rt; "{WORDS}")?,
+        [name, slots, "readers", threads, reads] => {
+            let readers = Readers {
+                slots: slots.parse::<u64>()?,
+                threads: threads.parse::<usize>()?,
+                reads: reads.parse::<u64>()?,
+            };
+            measure_readers(&rt, alloc, name, &readers)?;
+        }
         [name, crowd @ ..] => measure(&rt, alloc, name, &crowd_of(crowd)?)?,
     }
     Ok(())
@@ -114,6 +126,17 @@ fn measure<
             reads.slow
         )?;
     }
+    Ok(())
+}
+
+// Prints how many reads there were, how many per second, and how many commits meanwhile.
+fn measure_readers<
+    H: Print + Files<File = File> + Clock + Threads + Wait + Copy + Drop + Send + Sync + 'static,
+>(rt: &H, alloc: Global, name: &str, readers: &Readers) -> Result<(), Error> {
+    let beside = time_readers(rt, alloc, name, readers)?;
+    let reads = readers.reads.saturating_mul(readers.threads as u64);
+    print_rate(rt, "reads", reads, beside.reads)?;
+    println!(rt; "{} commits beside them", beside.commits)?;
     Ok(())
 }
 

@@ -1,3 +1,6 @@
+ghost use Rattle.kv.specs.Earned.{Commits, IsEarnedBy};
+ghost use Rattle.kv.specs.declared.command.Request.{Request};
+
 use crate::help::{LARGER, ROWS, TOPICS, Topic, Word};
 use crate::load::MOST_PUTS;
 use crate::refusal::Sentence;
@@ -93,7 +96,10 @@ impl<'a, R: Print> Printer<'a, R> {
     }
 
     /// Prints an answer, or holds it.
-    pub fn print(&mut self, answer: &Answer) -> io::Result<()> {
+    pub fn print(&mut self, answer: &Answer) -> io::Result<()>
+        // So `committed` is printed only if the commit of a request returned so.
+        requires earned { (request : Request) × IsEarnedBy (Commits request) answer.now }
+    {
         match answer {
             Answer::Begun => writeln!(self.held, "begun")?,
             Answer::Written => writeln!(self.held, "written")?,

@@ -1,3 +1,9 @@
+ghost use Rattle.std.specs.Prelude.{◌≡◌, ◌∷◌, [], ℕ, List, Option, IfOk};
+ghost use Rattle.database.specs.Committing.{ReportsCommit, ReportsWritten};
+ghost use Rattle.kv.specs.Earned.{Commits, IsEarnedBy, PassesOn};
+ghost use Rattle.kv.specs.declared.session.Answer.TheVariants.{Begun, Aborted, Row as RowRead, Count as Counted, Status as StatusRead};
+ghost use Rattle.kv.specs.declared.statistics.Statistics.{Statistics};
+
 use crate::command::{Range, Request};
 use crate::refusal::{Refusal, Stop};
 use crate::statistics::Statistics;
@@ -93,7 +99,10 @@ impl<'a, R: Wait + Drop> Session<'a, R> {
     }
 
     /// Runs a request. Outside a transaction it is a transaction by itself.
-    pub fn answer(&mut self, request: &Request) -> Result<Answer, Failed> {
+    pub fn answer(&mut self, request: &Request) -> Result<Answer, Failed>
+        // `committed` is returned only if a commit of this request returned so.
+        ensures earned { IfOk result (IsEarnedBy (Commits request.now)) }
+    {
         match request {
             Request::Begin => self.begin(),
             Request::Commit => self.commit(),
@@ -109,7 +118,9 @@ impl<'a, R: Wait + Drop> Session<'a, R> {
         }
     }
 
-    fn begin(&mut self) -> Result<Answer, Failed> {
+    fn begin(&mut self) -> Result<Answer, Failed>
+        ensures { IfOk result (λ answer. answer ≡ Begun) }
+    {
         if self.is_open() {
             return Err(Failed::Refused(Refusal::Open));
         }
@@ -117,7 +128,9 @@ impl<'a, R: Wait + Drop> Session<'a, R> {
         Ok(Answer::Begun)
     }
 
-    fn commit(&mut self) -> Result<Answer, Failed> {
+    fn commit(&mut self) -> Result<Answer, Failed>
+        ensures { IfOk result (IsEarnedBy (λ outcome. (session : ℕ) × ReportsCommit session outcome)) }
+    {
         if let Some(line) = self.broken.take() {
             return Err(Failed::Refused(Refusal::NotCommitted(line)));
         }
@@ -127,7 +140,9 @@ impl<'a, R: Wait + Drop> Session<'a, R> {
         }
     }
 
-    fn abort(&mut self) -> Result<Answer, Failed> {
+    fn abort(&mut self) -> Result<Answer, Failed>
+        ensures { IfOk result (λ answer. answer ≡ Aborted) }
+    {
         if self.broken.take().is_some() {
             return Ok(Answer::Aborted);
         }
@@ -141,7 +156,9 @@ impl<'a, R: Wait + Drop> Session<'a, R> {
     }
 
     // Writes the row under the key, or deletes what is there.
-    fn write(&mut self, key: Key, row: Option<Row>) -> Result<Answer, Failed> {
+    fn write(&mut self, key: Key, row: Option<Row>) -> Result<Answer, Failed>
+        ensures { IfOk result (IsEarnedBy (ReportsWritten ((key, row) ∷ []))) }
+    {
         self.test_whole()?;
         if let Some(transaction) = &mut self.open {
             write(transaction, key, row)?;
@@ -150,7 +167,9 @@ impl<'a, R: Wait + Drop> Session<'a, R> {
         answer_of(self.database.write(&[(key, row)]))
     }
 
-    fn get(&mut self, key: Key) -> Result<Answer, Failed> {
+    fn get(&mut self, key: Key) -> Result<Answer, Failed>
+        ensures { IfOk result (λ answer. (row : Option (List ℕ)) × (answer ≡ RowRead row)) }
+    {
         self.test_whole()?;
         if let Some(transaction) = &self.open {
             return Ok(Answer::Row(transaction.get(key)?));
@@ -177,12 +196,16 @@ impl<'a, R: Wait + Drop> Session<'a, R> {
         Ok(rows)
     }
 
-    fn count(&mut self, table: u16) -> Result<Answer, Failed> {
+    fn count(&mut self, table: u16) -> Result<Answer, Failed>
+        ensures { IfOk result (λ answer. (count : ℕ) × (answer ≡ Counted count)) }
+    {
         let rows = self.scan(Range::whole(table))?;
         Ok(Answer::Count(rows.len()))
     }
 
-    fn status(&mut self) -> Result<Answer, Failed> {
+    fn status(&mut self) -> Result<Answer, Failed>
+        ensures { IfOk result (λ answer. (statistics : Statistics) × (answer ≡ StatusRead statistics)) }
+    {
         self.test_whole()?;
         let geometry = self.database.geometry();
         let status = self.database.status();
@@ -234,12 +257,16 @@ fn write<R: Wait + Drop>(
 }
 
 /// Commits what was written, and returns once that is durable.
-pub fn commit<R: Wait + Drop>(transaction: Transaction<'_, Device, R>) -> Result<Answer, Failed> {
+pub fn commit<R: Wait + Drop>(transaction: Transaction<'_, Device, R>) -> Result<Answer, Failed>
+    ensures { IfOk result (IsEarnedBy (ReportsCommit transaction.entry.session)) }
+{
     answer_of(transaction.commit())
 }
 
 // What is printed about a commit.
-fn answer_of(committed: Result<Option<Ts>, CommitError>) -> Result<Answer, Failed> {
+fn answer_of(committed: Result<Option<Ts>, CommitError>) -> Result<Answer, Failed>
+    ensures { PassesOn committed result }
+{
     match committed {
         Ok(Some(timestamp)) => Ok(Answer::Committed(timestamp)),
         Ok(None) => Ok(Answer::Done),

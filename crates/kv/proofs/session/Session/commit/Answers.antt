@@ -1,0 +1,10 @@
+use Rattle.std.proofs.Common.{ℕ}
+use Rattle.std.specs.Prelude.{Option}
+use Rattle.database.specs.Committing.{ReportsCommit}
+use Rattle.kv.proofs.Earned.{earned-weakens}
+use Rattle.kv.proofs.session.Session.commit.Goals as goal
+
+pub returns-in-Some-take : goal.returns-in-Some-take
+returns-in-Some-take g c =
+    let session = c.in-Some-take.transaction.session in
+    earned-weakens (ReportsCommit session) (λ (outcome : Option ℕ). (x : ℕ) × ReportsCommit x outcome) (λ outcome said. (session, said)) c.commit.result c.commit.ensures
