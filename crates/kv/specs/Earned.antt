@@ -19,7 +19,7 @@ PassesOn (Ok None) result = result ≡ Ok Done
 PassesOn (Err (Open _)) result = result ≡ Err (Stopped InCommit)
 PassesOn (Err (Refused _)) result = (failed : Failed) × (result ≡ Err failed)
 
--- `committed` and `done` are answers only after a commit that returned so
+-- `committed` and `done` are only for a commit that returned so
 abbrev pub IsEarnedBy : (Option ℕ → Type 0) → Answer → Type 0
 IsEarnedBy Returned (Committed t) = Returned (Some t)
 IsEarnedBy Returned Done = Returned None
