@@ -1,6 +1,7 @@
 ghost use Rattle.std.specs.Prelude.{◌≡◌, ℕ, List, ◌+◌, ◌%◌, ◌<◌, ◌^◌, true, false, None, length, is_some, IfErr, IfOk, IsSome, OnErr, OnOk};
 ghost use Rattle.std.proofs.Common.{inl};
 ghost use Rattle.journal.specs.Files.{Opens};
+ghost use Rattle.journal.specs.Places.{HoldsPart, IsPart, PartAsBefore};
 ghost use Rattle.journal.specs.ReadBack.{IsReadBack, StandsAsBefore};
 ghost use Rattle.journal.specs.States.{Rests};
 ghost use Rattle.journal.specs.Tails.{BeginsAsRead, NamesAsRead, NamesBoth};
@@ -41,6 +42,8 @@ pub struct JournaledImages<S: Storage> {
     ghost rests: { failed ≡ false → is_begun ≡ false → ∥ Rests (S.may_hold storage) (length written.items) room position.pass position.words written.items ∥₁ },
     ghost begun: { failed ≡ false → is_begun ≡ true → ∥ Rests (S.shows storage) (length written.items) room position.pass position.words written.items ∥₁ },
     ghost named: { NamesBoth (S.may_hold storage) (length written.items) room },
+    ghost part: { IsPart room written.items },
+    ghost holds: { HoldsPart (S.may_hold storage) (length written.items) room },
 }
 
 /// Why a file isn't opened, and the file.
@@ -84,6 +87,8 @@ impl<S: Storage> JournaledImages<S> {
         ensures named { IfOk result (λ images. NamesBoth (S.may_hold (storage_of images)) words room) }
         ensures tail { IfErr result (λ unopened. NamesAsRead (S.may_hold unopened.storage) words room file.now) }
         ensures first { IfErr result (λ unopened. BeginsAsRead (S.may_hold unopened.storage) words room file.now) }
+        ensures holds { IfOk result (λ images. HoldsPart (S.may_hold (storage_of images)) words room) }
+        ensures part { IfErr result (λ unopened. PartAsBefore (S.may_hold storage) (S.may_hold unopened.storage) words room) }
     {
         let durable = match image_in(alloc, file, words, room) {
             Ok(durable) => durable,
@@ -140,6 +145,8 @@ impl<S: Storage> JournaledImages<S> {
         ensures unclosed { IfErr result (λ unclosed. StandsForOne S.may_hold self unclosed.storage) }
         ensures named { IfOk result (λ storage. NamesBoth (S.may_hold storage) (length (last_image self)) (room_of self)) }
         ensures tail { IfErr result (λ unclosed. NamesBoth (S.may_hold unclosed.storage) (length (last_image self)) (room_of self)) }
+        ensures holds { IfOk result (λ storage. HoldsPart (S.may_hold storage) (length (last_image self)) (room_of self)) }
+        ensures part { IfErr result (λ unclosed. HoldsPart (S.may_hold unclosed.storage) (length (last_image self)) (room_of self)) }
     {
         if self.failed || self.is_begun {
             return Err(Unclosed {

@@ -1,10 +1,12 @@
 ghost use Rattle.std.specs.Prelude.{◌≡◌, ◌⊎◌, ℕ, ◌+◌, ◌≤◌, ◌<◌, ◌^◌, true, not, length, OnOk};
 ghost use Rattle.journal.specs.Files.{tail_of, FoundOpens};
+ghost use Rattle.journal.specs.Places.{HoldsPart, IsPart, PartAsBefore, PlacesOnly};
 ghost use Rattle.journal.specs.ReadBack.{Covers};
 ghost use Rattle.journal.specs.States.{Knows, KnowsJournal, IsInPlace, IsOff, IsClear, IsFull, Rests};
 ghost use Rattle.journal.specs.Tails.{HoldsFirst, NamesBoth, NamesAsBefore};
 
 use crate::entry::bit_of;
+use crate::part::check_part;
 use crate::position::Position;
 use crate::storage::{Storage, put};
 use std::alloc::Global;
@@ -16,7 +18,8 @@ pub(crate) const MAGIC: u64 = 0x5742_4C2D_4A52_4E31;
 /// Brings a file to rest, with its image in place and nothing in the journal, whatever its journal held. The journal and the tail
 /// are known; a word in place may be found otherwise. If the lines of the journal make the image of it anyway, the file stands for
 /// this image at each instant, and also if a write fails. The journal has `room` words, and `pass` is the one that it counts in.
-/// Four writes, and a wait after each: the image in place; then the journal no longer counts; it is cleared; it counts again.
+/// Four writes, and a wait after each: the image in place; then the journal no longer counts; it is cleared; it counts again. An
+/// image that says that it has as many words as the whole file is refused, and nothing is written.
 pub fn rewrite<S: Storage>(
     alloc: Global,
     storage: &mut S,
@@ -29,9 +32,14 @@ pub fn rewrite<S: Storage>(
     ensures opens { ∥ Covers (S.may_hold storage.old) (length image.now) room image.now ∥₁ → FoundOpens (S.may_hold storage.new) (length image.now) room image.now }
     ensures rests { OnOk result (∥ Rests (S.may_hold storage.new) (length image.now) room true 0 image.now ∥₁) }
     ensures tail { NamesAsBefore (S.may_hold storage.old) (S.may_hold storage.new) (length image.now) room }
+    ensures place { PlacesOnly (S.may_hold storage.old) (S.may_hold storage.new) image.now }
+    ensures before { PartAsBefore (S.may_hold storage.old) (S.may_hold storage.new) (length image.now) room }
+    ensures holds { OnOk result (HoldsPart (S.may_hold storage.new) (length image.now) room) }
+    ensures part { OnOk result (IsPart room image.now) }
     ensures named { OnOk result (NamesBoth (S.may_hold storage.new) (length image.now) room) }
     ensures first { pass ≡ true → HoldsFirst (S.may_hold storage.old) (length image.now) room → HoldsFirst (S.may_hold storage.new) (length image.now) room ⊎ NamesBoth (S.may_hold storage.new) (length image.now) room }
 {
+    check_part(image, room)?;
     put_in_place(storage, image, room, pass)?;
     turn_off(storage, image, room, pass)?;
     clear(alloc, storage, image, room)?;
@@ -51,6 +59,7 @@ pub(crate) fn settle<S: Storage>(
     ensures opens { FoundOpens (S.may_hold storage.new) (length image.now) room image.now }
     ensures off { OnOk result (∥ IsOff (S.may_hold storage.new) (length image.now) room image.now ∥₁) }
     ensures tail { NamesAsBefore (S.may_hold storage.old) (S.may_hold storage.new) (length image.now) room }
+    ensures place { PlacesOnly (S.may_hold storage.old) (S.may_hold storage.new) image.now }
 {
     put_in_place(storage, image, room, pass)?;
     turn_off(storage, image, room, pass)
@@ -67,6 +76,7 @@ fn put_in_place<S: Storage>(
     ensures opens { ∥ Covers (S.may_hold storage.old) (length image.now) room image.now ∥₁ → FoundOpens (S.may_hold storage.new) (length image.now) room image.now }
     ensures done { OnOk result (∥ IsInPlace (S.may_hold storage.new) (length image.now) room pass image.now ∥₁) }
     ensures tail { NamesAsBefore (S.may_hold storage.old) (S.may_hold storage.new) (length image.now) room }
+    ensures place { PlacesOnly (S.may_hold storage.old) (S.may_hold storage.new) image.now }
     ensures first { HoldsFirst (S.may_hold storage.old) (length image.now) room → HoldsFirst (S.may_hold storage.new) (length image.now) room }
 {
     put(storage, 0, image)
@@ -79,6 +89,7 @@ fn turn_off<S: Storage>(storage: &mut S, image: &[u64], room: usize, pass: bool)
     ensures opens { FoundOpens (S.may_hold storage.new) (length image.now) room image.now }
     ensures done { OnOk result (∥ IsOff (S.may_hold storage.new) (length image.now) room image.now ∥₁) }
     ensures tail { NamesAsBefore (S.may_hold storage.old) (S.may_hold storage.new) (length image.now) room }
+    ensures place { PlacesOnly (S.may_hold storage.old) (S.may_hold storage.new) image.now }
     ensures first { pass ≡ true → HoldsFirst (S.may_hold storage.old) (length image.now) room → HoldsFirst (S.may_hold storage.new) (length image.now) room }
 {
     let words = image.len();
@@ -92,6 +103,7 @@ fn clear<S: Storage>(alloc: Global, storage: &mut S, image: &[u64], room: usize)
     ensures opens { FoundOpens (S.may_hold storage.new) (length image.now) room image.now }
     ensures done { OnOk result (∥ IsClear (S.may_hold storage.new) (length image.now) room image.now ∥₁) }
     ensures tail { NamesAsBefore (S.may_hold storage.old) (S.may_hold storage.new) (length image.now) room }
+    ensures place { PlacesOnly (S.may_hold storage.old) (S.may_hold storage.new) image.now }
     ensures named { OnOk result (NamesBoth (S.may_hold storage.new) (length image.now) room) }
     ensures first { HoldsFirst (S.may_hold storage.old) (length image.now) room → HoldsFirst (S.may_hold storage.new) (length image.now) room }
 {
@@ -108,6 +120,7 @@ fn turn_on<S: Storage>(storage: &mut S, image: &[u64], room: usize) -> io::Resul
     ensures opens { FoundOpens (S.may_hold storage.new) (length image.now) room image.now }
     ensures done { OnOk result (∥ Rests (S.may_hold storage.new) (length image.now) room true 0 image.now ∥₁) }
     ensures tail { NamesAsBefore (S.may_hold storage.old) (S.may_hold storage.new) (length image.now) room }
+    ensures place { PlacesOnly (S.may_hold storage.old) (S.may_hold storage.new) image.now }
 {
     let words = image.len();
     put(storage, words + room, &tail(MAGIC, words, room, true))
@@ -129,6 +142,7 @@ pub(crate) fn begin_pass<S: Storage>(
     ensures opens { FoundOpens (S.may_hold storage.new) (length image.now) room image.now }
     ensures rests { OnOk result (∥ Rests (S.may_hold storage.new) (length image.now) room (not position.pass) 0 image.now ∥₁) }
     ensures tail { NamesAsBefore (S.may_hold storage.old) (S.may_hold storage.new) (length image.now) room }
+    ensures place { PlacesOnly (S.may_hold storage.old) (S.may_hold storage.new) image.now }
 {
     fill(alloc, storage, image, room, position)?;
     turn(storage, image, room, position.pass)
@@ -148,6 +162,7 @@ fn fill<S: Storage>(
     ensures opens { FoundOpens (S.may_hold storage.new) (length image.now) room image.now }
     ensures done { OnOk result (∥ IsFull (S.may_hold storage.new) (length image.now) room position.pass image.now ∥₁) }
     ensures tail { NamesAsBefore (S.may_hold storage.old) (S.may_hold storage.new) (length image.now) room }
+    ensures place { PlacesOnly (S.may_hold storage.old) (S.may_hold storage.new) image.now }
 {
     let rest = Vec::from_elem(alloc, bit_of(position.pass), room - position.words)?;
     storage.write(image.len() + position.words, rest.as_slice())?;
@@ -161,6 +176,7 @@ fn turn<S: Storage>(storage: &mut S, image: &[u64], room: usize, pass: bool) -> 
     ensures opens { FoundOpens (S.may_hold storage.new) (length image.now) room image.now }
     ensures done { OnOk result (∥ Rests (S.may_hold storage.new) (length image.now) room (not pass) 0 image.now ∥₁) }
     ensures tail { NamesAsBefore (S.may_hold storage.old) (S.may_hold storage.new) (length image.now) room }
+    ensures place { PlacesOnly (S.may_hold storage.old) (S.may_hold storage.new) image.now }
 {
     let words = image.len();
     put(storage, words + room, &tail(MAGIC, words, room, !pass))
