@@ -15,3 +15,4 @@ pub mod Settled
 pub mod Within
 pub mod Turned
 pub mod Tails
+pub mod Places

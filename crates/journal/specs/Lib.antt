@@ -11,5 +11,6 @@ pub mod Files
 pub mod ReadBack
 pub mod States
 pub mod Tails
+pub mod Places
 pub mod Changes
 pub mod Images

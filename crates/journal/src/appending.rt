@@ -1,12 +1,14 @@
 ghost use Rattle.std.specs.Prelude.{◌≡◌, ℕ, ◌+◌, ◌*◌, ◌/◌, ◌%◌, ◌<◌, ◌≤◌, ◌^◌, List, [], ◌∷◌, ◌++◌, length, IfOk, OnOk, OnErr};
 ghost use Rattle.journal.specs.Files.{FoundEither};
 ghost use Rattle.journal.specs.States.{Rests};
+ghost use Rattle.journal.specs.Places.{IsPart, PlacesOnly};
 ghost use Rattle.journal.specs.Tails.{NamesAsBefore};
 ghost use Rattle.journal.specs.Changes.{AreChanged, AreFound, DiffersIn};
 
 use crate::eight::eight_at;
 use crate::file_image::put_each;
 use crate::line::{Line, entry_of};
+use crate::part::check_part;
 use crate::position::Position;
 use crate::rewriting::begin_pass;
 use crate::storage::Storage;
@@ -17,7 +19,8 @@ use std::io::ErrorKind;
 /// Replaces the durable words by these, which differ from them in the lines of these numbers alone: writes an entry at this position
 /// of the journal, and returns the position behind it. It is one write: a sync makes them durable. If the entry has no room, the
 /// image is put in place before, and it begins the next pass. At each instant, and also if a write fails, the file stands for the
-/// durable words or for these, and once it is synced for these.
+/// durable words or for these, and once it is synced for these. An image that says that it has as many words as the whole file is
+/// refused, and nothing is written.
 pub(crate) fn begin_words<S: Storage>(
     alloc: Global,
     storage: &mut S,
@@ -36,7 +39,10 @@ pub(crate) fn begin_words<S: Storage>(
     ensures durable { OnOk result (durable.new.items ≡ words.now) }
     ensures err { OnErr result (durable.new.items ≡ durable.old.items) }
     ensures tail { NamesAsBefore (S.may_hold storage.old) (S.may_hold storage.new) (length durable.old.items) room }
+    ensures place { PlacesOnly (S.may_hold storage.old) (S.may_hold storage.new) durable.old.items }
+    ensures part { OnOk result (IsPart room words.now) }
 {
+    check_part(words, room)?;
     let changed = changed_lines(alloc, durable.as_slice(), words, numbers)?;
     let next = write_changed(
         alloc,
@@ -113,6 +119,7 @@ fn write_changed<S: Storage>(
     ensures either { FoundEither (S.may_hold storage.new) (length durable.now) room durable.now words.now }
     ensures rests { IfOk result (λ next. ∥ Rests (S.shows storage.new) (length durable.now) room next.pass next.words words.now ∥₁) }
     ensures tail { NamesAsBefore (S.may_hold storage.old) (S.may_hold storage.new) (length durable.now) room }
+    ensures place { PlacesOnly (S.may_hold storage.old) (S.may_hold storage.new) durable.now }
 {
     if changed.is_empty() {
         return Ok(position);
@@ -151,6 +158,7 @@ fn append<S: Storage>(
     ensures either { FoundEither (S.may_hold storage.new) (length durable.now) room durable.now words.now }
     ensures rests { IfOk result (λ next. ∥ Rests (S.shows storage.new) (length durable.now) room next.pass next.words words.now ∥₁) }
     ensures tail { NamesAsBefore (S.may_hold storage.old) (S.may_hold storage.new) (length durable.now) room }
+    ensures place { PlacesOnly (S.may_hold storage.old) (S.may_hold storage.new) durable.now }
 {
     let entry = entry_of(alloc, changed, position.pass)?;
     storage.write(durable.len() + position.words, entry.as_slice())?;

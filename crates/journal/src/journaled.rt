@@ -1,6 +1,7 @@
 ghost use Rattle.std.specs.Prelude.{◌≡◌, ℕ, List, ◌+◌, ◌%◌, ◌<◌, ◌^◌, true, false, None, length, is_some, IfErr, IfOk, IsSome, OnErr, OnOk};
 ghost use Rattle.std.proofs.Common.{inl};
 ghost use Rattle.journal.specs.Files.{Opens};
+ghost use Rattle.journal.specs.Places.{HoldsPart, IsPart, PartAsBefore};
 ghost use Rattle.journal.specs.ReadBack.{IsReadBack, StandsAsBefore};
 ghost use Rattle.journal.specs.States.{Rests};
 ghost use Rattle.journal.specs.Tails.{BeginsAsRead, NamesAsRead, NamesBoth};
@@ -41,6 +42,8 @@ pub struct JournaledImages<S: Storage> {
     ghost rests: { failed ≡ false → is_begun ≡ false → ∥ Rests (S.may_hold storage) (length written.items) room position.pass position.words written.items ∥₁ },
     ghost begun: { failed ≡ false → is_begun ≡ true → ∥ Rests (S.shows storage) (length written.items) room position.pass position.words written.items ∥₁ },
     ghost named: { NamesBoth (S.may_hold storage) (length written.items) room },
+    ghost part: { IsPart room written.items },
+    ghost holds: { HoldsPart (S.may_hold storage) (length written.items) room },
 }
 
 /// Why a file isn't opened, and the file.
@@ -95,6 +98,11 @@ impl<S: Storage> JournaledImages<S> {
         // At Err, if the file that was read is new or was being made longer (`BeginsTail`), nothing else is found behind the
         // image than what is written there first, or the tail names both.
         ensures first { IfErr result (λ unopened. BeginsAsRead (S.may_hold unopened.storage) words room file.now) }
+
+        // At Ok no superblock is found in place that names the whole file's words (`HoldsPart`), so the file isn't taken for an
+        // image alone. At Err none is, if none was before.
+        ensures holds { IfOk result (λ images. HoldsPart (S.may_hold (storage_of images)) words room) }
+        ensures part { IfErr result (λ unopened. PartAsBefore (S.may_hold storage) (S.may_hold unopened.storage) words room) }
     {
         let durable = match image_in(alloc, file, words, room) {
             Ok(durable) => durable,
@@ -155,6 +163,10 @@ impl<S: Storage> JournaledImages<S> {
         // At Ok and at Err whatever is found of the tail names both (`NamesBoth`), until the file is cut.
         ensures named { IfOk result (λ storage. NamesBoth (S.may_hold storage) (length (last_image self)) (room_of self)) }
         ensures tail { IfErr result (λ unclosed. NamesBoth (S.may_hold unclosed.storage) (length (last_image self)) (room_of self)) }
+
+        // No superblock is found in place that names the whole file's words (`HoldsPart`).
+        ensures holds { IfOk result (λ storage. HoldsPart (S.may_hold storage) (length (last_image self)) (room_of self)) }
+        ensures part { IfErr result (λ unclosed. HoldsPart (S.may_hold unclosed.storage) (length (last_image self)) (room_of self)) }
     {
         if self.failed || self.is_begun {
             return Err(Unclosed {

@@ -14,6 +14,7 @@ mod journal;
 mod journaled;
 mod law;
 mod line;
+mod part;
 mod position;
 mod rewriting;
 mod storage;

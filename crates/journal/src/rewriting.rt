@@ -1,10 +1,12 @@
 ghost use Rattle.std.specs.Prelude.{◌≡◌, ◌⊎◌, ℕ, ◌+◌, ◌≤◌, ◌<◌, ◌^◌, true, not, length, OnOk};
 ghost use Rattle.journal.specs.Files.{tail_of, FoundOpens};
+ghost use Rattle.journal.specs.Places.{HoldsPart, IsPart, PartAsBefore, PlacesOnly};
 ghost use Rattle.journal.specs.ReadBack.{Covers};
 ghost use Rattle.journal.specs.States.{Knows, KnowsJournal, IsInPlace, IsOff, IsClear, IsFull, Rests};
 ghost use Rattle.journal.specs.Tails.{HoldsFirst, NamesBoth, NamesAsBefore};
 
 use crate::entry::bit_of;
+use crate::part::check_part;
 use crate::position::Position;
 use crate::storage::{Storage, put};
 use std::alloc::Global;
@@ -35,14 +37,26 @@ pub fn rewrite<S: Storage>(
     // At Ok the image is in place, and the journal counts and has nothing in it.
     ensures rests { OnOk result (∥ Rests (S.may_hold storage.new) (length image.now) room true 0 image.now ∥₁) }
 
-    // The tail names both, also if a write fails, if it did before (`NamesAsBefore`). At Ok it does in any case (`NamesBoth`).
+    // The tail names both, also if a write fails, if it did before (`NamesAsBefore`).
     ensures tail { NamesAsBefore (S.may_hold storage.old) (S.may_hold storage.new) (length image.now) room }
+
+    // In place nothing is found but what might be found there before, and this image (`PlacesOnly`).
+    ensures place { PlacesOnly (S.may_hold storage.old) (S.may_hold storage.new) image.now }
+
+    // At Ok the image isn't one that names the whole file's words (`IsPart`), and none such is found in place (`HoldsPart`). At
+    // Err none is, if none was before.
+    ensures before { PartAsBefore (S.may_hold storage.old) (S.may_hold storage.new) (length image.now) room }
+    ensures holds { OnOk result (HoldsPart (S.may_hold storage.new) (length image.now) room) }
+    ensures part { OnOk result (IsPart room image.now) }
+
+    // At Ok the tail names both in any case (`NamesBoth`).
     ensures named { OnOk result (NamesBoth (S.may_hold storage.new) (length image.now) room) }
 
     // If behind the image nothing was found but the words that are written there first (`HoldsFirst`), it is still so, or the
     // tail names both.
     ensures first { pass ≡ true → HoldsFirst (S.may_hold storage.old) (length image.now) room → HoldsFirst (S.may_hold storage.new) (length image.now) room ⊎ NamesBoth (S.may_hold storage.new) (length image.now) room }
 {
+    check_part(image, room)?;
     put_in_place(storage, image, room, pass)?;
     turn_off(storage, image, room, pass)?;
     clear(alloc, storage, image, room)?;
@@ -62,6 +76,7 @@ pub(crate) fn settle<S: Storage>(
     ensures opens { FoundOpens (S.may_hold storage.new) (length image.now) room image.now }
     ensures off { OnOk result (∥ IsOff (S.may_hold storage.new) (length image.now) room image.now ∥₁) }
     ensures tail { NamesAsBefore (S.may_hold storage.old) (S.may_hold storage.new) (length image.now) room }
+    ensures place { PlacesOnly (S.may_hold storage.old) (S.may_hold storage.new) image.now }
 {
     put_in_place(storage, image, room, pass)?;
     turn_off(storage, image, room, pass)
@@ -78,6 +93,7 @@ fn put_in_place<S: Storage>(
     ensures opens { ∥ Covers (S.may_hold storage.old) (length image.now) room image.now ∥₁ → FoundOpens (S.may_hold storage.new) (length image.now) room image.now }
     ensures done { OnOk result (∥ IsInPlace (S.may_hold storage.new) (length image.now) room pass image.now ∥₁) }
     ensures tail { NamesAsBefore (S.may_hold storage.old) (S.may_hold storage.new) (length image.now) room }
+    ensures place { PlacesOnly (S.may_hold storage.old) (S.may_hold storage.new) image.now }
     ensures first { HoldsFirst (S.may_hold storage.old) (length image.now) room → HoldsFirst (S.may_hold storage.new) (length image.now) room }
 {
     put(storage, 0, image)
@@ -90,6 +106,7 @@ fn turn_off<S: Storage>(storage: &mut S, image: &[u64], room: usize, pass: bool)
     ensures opens { FoundOpens (S.may_hold storage.new) (length image.now) room image.now }
     ensures done { OnOk result (∥ IsOff (S.may_hold storage.new) (length image.now) room image.now ∥₁) }
     ensures tail { NamesAsBefore (S.may_hold storage.old) (S.may_hold storage.new) (length image.now) room }
+    ensures place { PlacesOnly (S.may_hold storage.old) (S.may_hold storage.new) image.now }
     ensures first { pass ≡ true → HoldsFirst (S.may_hold storage.old) (length image.now) room → HoldsFirst (S.may_hold storage.new) (length image.now) room }
 {
     let words = image.len();
@@ -103,6 +120,7 @@ fn clear<S: Storage>(alloc: Global, storage: &mut S, image: &[u64], room: usize)
     ensures opens { FoundOpens (S.may_hold storage.new) (length image.now) room image.now }
     ensures done { OnOk result (∥ IsClear (S.may_hold storage.new) (length image.now) room image.now ∥₁) }
     ensures tail { NamesAsBefore (S.may_hold storage.old) (S.may_hold storage.new) (length image.now) room }
+    ensures place { PlacesOnly (S.may_hold storage.old) (S.may_hold storage.new) image.now }
     ensures named { OnOk result (NamesBoth (S.may_hold storage.new) (length image.now) room) }
     ensures first { HoldsFirst (S.may_hold storage.old) (length image.now) room → HoldsFirst (S.may_hold storage.new) (length image.now) room }
 {
@@ -119,6 +137,7 @@ fn turn_on<S: Storage>(storage: &mut S, image: &[u64], room: usize) -> io::Resul
     ensures opens { FoundOpens (S.may_hold storage.new) (length image.now) room image.now }
     ensures done { OnOk result (∥ Rests (S.may_hold storage.new) (length image.now) room true 0 image.now ∥₁) }
     ensures tail { NamesAsBefore (S.may_hold storage.old) (S.may_hold storage.new) (length image.now) room }
+    ensures place { PlacesOnly (S.may_hold storage.old) (S.may_hold storage.new) image.now }
 {
     let words = image.len();
     put(storage, words + room, &tail(MAGIC, words, room, true))
@@ -140,6 +159,7 @@ pub(crate) fn begin_pass<S: Storage>(
     ensures opens { FoundOpens (S.may_hold storage.new) (length image.now) room image.now }
     ensures rests { OnOk result (∥ Rests (S.may_hold storage.new) (length image.now) room (not position.pass) 0 image.now ∥₁) }
     ensures tail { NamesAsBefore (S.may_hold storage.old) (S.may_hold storage.new) (length image.now) room }
+    ensures place { PlacesOnly (S.may_hold storage.old) (S.may_hold storage.new) image.now }
 {
     fill(alloc, storage, image, room, position)?;
     turn(storage, image, room, position.pass)
@@ -159,6 +179,7 @@ fn fill<S: Storage>(
     ensures opens { FoundOpens (S.may_hold storage.new) (length image.now) room image.now }
     ensures done { OnOk result (∥ IsFull (S.may_hold storage.new) (length image.now) room position.pass image.now ∥₁) }
     ensures tail { NamesAsBefore (S.may_hold storage.old) (S.may_hold storage.new) (length image.now) room }
+    ensures place { PlacesOnly (S.may_hold storage.old) (S.may_hold storage.new) image.now }
 {
     let rest = Vec::from_elem(alloc, bit_of(position.pass), room - position.words)?;
     storage.write(image.len() + position.words, rest.as_slice())?;
@@ -172,6 +193,7 @@ fn turn<S: Storage>(storage: &mut S, image: &[u64], room: usize, pass: bool) -> 
     ensures opens { FoundOpens (S.may_hold storage.new) (length image.now) room image.now }
     ensures done { OnOk result (∥ Rests (S.may_hold storage.new) (length image.now) room (not pass) 0 image.now ∥₁) }
     ensures tail { NamesAsBefore (S.may_hold storage.old) (S.may_hold storage.new) (length image.now) room }
+    ensures place { PlacesOnly (S.may_hold storage.old) (S.may_hold storage.new) image.now }
 {
     let words = image.len();
     put(storage, words + room, &tail(MAGIC, words, room, !pass))

@@ -1,11 +1,12 @@
 -- Which shape the words of a file have.
-use Rattle.std.proofs.Common.{◌≡◌, ◌≢◌, ◌⊎◌, inl, inr, ℕ, ◌+◌, ◌-◌, ◌^◌, ◌<◌, ◌≤◌, true, List, Option, Result, Ok, Err, None, Some, IfOk, IfNone, IfSome, IsTrue, OnSome, length, take, drop, replicate, get_or, refl, sym, ◌∙◌, ap, subst, arith}
-use Rattle.std.proofs.lemmas.Bool.{and_parts, eqb-true}
+use Rattle.std.proofs.Common.{◌≡◌, ◌≢◌, ◌⊎◌, inl, inr, ℕ, ◌+◌, ◌-◌, ◌*◌, ◌^◌, ◌<◌, ◌≤◌, ◌&&◌, true, nat_eq, nat_le, List, Option, Result, Ok, Err, None, Some, IfOk, IfNone, IfSome, IsTrue, OnSome, length, take, drop, replicate, get_or, refl, sym, ◌∙◌, ap, subst, arith}
+use Rattle.std.proofs.lemmas.Bool.{and_parts, eqb-true, leb-true}
 use Rattle.std.proofs.lemmas.List.{append-nil, length-drop, length-take, length-replicate, get_or-drop, get_or-take, get_or-replicate, get_or_append_left, get_or-append_right, take_all}
 use Rattle.std.specs.Option.{option_or}
 use Rattle.std.specs.declared.io.Error.{Error}
 use Rattle.base.specs.Images.{layout_of, has_good_geometry}
-use Rattle.base.specs.Layout.{Layout, is_in_limits, slot_start, total_words}
+use Rattle.base.specs.Layout.{Layout, is_between, is_in_limits, is_known_version, slot_start, slot_words, total_words}
+use Rattle.base.proofs.Layouts.{line-words}
 use Rattle.journal.specs.Files.{magic, HasTail, IsFile, Opens}
 use Rattle.journal.proofs.Files.{lines-off, opens-off, opens-one}
 use Rattle.journal.proofs.Tails.{named_one}
@@ -20,6 +21,9 @@ zero-magic e = omega (arith, e)
 
 good-length : (image : List ℕ) → has_good_geometry image ≡ true → length image ≡ total_words (layout_of image)
 good-length image good = grind (arith, and_parts, eqb-true)
+
+good-size : (image : List ℕ) → has_good_geometry image ≡ true → length image ≡ get_or image 5 0
+good-size image good = grind (arith, and_parts, eqb-true)
 
 image-length : (asked : Option Layout) (a : Layout) (words : List ℕ) → IsImageOf asked a words → length words ≡ total_words a
 image-length asked a words (inl laid) = good-length words laid.geometry ∙ ap total_words laid.laid_out
@@ -244,6 +248,25 @@ none-of (Err error) to none = tt
 
 pub names-alone : (asked : Option Layout) (own : Layout) (file : List ℕ) (shape : Shape) → IsImageOf asked own file → KeepsNames asked file shape
 names-alone asked own file shape is size room sized tail not_alone = absurd (not_alone own is)
+
+-- the last eight words of an image alone are a slot's
+slot-words : (a : Layout) → is_in_limits a ≡ true → slot_start a 0 + 8 ≤ total_words a
+slot-words a limits =
+    let all = and_parts (is_known_version a.version) (is_between 1 65536 a.slots && (is_between 2 64 a.places && is_between 4 1024 a.window)) limits in
+    let slots = and_parts (is_between 1 65536 a.slots) (is_between 2 64 a.places && is_between 4 1024 a.window) all.1 in
+    let some : 1 ≤ a.slots = leb-true 1 a.slots (and_parts (nat_le 1 a.slots) (nat_le a.slots 65536) slots.0).0 in
+    omega (arith, times (slot_words a.version) a.slots (line-words a.version) some)
+  where
+    times : (n count : ℕ) → 8 ≤ n → 1 ≤ count → 8 ≤ n * count
+    times n count eight some = grind (arith, eight, some)
+
+-- a file with a tail, whose superblock doesn't name the whole file, is not an image alone
+pub not-whole : (asked : Option Layout) (own : Layout) (file : List ℕ) (size room : ℕ) → length file ≡ size + room + 8 → 5 < size → get_or file 5 0 ≢ size + room + 8 → HasTail size room file
+    → (asked ≡ Some own → is_in_limits own ≡ true) → ¬ IsImageOf asked own file
+not-whole asked own file size room sized some less tail limits (inl laid) = less (sym (good-size file laid.geometry) ∙ sized)
+not-whole asked own file size room sized some less tail limits (inr (is, blank)) =
+    let within = slot-words own (limits is) in
+    omega (arith, some, tail.words_named, blank.slots (size + room + 1) (omega (arith, within, sized, blank.size)) (omega (arith, sized, blank.size)))
 
 pub names-tail : {E : Type 0} (asked : Option Layout) (file : List ℕ) (a b : ℕ) (found : Result (Option Shape) E) → IsFile a b (length file) → HasTail a b file
     → IfOk found (λ o. IfSome o (λ shape. (shape.words ≡ a) × (shape.room ≡ b))) → IfOk found (λ o. IfSome o (KeepsNames asked file))

@@ -1,4 +1,4 @@
-ghost use Rattle.std.specs.Prelude.{◌≡◌, ◌↔◌, ◌+◌, ◌*◌, ◌/◌, ◌<◌, ◌≤◌, ◌^◌, ℕ, List, drop, length, slice_index, take, Err, IfErr, IfNone, IfOk, IfSome, IsOk, IsTrue, None, OnSome, Some};
+ghost use Rattle.std.specs.Prelude.{◌≡◌, ◌↔◌, ◌+◌, ◌*◌, ◌/◌, ◌<◌, ◌≤◌, ◌^◌, ℕ, List, drop, length, slice_index, take, Err, IfErr, IfNone, IfOk, IfSome, IsOk, IsTrue, None, OnSome, Some, true};
 ghost use Rattle.std.specs.IoError.{error_kind};
 ghost use Rattle.std.specs.declared.io.ErrorKind.TheVariants.{OutOfMemory};
 ghost use Rattle.base.specs.Layout.{Layout, is_in_limits};
@@ -304,18 +304,40 @@ pub fn left_files_keep_their_shape<S: Storage>(
     asked: &Option<Geometry>,
 ) -> io::Result<Option<(usize, usize)>>
     requires found { IsFound (S.may_hold (storage_of images.now)) (length (last_image images.now) + room_of images.now + 8) file.now }
-    requires alone { (own : Layout) → ¬ IsImageOf asked.now own file.now }
 
-    // So it is unless the whole file is an image alone (`KeepsNames`).
+    // It returns these two.
     ensures same { IfOk result (λ found. IfSome found (λ names. names ≡ (length (last_image images.now), room_of images.now))) }
 
     // At None it isn't a file of ours.
     ensures none { IfOk result (λ found. IfNone found (¬ IsOurs asked.now file.now)) }
 {
     let _ = left_files_name_their_shape(images, file);
+    left_files_are_not_alone(images, file, asked);
     match shape_in(alloc, file, asked)? {
         Some(shape) => Ok(Some((shape.words, shape.room))),
         None => Ok(None),
+    }
+}
+
+// No such file is an image alone.
+fn left_files_are_not_alone<S: Storage>(
+    images: &JournaledImages<S>,
+    file: &[u64],
+    asked: &Option<Geometry>,
+)
+    requires found { IsFound (S.may_hold (storage_of images.now)) (length (last_image images.now) + room_of images.now + 8) file.now }
+    ensures { (own : Layout) → ¬ IsImageOf asked.now own file.now }
+{
+    let _ = left_files_name_their_shape(images, file);
+    asked_in_limits(asked);
+}
+
+// The layout that is asked for is in the limits.
+fn asked_in_limits(asked: &Option<Geometry>)
+    ensures { (own : Layout) → asked.now ≡ Some own → is_in_limits own ≡ true }
+{
+    if let Some(geometry) = asked {
+        let _ = geometry.slots();
     }
 }
 

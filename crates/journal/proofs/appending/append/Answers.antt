@@ -5,6 +5,7 @@ use Rattle.journal.proofs.Changes.{entry_size}
 use Rattle.journal.proofs.Within.{rests_within}
 use Rattle.journal.proofs.Appended.{rests-either, append-either, append-kept}
 use Rattle.journal.proofs.Tails.{names_appended}
+use Rattle.journal.proofs.Places.{places_behind}
 use Rattle.journal.proofs.appending.append.Goals as goal
 
 pub returns-in_err-entry-clause-either : goal.returns-in_err-entry-clause-either
@@ -74,3 +75,17 @@ returns-clause-tail g c =
     let new = g.S.Storage.may_hold c.write.new.self in
     let is = c.as_slice.ensures.value ∙ c.in_ok-entry.ensures in
     names_appended old new words c.args.room position.words position.pass lines c.requires.changed.lines_are c.requires.within (rw is at c.write.ensures.found)
+
+pub returns-in_err-write-clause-place : goal.returns-in_err-write-clause-place
+returns-in_err-write-clause-place g c =
+    let durable = c.args.durable.now in
+    let old = g.S.Storage.may_hold c.args.storage.now in
+    let new = g.S.Storage.may_hold c.write.new.self in
+    places_behind old new durable (length durable + c.args.position.words) _ (omega arith) c.write.ensures.found
+
+pub returns-clause-place : goal.returns-clause-place
+returns-clause-place g c =
+    let durable = c.args.durable.now in
+    let old = g.S.Storage.may_hold c.args.storage.now in
+    let new = g.S.Storage.may_hold c.write.new.self in
+    places_behind old new durable (length durable + c.args.position.words) _ (omega arith) c.write.ensures.found

@@ -21,3 +21,6 @@ returns-clause-durable g c =
     ext_get_or 0 now words size (λ word lt.
     let below : word < length words = omega (arith, lt, size) in
     c.put_each.ensures.each word (omega (arith, below, c.requires.differs.size)) ∙ changed.makes word below)
+
+pub returns-in_err-check_part-clause-either : goal.returns-in_err-check_part-clause-either
+returns-in_err-check_part-clause-either g c = grind (arith, rests-either)

@@ -1,7 +1,8 @@
-use Rattle.std.proofs.Common.{inl, ◌≡◌, ◌++◌, ◌∙◌, length}
+use Rattle.std.proofs.Common.{inl, ◌≡◌, ◌++◌, ◌∙◌, length, arith}
 use Rattle.std.proofs.Math.Logic.{∥∥₁_map}
 use Rattle.journal.proofs.Files.{clear as cleared, clear-opens, clear-kept, merely-opens, on_ok}
 use Rattle.journal.proofs.Tails.{names_cleared, names_clear, first_cleared}
+use Rattle.journal.proofs.Places.{places_behind}
 use Rattle.journal.proofs.rewriting.clear.Goals as goal
 
 pub returns-in_err-rest-clause-opens : goal.returns-in_err-rest-clause-opens
@@ -59,3 +60,10 @@ returns-clause-first g c =
     let new = g.S.Storage.may_hold c.put.new.storage in
     let is : c.as_slice.result.now ≡ cleared words c.args.room = c.as_slice.ensures.value ∙ c.in_ok-extend_from_slice.ensures.items ∙ (λ i. c.in_ok-rest.ensures.items_if_clones_equal (λ y e. e) i ++ c.tail.ensures i) in
     first_cleared old new words c.args.room (rw is at c.put.ensures.puts)
+
+pub returns-clause-place : goal.returns-clause-place
+returns-clause-place g c =
+    let image = c.args.image.now in
+    let old = g.S.Storage.may_hold c.args.storage.now in
+    let new = g.S.Storage.may_hold c.put.new.storage in
+    places_behind old new image (length image) _ (omega arith) c.put.ensures.puts

@@ -1,9 +1,10 @@
-use Rattle.std.proofs.Common.{◌≡◌, ◌∙◌, inl, inr, ◌-◌, ℕ, length, replicate, ap, arith}
+use Rattle.std.proofs.Common.{◌≡◌, ◌∙◌, inl, inr, ◌+◌, ◌-◌, ℕ, length, replicate, ap, arith}
 use Rattle.std.proofs.Math.Logic.{∥∥₁_map}
 use Rattle.journal.proofs.Files.{known-opens, merely-opens}
 use Rattle.journal.proofs.Within.{both_ok}
 use Rattle.journal.proofs.Turned.{fillings, fill-opens, fill-kept}
 use Rattle.journal.proofs.Tails.{names_before, names_filled}
+use Rattle.journal.proofs.Places.{places_behind, places_image, places_then}
 use Rattle.journal.proofs.rewriting.fill.Goals as goal
 
 pub returns-in_err-rest-clause-opens : goal.returns-in_err-rest-clause-opens
@@ -84,3 +85,18 @@ returns-clause-tail g c names =
     let is : c.as_slice.result.now ≡ fillings position.pass (room - position.words) =
     c.as_slice.ensures.value ∙ c.in_ok-rest.ensures.items_if_clones_equal (λ y e. e) ∙ ap (λ (v : ℕ). replicate (room - position.words) v) c.bit_of.ensures in
     names_before mid new words room 0 image (omega arith) c.put.ensures.puts (names_filled old mid words room position.words position.pass c.requires.within (rw is at c.write.ensures.found) names)
+
+pub returns-in_err-write-clause-place : goal.returns-in_err-write-clause-place
+returns-in_err-write-clause-place g c =
+    let image = c.args.image.now in
+    let old = g.S.Storage.may_hold c.args.storage.now in
+    let new = g.S.Storage.may_hold c.write.new.self in
+    places_behind old new image (length image + c.args.position.words) _ (omega arith) c.write.ensures.found
+
+pub returns-clause-place : goal.returns-clause-place
+returns-clause-place g c =
+    let image = c.args.image.now in
+    let old = g.S.Storage.may_hold c.args.storage.now in
+    let mid = g.S.Storage.may_hold c.write.new.self in
+    let new = g.S.Storage.may_hold c.put.new.storage in
+    places_then old mid new image (places_behind old mid image (length image + c.args.position.words) _ (omega arith) c.write.ensures.found) (places_image mid new image c.put.ensures.puts)

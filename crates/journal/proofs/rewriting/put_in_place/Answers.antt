@@ -2,6 +2,7 @@ use Rattle.std.proofs.Common.{length, arith}
 use Rattle.std.proofs.Math.Logic.{∥∥₁_map}
 use Rattle.journal.proofs.Files.{place-opens, place-kept, merely-opens, on_ok}
 use Rattle.journal.proofs.Tails.{names_before, first_before}
+use Rattle.journal.proofs.Places.{places_image}
 use Rattle.journal.proofs.rewriting.put_in_place.Goals as goal
 
 pub returns-clause-opens : goal.returns-clause-opens
@@ -31,3 +32,10 @@ returns-clause-first g c =
     let old = g.S.Storage.may_hold c.args.storage.now in
     let new = g.S.Storage.may_hold c.put.new.storage in
     first_before old new (length image) c.args.room 0 image (omega arith) c.put.ensures.puts
+
+pub returns-clause-place : goal.returns-clause-place
+returns-clause-place g c =
+    let image = c.args.image.now in
+    let old = g.S.Storage.may_hold c.args.storage.now in
+    let new = g.S.Storage.may_hold c.put.new.storage in
+    places_image old new image c.put.ensures.puts

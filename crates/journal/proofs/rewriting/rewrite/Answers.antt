@@ -1,4 +1,6 @@
-use Rattle.std.proofs.Common.{inl}
+use Rattle.std.proofs.Common.{inl, length}
+use Rattle.journal.proofs.Files.{covers-opens, merely-opens, on_ok}
+use Rattle.journal.proofs.Places.{part_off, part_placed}
 use Rattle.journal.proofs.rewriting.rewrite.Goals as goal
 
 pub returns-in_err-clear-clause-tail : goal.returns-in_err-clear-clause-tail
@@ -9,3 +11,19 @@ returns-in_err-turn_off-clause-first g c pass first = inl (c.turn_off.ensures.fi
 
 pub returns-in_err-clear-clause-first : goal.returns-in_err-clear-clause-first
 returns-in_err-clear-clause-first g c pass first = inl (c.clear.ensures.first (c.turn_off.ensures.first pass (c.put_in_place.ensures.first first)))
+
+pub returns-in_err-check_part-clause-opens : goal.returns-in_err-check_part-clause-opens
+returns-in_err-check_part-clause-opens g c covers =
+    let image = c.args.image.now in
+    let old = g.S.Storage.may_hold c.args.storage.now in
+    merely-opens old (length image) c.args.room image covers (covers-opens old (length image) c.args.room image)
+
+pub returns-clause-holds : goal.returns-clause-holds
+returns-clause-holds g c =
+    let image = c.args.image.now in
+    let part = c.in_ok-check_part.ensures in
+    let off = g.S.Storage.may_hold c.turn_off.new.storage in
+    let clear = g.S.Storage.may_hold c.clear.new.storage in
+    let on = g.S.Storage.may_hold c.turn_on.new.storage in
+    let holds = part_placed off clear c.args.room image part c.clear.ensures.place (part_off off c.args.room image part c.in_ok-turn_off.ensures.done) in
+    on_ok c.turn_on.result (λ done. part_placed clear on c.args.room image part c.turn_on.ensures.place holds) c.turn_on.ensures.done

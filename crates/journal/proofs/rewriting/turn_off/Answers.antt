@@ -1,7 +1,8 @@
-use Rattle.std.proofs.Common.{length, inl, refl}
+use Rattle.std.proofs.Common.{◌+◌, length, inl, refl, arith}
 use Rattle.std.proofs.Math.Logic.{∥∥₁_map}
 use Rattle.journal.proofs.Files.{off-opens, off-kept, merely-opens, on_ok}
 use Rattle.journal.proofs.Tails.{names_over, first_over}
+use Rattle.journal.proofs.Places.{places_behind}
 use Rattle.journal.proofs.rewriting.turn_off.Goals as goal
 
 pub returns-clause-opens : goal.returns-clause-opens
@@ -33,3 +34,10 @@ returns-clause-first g c first =
     let old = g.S.Storage.may_hold c.args.storage.now in
     let new = g.S.Storage.may_hold c.put.new.storage in
     first_over old new words c.args.room (rw first at (rw c.tail.ensures at c.put.ensures.puts))
+
+pub returns-clause-place : goal.returns-clause-place
+returns-clause-place g c =
+    let image = c.args.image.now in
+    let old = g.S.Storage.may_hold c.args.storage.now in
+    let new = g.S.Storage.may_hold c.put.new.storage in
+    places_behind old new image (length image + c.args.room) _ (omega arith) c.put.ensures.puts

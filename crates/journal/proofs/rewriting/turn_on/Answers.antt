@@ -1,8 +1,9 @@
-use Rattle.std.proofs.Common.{length, inr, refl, true}
+use Rattle.std.proofs.Common.{◌+◌, length, inr, refl, true, arith}
 use Rattle.std.proofs.Math.Logic.{∥∥₁_map}
 use Rattle.journal.proofs.Files.{on-opens, on-kept, merely-opens, on_ok}
 use Rattle.journal.specs.Files.{magic}
 use Rattle.journal.proofs.Tails.{names_over}
+use Rattle.journal.proofs.Places.{places_behind}
 use Rattle.journal.proofs.rewriting.turn_on.Goals as goal
 
 pub returns-clause-opens : goal.returns-clause-opens
@@ -27,3 +28,10 @@ returns-clause-tail g c =
     let old = g.S.Storage.may_hold c.args.storage.now in
     let new = g.S.Storage.may_hold c.put.new.storage in
     names_over old new magic (length image) c.args.room true (inr refl) (rw c.tail.ensures at c.put.ensures.puts)
+
+pub returns-clause-place : goal.returns-clause-place
+returns-clause-place g c =
+    let image = c.args.image.now in
+    let old = g.S.Storage.may_hold c.args.storage.now in
+    let new = g.S.Storage.may_hold c.put.new.storage in
+    places_behind old new image (length image + c.args.room) _ (omega arith) c.put.ensures.puts

@@ -1,6 +1,7 @@
-use Rattle.std.proofs.Common.{◌≡◌, ◌∙◌, ℕ, List, sym, ap, subst}
+use Rattle.std.proofs.Common.{◌≡◌, ◌∙◌, ℕ, List, Result, Ok, Err, IfErr, IsErrAnd, sym, ap, subst}
 use Rattle.journal.specs.Files.{MayBe, Opens, StandsAs}
 use Rattle.journal.specs.Images.{last_image, room_of, storage_of}
+use Rattle.journal.specs.ReadBack.{StandsAsBefore}
 use Rattle.journal.proofs.Files.{only-stands}
 use Rattle.pmem.specs.Device.{restarted}
 use Rattle.pmem.specs.Words.{image_of}
@@ -57,3 +58,13 @@ returns-in-Err-clause-unopened g c still =
     let hold = g.S.Storage.may_hold in
     moved hold images.storage c.unopened-in-Err.result.storage c.args.words c.args.room c.args.file.now (c.unopened-in-Err.ensures ∙ ap (λ i. i.storage) c.in-Err.ensures.images)
     (kept (hold images.storage) c.args.words c.args.room images.room c.args.file.now images.written.items c.in_ok-images.ensures.room c.in_ok-images.ensures.stands c.in_ok-images.ensures.found)
+
+-- an error is handed on as it is
+passed : {T E : Type 0} (result : Result T E) (error : E) (P : E → Type 0) → IsErrAnd result (λ other. other ≡ error) → P error → IfErr result P
+passed (Ok t) error P is p = tt
+passed (Err other) error P is p = subst P (sym is) p
+
+pub returns-in_err-images-clause-unopened : goal.returns-in_err-images-clause-unopened
+returns-in_err-images-clause-unopened g c =
+    let hold = g.S.Storage.may_hold in
+    passed c.from_residual.result c.in_err-images.field-0.0 (λ unopened. StandsAsBefore (hold c.args.storage) (hold unopened.storage) c.args.words c.args.room c.args.file.now) c.from_residual.ensures.1 c.in_err-images.ensures.unopened
