@@ -5,3 +5,4 @@ pub mod Obeys
 pub mod Committing
 pub mod Ticking
 pub mod Closing
+pub mod Reports

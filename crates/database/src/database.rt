@@ -26,6 +26,15 @@ pub struct Refused<D> {
     pub device: D,
 }
 
+/// What a database says about itself at one moment.
+#[derive(Clone, Copy, Debug)]
+pub struct Report {
+    pub layout: Geometry,
+    /// The numbers of the ruling record, its gaps and long commits, and the next timestamp.
+    pub numbers: Status,
+    pub usage: Usage,
+}
+
 /// A store of rows over a device, with a committer and a collector in threads of their own. Threads may share it. A drop ends both
 /// workers, and leaves the device as a crash would: once it returns, the device is dropped too.
 pub struct Database<D: Pmem + Drop, R: Wait + Drop> {
@@ -99,6 +108,7 @@ impl<D: SyncAhead + Drop, R: Wait + Drop> Database<D, R> {
     ghost use Rattle.room.specs.Room.{ShowsStatus};
     ghost use Rattle.room.specs.Runs.{ComesTo};
     ghost use Rattle.room.specs.Usage.{ShowsUsage};
+    ghost use Rattle.database.specs.Reports.{ShowsReport};
     ghost use Rattle.database.specs.Closing.{ClosesRun, IsClosed, IsClosingRefused};
 
     /// Begins a transaction, which reads the rows that are committed now, and what it writes itself. 62 may be open.
@@ -149,6 +159,18 @@ impl<D: SyncAhead + Drop, R: Wait + Drop> Database<D, R> {
             unreachable!()
         };
         room.usage()
+    }
+
+    /// The layout, the numbers of the ruling record and how the slots are used, all at one moment. It takes the lock once, and looks at each
+    /// key and each slot under it.
+    pub fn report(&self) -> Report
+        ensures { ComesTo (λ q. ShowsReport q result) }
+    {
+        let desk = self.shared.desk(&self.rt);
+        let Some(room) = &desk.room else {
+            unreachable!()
+        };
+        room.report()
     }
 
     /// The layout of a state that a run comes to.

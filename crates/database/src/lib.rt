@@ -28,6 +28,6 @@ mod turns;
 mod waiting;
 mod workers;
 
-pub use database::{Database, Refused};
+pub use database::{Database, Refused, Report};
 pub use error::CommitError;
 pub use transaction::Transaction;

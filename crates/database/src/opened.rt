@@ -4,6 +4,7 @@
 ghost use Rattle.room.specs.Runs.{HasTaken};
 ghost use Rattle.database.specs.Ended.{EndedAlong};
 
+use crate::database::Report;
 use base::Ts;
 use base::fault::Fault;
 use base::geometry::Geometry;
@@ -35,6 +36,7 @@ impl<D: Pmem + Drop> OpenedRoom<D> {
     ghost use Rattle.room.specs.Runs.{ComesTo};
     ghost use Rattle.room.specs.Usage.{ShowsUsage};
     ghost use Rattle.database.specs.Opening.{IsFresh};
+    ghost use Rattle.database.specs.Reports.{ShowsReport};
 
     /// The room as it was opened.
     pub fn new(room: Room<D>) -> OpenedRoom<D>
@@ -101,6 +103,17 @@ impl<D: Pmem + Drop> OpenedRoom<D> {
         ensures { ComesTo (λ q. ShowsUsage q result) }
     {
         self.room.usage()
+    }
+
+    /// The layout, the numbers of the ruling record and how the slots are used.
+    pub fn report(&self) -> Report
+        ensures { ComesTo (λ q. ShowsReport q result) }
+    {
+        Report {
+            layout: self.room.geometry(),
+            numbers: self.room.status(),
+            usage: self.room.usage(),
+        }
     }
 
     /// The room, which is to be closed.

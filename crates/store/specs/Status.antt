@@ -33,3 +33,9 @@ pub record ShowsNumbers (q : State) (status : Status) : Type 0 where
 pub record ShowsFill (q : State) (status : Status) : Type 0 where
   pub rows : CountsRows q status.rows
   pub free : status.free ≡ free_slots q
+
+-- all of these, of one state
+pub record ShowsStore (q : State) (status : Status) : Type 0 where
+  pub layout : ShowsLayout q status
+  pub numbers : ShowsNumbers q status
+  pub fill : ShowsFill q status

@@ -4,10 +4,8 @@
 ghost use Rattle.std.specs.Prelude.{◌≡◌, ◌≤◌, min};
 ghost use Rattle.store.specs.Status.{draws_left, records_left};
 
-use base::geometry::Geometry;
 use base::{NUMBER_LIMIT, Ts};
-use room;
-use room::Usage;
+use database::Report;
 
 /// The layout of a store, how far it has come, and how full it is.
 #[derive(Clone, Copy, Debug, PartialEq, Eq)]
@@ -44,16 +42,18 @@ pub struct Status {
 impl Status {
     ghost use Rattle.std.specs.Prelude.{◌-◌};
     ghost use Rattle.machine.specs.Machine.{State};
-    ghost use Rattle.room.specs.Room.{ShowsStatus};
-    ghost use Rattle.room.specs.Usage.{ShowsUsage};
-    ghost use Rattle.store.specs.Status.{ShowsLayout, ShowsNumbers, ShowsFill};
+    ghost use Rattle.database.specs.Reports.{ShowsReport};
+    ghost use Rattle.store.specs.Status.{ShowsStore};
 
-    pub(crate) fn of(geometry: &Geometry, numbers: &room::Status, usage: &Usage) -> Status
-        ensures layout { (q : State) → geometry.now ≡ q.layout → ShowsLayout q result }
-        ensures numbers { (q : State) → ShowsStatus q numbers.now → ShowsNumbers q result }
-        ensures fill { (q : State) → ShowsUsage q usage.now → ShowsFill q result }
+    pub(crate) fn of(report: &Report) -> Status
+        ensures shows { (q : State) → ShowsReport q report.now → ShowsStore q result }
         ensures versions { result.versions ≡ result.slots - result.free }
     {
+        let Report {
+            layout: geometry,
+            numbers,
+            usage,
+        } = report;
         Status {
             version: geometry.version(),
             slots: geometry.slots(),

@@ -3,8 +3,10 @@
 
 ghost use Rattle.std.specs.Prelude.{◌≡◌, ℕ, IfSome, IfNone};
 ghost use Rattle.std.specs.String.{string_bytes};
+ghost use Rattle.base.specs.Layout.{row_limit};
 ghost use Rattle.base.specs.declared.fault.Fault.TheVariants.{Damaged};
 ghost use Rattle.pmem_file.specs.Devices.{failure_of, state_of};
+ghost use Rattle.room.specs.Runs.{ComesTo};
 ghost use Rattle.database.specs.Closing.{ClosesRun, IsClosingRefused};
 ghost use Rattle.store.specs.Files.{IsRefusedWith, IsUnopened, ReportsFault, ReportsFound, ReportsLayout};
 ghost use Rattle.store.specs.declared.error.StoreError.{StoreError};
@@ -45,6 +47,9 @@ pub struct Store<R: Wait + Drop> {
     alloc: Global,
     name: String,
     database: Database<Device, R>,
+    // The greatest length of a row, in bytes. The layout never changes, so a begin takes no lock for it.
+    limit: usize,
+    ghost limited: { ComesTo (λ q. limit ≡ row_limit q.layout.version) },
 }
 
 impl<R: Files<File = File> + Threads + Wait + Copy + Drop + Send + Sync + 'static> Store<R> {
@@ -75,11 +80,7 @@ impl<R: Files<File = File> + Threads + Wait + Copy + Drop + Send + Sync + 'stati
     {
         let name = String::from_str(alloc, name)?;
         match open_database(&rt, alloc, name.as_str(), geometry) {
-            Ok(database) => Ok(Store {
-                alloc,
-                name,
-                database,
-            }),
+            Ok(database) => Ok(over(alloc, name, database)),
             Err(refusal) => Err(not_opened(name, geometry, refusal)),
         }
     }
@@ -105,13 +106,22 @@ impl<R: Files<File = File> + Threads + Wait + Copy + Drop + Send + Sync + 'stati
             Err(cause) => return Err(StoreError::File { name, cause }),
         };
         match open_over(&rt, alloc, device) {
-            Ok(database) => Ok(Store {
-                alloc,
-                name,
-                database,
-            }),
+            Ok(database) => Ok(over(alloc, name, database)),
             Err(refusal) => Err(not_opened(name, layout, refusal)),
         }
+    }
+}
+
+// The store over this database, with the row limit of its layout.
+fn over<R: Wait + Drop>(alloc: Global, name: String, database: Database<Device, R>) -> Store<R>
+    ensures { result.name ≡ name }
+{
+    let limit = database.geometry().row_limit();
+    Store {
+        alloc,
+        name,
+        database,
+        limit,
     }
 }
 
@@ -160,7 +170,7 @@ impl<R: Wait + Drop> Store<R> {
     ghost use Rattle.store.specs.Answers.{Answers};
     ghost use Rattle.store.specs.Opening.{IsCovered, IsClosingError};
     ghost use Rattle.store.specs.Trying.{CommitsWithin, FailsWithin, Fails, EndsTry};
-    ghost use Rattle.store.specs.Status.{ShowsLayout, ShowsNumbers, ShowsFill};
+    ghost use Rattle.store.specs.Status.{ShowsStore};
 
     /// Makes the changes in one transaction and commits it. It returns what the changes return, and the timestamp, or `None` if
     /// nothing was written. After a conflict it tries again, on the rows as the other commit left them. After any other error,
@@ -252,7 +262,7 @@ impl<R: Wait + Drop> Store<R> {
     {
         Ok(Transaction {
             snapshot: self.read()?,
-            row_limit: self.database.geometry().row_limit(),
+            row_limit: self.limit,
         })
     }
 
@@ -269,26 +279,19 @@ impl<R: Wait + Drop> Store<R> {
         })
     }
 
-    /// The layout of the store, how far it has come, and how full it is. It looks at each key and each slot while other threads wait. Its
-    /// numbers are read one after the other, and other threads may commit in between.
+    /// The layout of the store, how far it has come, and how full it is, all at one moment. It looks at each key and each slot while other
+    /// threads wait.
     pub fn status(&self) -> Status
-        // The layout of a state that a run comes to.
-        ensures layout { ComesTo (λ q. ShowsLayout q result) }
-
-        // Of a state that a run comes to: the number and the timestamp of the ruling record, how many long commits and gaps it
-        // names, and how many commits may still be made. That is the lesser of two: how many timestamps may be drawn (the machine
-        // refuses a draw within two windows of the last one), and how many records may follow.
-        ensures numbers { ComesTo (λ q. ShowsNumbers q result) }
-
-        // How many rows are covered in such a state, and how many slots hold no version.
-        ensures fill { ComesTo (λ q. ShowsFill q result) }
+        // All of one state that a run comes to: its layout, the number and the timestamp of the ruling record, and how many long
+        // commits and gaps it names. Also how many rows are covered, how many slots hold no version, and how many commits may
+        // still be made. That is the lesser of two: how many timestamps may be drawn (the machine refuses a draw within two
+        // windows of the last one), and how many records may follow.
+        ensures shows { ComesTo (λ q. ShowsStore q result) }
 
         // How many slots aren't free.
         ensures versions { result.versions ≡ result.slots - result.free }
     {
-        let numbers = self.database.status();
-        let usage = self.database.usage();
-        Status::of(&self.database.geometry(), &numbers, &usage)
+        Status::of(&self.database.report())
     }
 
     /// The name of the store's file.
