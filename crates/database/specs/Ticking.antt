@@ -15,8 +15,8 @@ use Rattle.pmem.specs.declared.device.Pmem.{Ghosts}
 use Rattle.room.specs.Room.{Leads, covered_by}
 use Rattle.database.specs.declared.desk.Desk.{Desk}
 use Rattle.database.specs.declared.opened.OpenedRoom.{OpenedRoom}
-use Rattle.database.specs.declared.turns.Turn.{Turn}
-use Rattle.database.specs.declared.turns.Turn.TheVariants.{Idle, Finished, Flushed, LacksMemory, Stopped, Unfinished}
+use Rattle.roles.specs.declared.turn.Turn.{Turn}
+use Rattle.roles.specs.declared.turn.Turn.TheVariants.{Idle, Finished, Flushed, LacksMemory, Stopped, Unfinished}
 use Rattle.database.specs.Obeys.{InRoom, ended_of}
 
 -- The outcome of a turn that made a tick with this reply.
@@ -68,9 +68,7 @@ GoesOn reply = (fault : Fault) → reply ≡ Refused fault → fault ≡ OutOfMe
 -- Excluded: a turn that counts a worker out, or forgets whom to wake.
 abbrev pub LeavesRest : {D : Type 0} → {G : Ghosts D} → Desk D G → Desk D G → Type 0
 LeavesRest old new =
-    (new.group ≡ old.group) × (new.working ≡ old.working) × (new.closing ≡ old.closing)
-    × (new.is_led ≡ old.is_led) × (new.is_watched ≡ old.is_watched) × (new.is_syncing ≡ old.is_syncing) × (new.syncs_apart ≡ old.syncs_apart)
-    × (new.is_answered ≡ old.is_answered) × (new.is_wanted ≡ old.is_wanted)
+    (new.group ≡ old.group) × (new.roles ≡ old.roles) × (new.syncs_apart ≡ old.syncs_apart)
 
 -- all counts but that of the open transactions stay as they were
 abbrev pub LeavesCounts : {D : Type 0} → {G : Ghosts D} → Desk D G → Desk D G → Type 0

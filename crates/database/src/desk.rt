@@ -1,7 +1,7 @@
 //! One lock, the desk's, guards the room and the state of the commit protocol. Commits form a group (`group`) and wait
 //! (`waiting`). One thread leads the group through the committer's ticks (`leading`, `turns`), and the workers take turns when
-//! nobody does (`workers`). Each flag below tells other threads who may act or has to be woken, so it changes only under this
-//! lock. A thread that holds this lock may take the one of `answers`, never the other way around.
+//! nobody does (`workers`). Who may act and who has to be woken is in `Roles`, which changes only under this lock, and only by its
+//! own moves. A thread that holds this lock may take the one of `answers`, never the other way around.
 
 ghost use Rattle.std.specs.Prelude.{◌<◌};
 ghost use Rattle.database.specs.Committing.{HasLackedMemory};
@@ -17,6 +17,7 @@ use base::fault::Fault;
 use base::key::Key;
 use base::row::Row;
 use pmem::Pmem;
+use roles::Roles;
 use std::hint::spin_loop;
 use std::sync::{Condvar, Mutex, MutexGuard, Wait};
 use std::thread;
@@ -38,24 +39,12 @@ pub struct Desk<D: Pmem> {
     /// The commits that wait for their record. This field comes first: a thread that tries the lock pulls in the cache line behind the lock's
     /// word, so nothing that the holder often uses may be there.
     pub group: Group,
-    /// How many workers there are.
-    pub working: u64,
-    /// The workers have to end.
-    pub closing: bool,
+    /// Who leads or watches the group, and who has to be woken.
+    pub roles: Roles,
     /// How many transactions are open, including those that wait for their commit.
     pub open: u64,
-    /// A thread takes the committer's turns for those who wait.
-    pub is_led: bool,
-    /// A thread will lead the group after a while, if nobody has by then.
-    pub is_watched: bool,
-    /// The thread that takes a turn of the committer syncs, without the lock: no other thread makes a tick until the sync is done.
-    pub is_syncing: bool,
     /// This device can sync without the lock. A round of the collector then begins during a sync.
     pub syncs_apart: bool,
-    /// A thread that got a reply has to be woken.
-    pub is_answered: bool,
-    /// The committer's worker has to be woken once nobody takes its turns.
-    pub is_wanted: bool,
     /// How many rows the covered commits wrote or deleted since the collector's last round.
     pub covered: u64,
     /// How many ticks in a row were refused for lack of memory.
@@ -284,7 +273,7 @@ impl<D: Pmem + Drop> Desk<D> {
         if let Some(answer) = self.answer(session) {
             self.group.leave(session);
             self.leave();
-            self.is_answered = true;
+            self.roles.reply();
             answers.put(place, session, answer);
         }
     }
@@ -324,7 +313,7 @@ impl<D: Pmem + Drop> Desk<D> {
 
     /// Whether the collector's round may wait for the next sync, during which it doesn't keep others from the lock.
     pub fn may_round_wait(&self) -> bool {
-        self.syncs_apart && !self.is_syncing && !self.is_round_late()
+        self.syncs_apart && !self.roles.is_led() && !self.is_round_late()
     }
 }
 
@@ -379,15 +368,9 @@ impl<D: Pmem + Drop> Shared<D> {
         Shared {
             desk: Mutex::new(Desk {
                 group: Group::new(),
-                working: 0,
-                closing: false,
+                roles: Roles::new(),
                 open: 0,
-                is_led: false,
-                is_watched: false,
-                is_syncing: false,
                 syncs_apart: false,
-                is_answered: false,
-                is_wanted: false,
                 covered: u64::MAX,
                 refusals: 0,
                 room: None,
@@ -408,11 +391,35 @@ impl<D: Pmem + Drop> Shared<D> {
     /// Releases the lock, and then wakes the threads that got replies, so that they don't wait for the lock.
     pub fn exit(&self, desk: MutexGuard<'_, Desk<D>>) {
         let mut desk = desk;
-        let is_answered = desk.is_answered;
-        desk.is_answered = false;
+        let has_replied = desk.roles.take_replied();
         drop(desk);
-        if is_answered {
+        if has_replied {
             self.answered.notify_all();
+        }
+    }
+
+    /// Wakes the threads that got replies, and sleeps until `moved` is notified.
+    pub fn wait_moved<'a, R: Wait>(
+        &'a self,
+        rt: &R,
+        desk: MutexGuard<'a, Desk<D>>,
+    ) -> MutexGuard<'a, Desk<D>> {
+        let mut desk = desk;
+        self.wake_replied(&mut desk);
+        self.moved.wait(rt, desk)
+    }
+
+    /// Wakes the threads that got replies, while the lock is held.
+    pub fn wake_replied(&self, desk: &mut Desk<D>) {
+        if desk.roles.take_replied() {
+            self.answered.notify_all();
+        }
+    }
+
+    /// Wakes the committer's worker, if it was told to wait, or if commits are left that nobody acts for.
+    pub fn recall(&self, desk: &mut Desk<D>, are_left: bool) {
+        if desk.roles.recall(are_left) {
+            self.commits.notify_all();
         }
     }
 
@@ -456,10 +463,10 @@ impl<D: Pmem + Drop> Shared<D> {
     /// Tells the workers to end, and waits until they have.
     pub fn end_work<R: Wait>(&self, rt: &R) {
         let mut desk = self.desk.lock(rt);
-        desk.closing = true;
+        desk.roles.close();
         self.wake_workers();
         for _ in rt.forever() {
-            if desk.working == 0 {
+            if desk.roles.have_ended() {
                 return;
             }
             desk = self.moved.wait(rt, desk);
@@ -468,7 +475,7 @@ impl<D: Pmem + Drop> Shared<D> {
 
     /// Wakes the thread that watches a group, if the group is complete because another commit won't come.
     pub fn urge(&self, desk: &Desk<D>) {
-        if desk.is_watched && desk.is_whole() {
+        if desk.roles.is_watched() && desk.is_whole() {
             self.moved.notify_all();
         }
     }
@@ -481,13 +488,13 @@ impl<D: Pmem + Drop> Shared<D> {
     /// Counts a worker in before its thread is started, so that closing can't miss it.
     pub fn begin_working<R: Wait>(&self, rt: &R) {
         let mut desk = self.desk.lock(rt);
-        desk.working = desk.working.saturating_add(1);
+        desk.roles.begin_working();
     }
 
     /// Counts a worker out: no thread is joined, so closing waits until all are out.
     pub fn end_working<R: Wait>(&self, rt: &R) {
         let mut desk = self.desk.lock(rt);
-        desk.working = desk.working.saturating_sub(1);
+        desk.roles.end_working();
         self.moved.notify_all();
     }
 

@@ -1,11 +1,11 @@
 //! One thread leads a group: it makes the committer's ticks for all who wait, since it runs already and holds the lock. The
 //! others sleep until their reply is there. The first to come watches, so that a group for which nobody else comes is led too.
-//! `is_led` and `is_watched` of the desk say which of the two roles is taken.
+//! `Roles` says which of the two roles is taken. A thread that takes a turn of the committer leads, also if the group is empty.
 
 use crate::desk::{Desk, Shared};
 use crate::error::CommitError;
-use crate::turns::Turn;
 use base::Ts;
+use roles::{Next, Turn};
 use std::sync::{MutexGuard, Wait};
 use std::thread;
 use std::time::Duration;
@@ -33,7 +33,8 @@ impl<D: SyncAhead + Drop> Shared<D> {
     {
         let mut desk = desk;
         desk.group.join();
-        if desk.is_led || desk.is_watched && !desk.is_whole() {
+        let is_whole = desk.is_whole();
+        if desk.roles.follows(is_whole) {
             if let Some(place) = self.reserve_answer(rt) {
                 desk.group.follow(session, place);
                 drop(desk);
@@ -101,13 +102,12 @@ impl<D: SyncAhead + Drop> Shared<D> {
     ) -> MutexGuard<'a, Desk<D>> {
         let mut desk = desk;
         let before = desk.missing();
-        if before == 0 || desk.is_led || !desk.group.may_grow() {
+        if before == 0 || desk.roles.is_led() || !desk.group.may_grow() {
             return desk;
         }
-        desk.is_watched = true;
+        desk.roles.watch();
         let mut desk = self.watch(rt, desk);
-        desk.is_watched = false;
-        if !desk.is_led {
+        if desk.roles.end_watch() {
             let after = desk.missing();
             desk.group.grew(before, after);
         }
@@ -124,7 +124,7 @@ impl<D: SyncAhead + Drop> Shared<D> {
         for _ in 0..NAPS {
             let missing = desk.missing();
             desk = self.nap(rt, desk);
-            if !desk.is_watched || desk.is_whole() || missing <= desk.missing() {
+            if !desk.roles.is_watched() || desk.is_whole() || missing <= desk.missing() {
                 break;
             }
         }
@@ -151,62 +151,62 @@ impl<D: SyncAhead + Drop> Shared<D> {
     ) -> MutexGuard<'a, Desk<D>> {
         let (mut desk, turn) = self.cover_group(rt, desk);
         self.notify(rt, &mut desk, turn);
-        match turn {
-            Turn::Idle => {
-                self.recall(&mut desk);
-                self.moved.wait(rt, desk)
+        match turn.next_of_leader() {
+            Next::Sleep => {
+                self.recall(&mut desk, false);
+                self.wait_moved(rt, desk)
             }
-            Turn::Busy => self.moved.wait(rt, desk),
-            Turn::LacksMemory => {
-                drop(desk);
-                thread::yield_now();
-                self.desk(rt)
-            }
-            _ => desk,
+            Next::Yield => self.pass(rt, desk),
+            Next::Again => desk,
         }
     }
 
-    // Closes the group and takes a turn of the committer for it, unless another thread does.
-    fn cover_group<'a, R: Wait>(
+    /// Lets other threads have the lock.
+    pub fn pass<'a, R: Wait>(
+        &'a self,
+        rt: &R,
+        desk: MutexGuard<'a, Desk<D>>,
+    ) -> MutexGuard<'a, Desk<D>> {
+        self.exit(desk);
+        thread::yield_now();
+        self.desk(rt)
+    }
+
+    /// Closes the group, if commits wait in it, and takes a turn of the committer, unless another thread leads.
+    pub fn cover_group<'a, R: Wait>(
         &'a self,
         rt: &R,
         desk: MutexGuard<'a, Desk<D>>,
     ) -> (MutexGuard<'a, Desk<D>>, Turn) {
         let mut desk = desk;
-        if desk.is_led {
+        if !desk.roles.take() {
             return (desk, Turn::Busy);
         }
-        desk.is_led = true;
-        desk.is_watched = false;
         let open = desk.open;
-        desk.group.close(open);
+        if !desk.group.is_empty() {
+            desk.group.close(open);
+        }
         let (mut desk, turn) = self.take_ticks(rt, desk);
-        desk.is_led = false;
+        desk.roles.end_turn();
         (desk, turn)
     }
 
     // Leaves those who came during the group's sync to the committer's worker, and wakes the threads that got replies.
     fn end_lead(&self, desk: MutexGuard<'_, Desk<D>>) {
         let mut desk = desk;
-        if !desk.is_led {
-            desk.is_wanted = desk.is_wanted || !desk.group.is_empty();
-            self.recall(&mut desk);
-        }
+        let are_left = !desk.group.is_empty();
+        self.recall(&mut desk, are_left);
         self.exit(desk);
     }
 
-    /// A turn of the committer's worker. Those who wait and have nobody to lead them are a group, which the worker leads. It takes no
-    /// turn while another thread leads.
+    /// A turn of the committer's worker. Those who wait and have nobody to lead them are a group, which the worker leads.
     pub fn take_over<'a, R: Wait>(
         &'a self,
         rt: &R,
         desk: MutexGuard<'a, Desk<D>>,
     ) -> (MutexGuard<'a, Desk<D>>, Turn) {
-        if desk.is_led {
-            return (desk, Turn::Busy);
-        }
         if desk.group.is_empty() {
-            return self.take_ticks(rt, desk);
+            return self.cover_group(rt, desk);
         }
         let desk = self.gather(rt, desk);
         self.cover_group(rt, desk)

@@ -4,7 +4,7 @@
 
 ghost use Rattle.std.specs.Prelude.{◌≡◌, ◌-◌, ◌^◌, min, IsTrue, is_some};
 ghost use Rattle.base.specs.declared.step.Step.TheVariants.{Collect};
-ghost use Rattle.database.specs.declared.turns.Turn.TheVariants.{Stopped};
+ghost use Rattle.roles.specs.declared.turn.Turn.TheVariants.{Stopped};
 ghost use Rattle.database.specs.Obeys.{InRoom, Repeats, ended_of};
 ghost use Rattle.database.specs.Ticking.{TicksOnce, LeavesRest, rows_written, covered_since};
 
@@ -14,6 +14,7 @@ use base::batch::Batch;
 use base::fault::Fault;
 use base::step::Stage;
 use pmem::Pmem;
+use roles::Turn;
 use room::{Tick, Visit};
 use std::sync::{MutexGuard, Wait};
 use sync_ahead::SyncAhead;
@@ -27,25 +28,6 @@ const TICKS: u64 = 8_192;
 const LEAST_VISITS: u64 = 64;
 
 const MOST_VISITS: u64 = 1_024;
-
-/// The outcome of a turn under the lock.
-#[derive(Clone, Copy)]
-pub enum Turn {
-    /// There is more to do.
-    Unfinished,
-    /// There is more to do, and the next tick makes a record durable.
-    Flushed,
-    /// A batch is covered, or a round has ended.
-    Finished,
-    /// There was nothing to do.
-    Idle,
-    /// Another thread takes the committer's turns.
-    Busy,
-    /// Memory was refused. That passes.
-    LacksMemory,
-    /// Something else was refused. That doesn't pass.
-    Stopped,
-}
 
 // A tick of the committer.
 fn tick<D: Pmem + Drop>(desk: &mut Desk<D>) -> Turn
@@ -124,7 +106,7 @@ impl<D: Pmem + Drop> Desk<D> {
     ghost use Rattle.base.specs.declared.step.Reply.TheVariants.{Refused};
     ghost use Rattle.room.specs.declared.ticks.Tick.TheVariants.{Covered};
     ghost use Rattle.room.specs.Ticks.{as_reply as ticked};
-    ghost use Rattle.database.specs.declared.turns.Turn.TheVariants.{Stopped};
+    ghost use Rattle.roles.specs.declared.turn.Turn.TheVariants.{Stopped};
     ghost use Rattle.database.specs.Committing.{HasLackedMemory};
     ghost use Rattle.database.specs.Ticking.{LeavesRest, turn_of, refusals_after, covered_after, covered_in, rows_in};
 
@@ -197,10 +179,7 @@ impl<D: Pmem + Drop> Shared<D> {
     /// Replies to those who wait for their commit, and wakes others whom the turn concerns: threads that wait for another's commit,
     /// and the collector if a round is due, unless a sync wakes it. A thread that waits for its own commit sleeps on.
     pub fn notify<R: Wait>(&self, rt: &R, desk: &mut Desk<D>, turn: Turn) {
-        if matches!(
-            turn,
-            Turn::Unfinished | Turn::Flushed | Turn::Idle | Turn::Busy
-        ) {
+        if !turn.is_news() {
             return;
         }
         desk.answer_all(&mut self.enter_answers(rt));
@@ -214,9 +193,9 @@ impl<D: Pmem + Drop> Shared<D> {
 impl<D: SyncAhead + Drop> Shared<D> {
     ghost use Rattle.std.specs.Prelude.{◌≡◌, IsTrue, is_some};
     ghost use Rattle.std.specs.Sync.Mutex.{mutex_guard_value};
-    ghost use Rattle.database.specs.declared.turns.Turn.TheVariants.{Stopped};
+    ghost use Rattle.roles.specs.declared.turn.Turn.TheVariants.{Stopped};
 
-    /// A turn of the committer: ticks up to the one that covers a batch. If a tick would sync, the sync is made before it, without the
+    /// The ticks of a thread that leads, up to the one that covers a batch. If a tick would sync, the sync is made before it, without the
     /// lock, so that others can read, write and stamp meanwhile. What they stamp belongs to the next batch.
     pub fn take_ticks<'a, R: Wait>(
         &'a self,
@@ -226,9 +205,6 @@ impl<D: SyncAhead + Drop> Shared<D> {
         ensures stopped { result.1 ≡ Stopped → IsTrue (is_some (ended_of (mutex_guard_value result.0).room)) }
     {
         let mut desk = desk;
-        if desk.is_syncing {
-            return (desk, Turn::Busy);
-        }
         for _ in 0..TICKS {
             match tick(&mut desk) {
                 Turn::Unfinished => {}
@@ -254,22 +230,11 @@ impl<D: SyncAhead + Drop> Shared<D> {
         if desk.is_round_due() {
             self.rounds.notify_all();
         }
-        drop(desk);
+        self.exit(desk);
         D::sync(&mut pending);
         let mut desk = self.enter(rt);
         desk.end_sync(pending);
-        if !desk.is_led {
-            self.recall(&mut desk);
-        }
         desk
-    }
-
-    /// Wakes the committer's worker, if it has to be woken.
-    pub fn recall(&self, desk: &mut Desk<D>) {
-        if desk.is_wanted {
-            desk.is_wanted = false;
-            self.commits.notify_all();
-        }
     }
 }
 
@@ -280,14 +245,12 @@ impl<D: SyncAhead + Drop> Desk<D> {
             return None;
         };
         let pending = room.begin_sync();
-        self.is_syncing = pending.is_some();
         self.syncs_apart = self.syncs_apart || pending.is_some();
         pending
     }
 
     // Takes it back. The room is there, since closing waits for the thread that syncs.
     fn end_sync(&mut self, pending: D::Pending) {
-        self.is_syncing = false;
         if let Some(room) = &mut self.room {
             room.end_sync(pending);
         }

@@ -9,13 +9,12 @@ ghost use Rattle.database.specs.declared.error.CommitError.TheVariants.{Refused}
 use crate::committing::prepare;
 use crate::desk::{Desk, Shared};
 use crate::error::CommitError;
-use crate::turns::Turn;
 use base::Ts;
 use base::fault::Fault;
 use base::key::Key;
 use base::row::Row;
+use roles::Next;
 use std::sync::{MutexGuard, Wait};
-use std::thread;
 use sync_ahead::SyncAhead;
 
 impl<D: SyncAhead + Drop> Shared<D> {
@@ -61,6 +60,7 @@ impl<D: SyncAhead + Drop> Shared<D> {
                     let mut desk = desk;
                     desk.leave();
                     self.urge(&desk);
+                    self.exit(desk);
                     Ok(None)
                 }
             },
@@ -120,8 +120,12 @@ impl<D: SyncAhead + Drop> Shared<D> {
                 self.urge(&desk);
                 let mut desk = self.settle(rt, desk, drawn);
                 desk.leave();
+                self.exit(desk);
             }
-            _ => desk.leave(),
+            _ => {
+                desk.leave();
+                self.exit(desk);
+            }
         }
     }
 
@@ -156,21 +160,20 @@ impl<D: SyncAhead + Drop> Shared<D> {
     ) -> MutexGuard<'a, Desk<D>> {
         let mut desk = desk;
         if 1 < desk.open {
-            if !desk.is_led {
+            if !desk.roles.is_led() {
                 self.commits.notify_all();
             }
-            return self.moved.wait(rt, desk);
+            return self.wait_moved(rt, desk);
         }
-        let (mut desk, turn) = self.take_ticks(rt, desk);
+        let (mut desk, turn) = self.cover_group(rt, desk);
         self.notify(rt, &mut desk, turn);
-        match turn {
-            Turn::Busy => self.moved.wait(rt, desk),
-            Turn::LacksMemory => {
-                drop(desk);
-                thread::yield_now();
-                self.desk(rt)
-            }
-            _ => desk,
+        // A commit that came meanwhile follows, and this thread won't lead it.
+        let are_left = !desk.group.is_empty();
+        self.recall(&mut desk, are_left);
+        match turn.next_of_waiter() {
+            Next::Sleep => self.wait_moved(rt, desk),
+            Next::Yield => self.pass(rt, desk),
+            Next::Again => desk,
         }
     }
 }

@@ -6,8 +6,8 @@ ghost use Rattle.base.specs.declared.fault.Fault.TheVariants.{OutOfMemory, NoThr
 
 use crate::desk::{Desk, Shared};
 use crate::turns;
-use crate::turns::Turn;
 use base::fault::Fault;
+use roles::{Next, Turn};
 use std::alloc::Global;
 use std::sync::{Arc, MutexGuard, Wait};
 use std::thread;
@@ -69,7 +69,7 @@ where
 fn work<R: Wait + Drop, D: SyncAhead + Drop>(rt: &R, shared: &Arc<Shared<D>, Global>, duty: Duty) {
     for _ in rt.forever() {
         let desk = shared.enter(rt);
-        if desk.closing {
+        if desk.roles.is_closing {
             break;
         }
         match duty {
@@ -80,7 +80,7 @@ fn work<R: Wait + Drop, D: SyncAhead + Drop>(rt: &R, shared: &Arc<Shared<D>, Glo
     shared.end_working(rt);
 }
 
-// A turn of the committer. Threads with new replies are woken once the lock is free. It sleeps if there is nothing to do.
+// A turn of the committer. The database may be closed while it syncs.
 fn commit<'a, R: Wait, D: SyncAhead + Drop>(
     rt: &R,
     shared: &'a Shared<D>,
@@ -88,24 +88,15 @@ fn commit<'a, R: Wait, D: SyncAhead + Drop>(
 ) {
     let (mut desk, turn) = shared.take_over(rt, desk);
     shared.notify(rt, &mut desk, turn);
-    // The database may have been closed while the lock was free.
-    if desk.closing {
-        return shared.exit(desk);
-    }
-    match turn {
-        Turn::Unfinished | Turn::Flushed | Turn::Finished => shared.exit(desk),
-        Turn::Busy => {
-            desk.is_wanted = true;
-            drop(shared.commits.wait(rt, desk));
-        }
-        Turn::Idle => drop(shared.commits.wait(rt, desk)),
-        // A thread waits, and no other will try again.
-        Turn::LacksMemory if !desk.is_led && !desk.group.is_empty() => {
+    let has_group = !desk.group.is_empty();
+    match desk.roles.next_of_worker(turn, has_group) {
+        Next::Again => shared.exit(desk),
+        Next::Yield => {
             shared.exit(desk);
             thread::yield_now();
         }
-        Turn::LacksMemory | Turn::Stopped => {
-            shared.answered.notify_all();
+        Next::Sleep => {
+            shared.wake_replied(&mut desk);
             drop(shared.commits.wait(rt, desk));
         }
     }
