@@ -93,7 +93,7 @@ impl<
                 return Err((fault, audited));
             }
         };
-        desk.audited = Some(audited);
+        desk.lend(audited);
         drop(desk);
         Ok(Engine {
             alloc,
@@ -111,17 +111,18 @@ impl<
 }
 
 impl<D: Pmem + Drop, J: Origin, B: Drop> Engine<D, J, B> {
-    ghost use Rattle.std.specs.Prelude.{◌≡◌, [], IfOk, IfErr, IfSome};
+    ghost use Rattle.std.specs.Prelude.{◌≡◌, [], None, IfOk, IfErr, IfSome};
     ghost use Rattle.base.specs.declared.fault.Fault.TheVariants.{OutOfMemory, WrongState, ReadersOut};
     ghost use Rattle.engine.specs.Origins.{IsFrom};
     ghost use Rattle.board.specs.Lists.{Begins};
     ghost use Rattle.engine.specs.declared.phase.Phase.TheVariants.{Idle};
-    ghost use Rattle.engine.specs.Agreement.{Agrees, IsReturned, receipts_in};
+    ghost use Rattle.engine.specs.Agreement.{Agrees, AreTold, IsReturned, receipts_in};
 
     /// A session, for one thread.
     pub fn session<R: Wait>(&self, rt: &R) -> Result<Session<D, J, B>, Fault>
         ensures empty { IfOk result (λ session. session.receipts.items ≡ []) }
         ensures phase { IfOk result (λ session. session.phase ≡ Idle) }
+        ensures told { IfOk result (λ session. session.told ≡ None) }
         ensures published { IfOk result (λ session. session.published ≡ self.now.published) }
         ensures memory { IfErr result (λ fault. fault ≡ OutOfMemory) }
     {
@@ -154,7 +155,8 @@ impl<D: Pmem + Drop, J: Origin, B: Drop> Engine<D, J, B> {
 
     /// Joins the workers and returns the room. Fails with `WrongState`, and returns everything, if a session that was handed
     /// out is missing, or if the room isn't the one that was lent. It isn't if it was opened with other numbers, or if the
-    /// receipts of the sessions aren't its steps. An engine that is returned after the workers were joined has none.
+    /// receipts of the sessions aren't its steps, or if a session was told of an end of the committer that isn't in its history.
+    /// An engine that is returned after the workers were joined has none.
     pub fn close<R: Threads + Wait>(
         mut self,
         rt: &R,
@@ -162,6 +164,10 @@ impl<D: Pmem + Drop, J: Origin, B: Drop> Engine<D, J, B> {
     ) -> Result<Audited<D>, (Fault, Engine<D, J, B>, Vec<Session<D, J, B>>)>
         ensures opening { IfOk result (λ audited. audited.opening ≡ self.opening) }
         ensures agrees { IfOk result (λ audited. Agrees audited.entries.items self.first (receipts_in sessions.items)) }
+
+        // Each tick of the committer that a session was told of is in the history, where the session says, and was refused with
+        // the fault that the session was told.
+        ensures told { IfOk result (λ audited. AreTold audited.entries.items self.first sessions.items) }
         ensures from { IfOk result (IsFrom D.state J.image) }
         ensures fault { IfErr result (λ e. e.0 ≡ WrongState) }
         ensures back { IfErr result (λ e. (e.1.opening ≡ self.opening) × (e.1.first ≡ self.first) × (e.1.published ≡ self.published) × (e.1.shared ≡ self.shared) × (e.1.readers ≡ self.readers) × (e.2.items ≡ sessions.items)) }
@@ -181,9 +187,9 @@ impl<D: Pmem + Drop, J: Origin, B: Drop> Engine<D, J, B> {
         }
     }
 
-    // Takes the room out, if it was opened with these numbers and the receipts are its steps.
+    // Takes the room out, if it was opened with these numbers and agrees with the sessions.
     fn take_back<R: Wait>(&self, rt: &R, sessions: &[Session<D, J, B>]) -> Option<Audited<D>>
-        ensures returned { IfSome result (IsReturned self.now.opening self.now.first (receipts_in sessions.now)) }
+        ensures returned { IfSome result (IsReturned self.now.opening self.now.first sessions.now) }
         ensures from { IfSome result (IsFrom D.state J.image) }
     {
         let mut desk = self.shared.desk.lock(rt);
