@@ -31,6 +31,9 @@ impl<D: Pmem + Drop, J: Origin, B: Drop> Session<D, J, B> {
         ensures ok { IfOk result (λ answer. self.new.phase ≡ prepared (number_of self.old.phase) answer) }
         ensures phase { self.new.phase ≡ phase_after self.old.phase (added_since self.old.receipts.items self.new.receipts.items) }
         ensures published { self.new.published ≡ self.old.published }
+
+        // What the session knows of the committer's end stays. If it knew of none, a call that fails with the fault of that end
+        // may tell it.
         ensures told { Hears self.old.told self.new.told result }
     {
         match self.phase {
@@ -66,6 +69,9 @@ impl<D: Pmem + Drop, J: Origin, B: Drop> Session<D, J, B> {
         ensures ok { OnOk result (self.new.phase ≡ Idle) }
         ensures phase { self.new.phase ≡ phase_after self.old.phase (added_since self.old.receipts.items self.new.receipts.items) }
         ensures published { self.new.published ≡ self.old.published }
+
+        // What the session knows of the committer's end stays. If it knew of none, a call that fails with the fault of that end
+        // may tell it.
         ensures told { Hears self.old.told self.new.told result }
     {
         let number = match self.phase.number() {
