@@ -1,9 +1,9 @@
 -- A prepare, its polls and its end.
-use Rattle.std.proofs.Common.{◌≡◌, ℕ, ◌≤◌, List, [], ◌∷◌, ◌++◌, length, refl, sym, ap, subst, ◌∙◌, inl, inr, arith, append_assoc, append-nil}
+use Rattle.std.proofs.Common.{◌≡◌, ◌⊎◌, ℕ, ◌≤◌, List, [], ◌∷◌, ◌++◌, length, refl, sym, ap, subst, ◌∙◌, inl, inr, arith, append_assoc, append-nil}
 use Rattle.std.specs.Prelude.{All, Option, ◌≢◌}
 use Rattle.std.proofs.lemmas.List.Elements.{All-nil, All-cons, All-tail, All-append}
 use Rattle.base.specs.declared.fault.Fault.{Fault}
-use Rattle.base.specs.declared.fault.Fault.TheVariants.{NoSession}
+use Rattle.base.specs.declared.fault.Fault.TheVariants.{NoSession, OutOfMemory}
 use Rattle.base.specs.declared.step.Step.TheVariants.{Draw, Stamp, Poll, End}
 use Rattle.base.specs.declared.step.Note.TheVariants.{Done, Refused, Waiting}
 use Rattle.audited.specs.declared.receipt.Receipt.{Receipt}
@@ -100,6 +100,17 @@ commit_polled E old mid new phase n fault R is c d = Called-append _ _ _ _ _ _ c
   subst (λ (rs : List Receipt). AskCommit phase (one ++ rs)) (append-nil two) (asks_some phase n one two [] is.number prepared.0 polled.0 (All-nil (λ (r : Receipt). r.step ≡ End n)) (omega arith)),
   declines E phase _ fault is.is_open (ReportsEnd-append E one two fault (prepared_uncovered phase one prepared.0) polled.1) (both_unended one two (prepared_unended phase one prepared.0) (polls_unended n two polled.0)),
 ))
+
+-- nothing will be covered
+pub not_covered : (E : Fault → Type 0) (old mid new : List Receipt) (n : ℕ) (fault : Fault) → Called old mid (λ added. ArePolls n added × All (λ r. r.note ≡ Waiting) added) → new ≡ mid → (fault ≡ OutOfMemory) ⊎ E fault
+    → Called old new (λ added. ArePolls n added × ReportsEnd E added fault)
+not_covered E old mid new n fault c same why =
+    subst (λ (rs : List Receipt). Called old rs (λ added. ArePolls n added × ReportsEnd E added fault)) (sym same)
+    (Called-weaken _ _ _ _ c (λ added polls. (polls.0, ends added why polls.1)))
+  where
+    ends : (added : List Receipt) → (fault ≡ OutOfMemory) ⊎ E fault → All (λ r. r.note ≡ Waiting) added → ReportsEnd E added fault
+    ends added (inl memory) waiting = inl (inl memory)
+    ends added (inr end) waiting = inr (end, λ place r less k asked. waiting place r less)
 
 -- it ended
 pub commit_ended : (old mid mid' new : List Receipt) (phase : Phase) (n : ℕ) (answer : Option ℕ) (R : List Receipt → Type 0) → IsOpenAs n phase → Called old mid (λ one. AskPrepare phase one × R one)

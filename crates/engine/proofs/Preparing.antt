@@ -29,16 +29,17 @@ drawn_first old mid new n note F G a c both =
     join one two (r, same, step, told) rest = subst (λ (rs : List Receipt). G (rs ++ two)) (sym same) (both r two step told rest)
 
 -- nothing is drawn, since nothing will be covered
-pub not_asked : (E : Fault → Type 0) (old : List Receipt) (phase : Phase) (n : ℕ) (fault : Fault) → phase ≡ Active n → (fault ≡ OutOfMemory) ⊎ E fault
-    → Called old old (λ added. AskPrepare phase added × DeclinesPrepare E phase added fault)
-not_asked E old phase n fault is why =
-    Called-none old _ (subst (λ (p : Phase). AskPrepare p [] × DeclinesPrepare E p [] fault) (sym is) (inl refl, not_drawn E n fault why))
+pub not_asked : (E : Fault → Type 0) (old new : List Receipt) (phase : Phase) (n : ℕ) (fault : Fault) → phase ≡ Active n → new ≡ old → (fault ≡ OutOfMemory) ⊎ E fault
+    → Called old new (λ added. AskPrepare phase added × DeclinesPrepare E phase added fault)
+not_asked E old new phase n fault is same why =
+    subst (λ (rs : List Receipt). Called old rs (λ added. AskPrepare phase added × DeclinesPrepare E phase added fault)) (sym same)
+    (Called-none old _ (subst (λ (p : Phase). AskPrepare p [] × DeclinesPrepare E p [] fault) (sym is) (inl refl, not_drawn E n fault why)))
 
 -- the draw is refused, or there is no memory for it
 pub draw_refused : (E : Fault → Type 0) (old new : List Receipt) (phase : Phase) (n : ℕ) (fault : Fault) → phase ≡ Active n → Refuses old new (Draw n) fault
     → Called old new (λ added. AskPrepare phase added × DeclinesPrepare E phase added fault)
 draw_refused E old new phase n fault is (inl (same, none)) =
-    subst (λ (rs : List Receipt). Called old rs (λ added. AskPrepare phase added × DeclinesPrepare E phase added fault)) (sym same) (not_asked E old phase n fault is (inl none))
+    not_asked E old new phase n fault is same (inl none)
 draw_refused E old new phase n fault is (inr a) =
     Called-one old new (Draw n) (Refused fault) _ a (λ r step told.
     subst (λ (p : Phase). AskPrepare p (r ∷ []) × DeclinesPrepare E p (r ∷ []) fault) (sym is)

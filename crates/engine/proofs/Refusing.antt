@@ -60,6 +60,10 @@ called-clean old new F c clean = record { added = c.added; is = c.is; runs = c.r
 pub none-clean : (old : List Receipt) → IsClean old old
 none-clean old = Called-none old (λ added. first_refusal added ≡ None) refl
 
+-- no more was made
+pub same-clean : (old mid new : List Receipt) → IsClean old mid → new ≡ mid → IsClean old new
+same-clean old mid new c same = subst (λ (rs : List Receipt). IsClean old rs) (sym same) c
+
 -- a step more
 pub more-clean : (old mid new : List Receipt) (step : Step) (note : Note) → IsClean old mid → Asks mid new step note → refused_with note ≡ None → IsClean old new
 more-clean old mid new step note c a still =

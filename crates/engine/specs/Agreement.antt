@@ -1,5 +1,5 @@
 -- When the receipts of sessions are the steps of a list.
-use Rattle.std.specs.Prelude.{◌≡◌, ℕ, ◌<◌, ◌≤◌, nat_eq, Bool, true, false, List, length, Some, All, count_by, flat_map, slice_get, IsTrue}
+use Rattle.std.specs.Prelude.{◌≡◌, ℕ, ◌<◌, ◌≤◌, nat_eq, Bool, true, false, List, length, Some, IfSome, All, count_by, flat_map, slice_get, IsTrue}
 use Rattle.base.specs.declared.step.Step.{Step}
 use Rattle.base.specs.declared.step.Step.TheVariants.{Commit as CommitTick, Collect}
 use Rattle.base.specs.declared.step.Note.{Note}
@@ -8,8 +8,10 @@ use Rattle.audited.specs.declared.audited.Audited.{Audited}
 use Rattle.audited.specs.declared.receipt.Receipt.{Receipt}
 use Rattle.pmem.specs.declared.device.Pmem.{Ghosts}
 use Rattle.board.specs.declared.history.Naming.{Ghosts as Names}
+use Rattle.engine.specs.declared.halt.Halt.{Halt}
 use Rattle.engine.specs.declared.origin.Origin.{Ghosts as Origins}
 use Rattle.engine.specs.declared.session.Session.{Session}
+use Rattle.engine.specs.Origins.{WasHalted}
 
 -- whether a session makes such a step; the workers make the others
 abbrev pub is_of_session : Step → Bool
@@ -42,11 +44,22 @@ pub record Agrees (entries : List (Step × Note)) (first : ℕ) (receipts : List
   pub each : All (IsEntry entries first) receipts
   pub once : AreOnce entries first (length entries) receipts
 
--- the room was opened with these numbers, and the receipts are its session steps from the first place on
-pub record IsReturned {D : Type 0} {G : Ghosts D} (opening : Status) (first : ℕ) (receipts : List Receipt) (audited : Audited D G) : Type 0 where
-  pub opened : audited.opening ≡ opening
-  pub agrees : Agrees audited.entries.items first receipts
-
 -- the receipts of all the sessions
 abbrev pub receipts_in : {D J B : Type 0} → {G : Ghosts D} → {N : Origins J} → {M : Names J} → List (Session D J B G N M) → List Receipt
 receipts_in sessions = flat_map (λ s. s.receipts.items) sessions
+
+-- the list's entry at its place, which is from the first place on, is a tick of the committer that was refused with its fault
+pub record IsTold (entries : List (Step × Note)) (first : ℕ) (halt : Halt) : Type 0 where
+  pub from : first ≤ halt.place
+  pub entry : WasHalted entries halt
+
+-- each tick of the committer that a session was told of is such an entry
+abbrev pub AreTold : {D J B : Type 0} → {G : Ghosts D} → {N : Origins J} → {M : Names J} → List (Step × Note) → ℕ → List (Session D J B G N M) → Type 0
+AreTold entries first sessions = All (λ s. IfSome s.told (IsTold entries first)) sessions
+
+-- The room was opened with these numbers, the receipts of the sessions are its session steps from the first place on, and its history
+-- has what they were told of the committer
+pub record IsReturned {D J B : Type 0} {G : Ghosts D} {N : Origins J} {M : Names J} (opening : Status) (first : ℕ) (sessions : List (Session D J B G N M)) (audited : Audited D G) : Type 0 where
+  pub opened : audited.opening ≡ opening
+  pub agrees : Agrees audited.entries.items first (receipts_in sessions)
+  pub told : AreTold audited.entries.items first sessions

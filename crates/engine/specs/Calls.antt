@@ -1,5 +1,5 @@
 -- Calls of several steps.
-use Rattle.std.specs.Prelude.{◌≡◌, ◌≢◌, ◌⊎◌, ℕ, ◌≤◌, List, [], ◌∷◌, ◌++◌, length, Option, Some, None, Result, Ok, Err, All}
+use Rattle.std.specs.Prelude.{◌≡◌, ◌≢◌, ◌⊎◌, ℕ, ◌≤◌, List, [], ◌∷◌, ◌++◌, length, Option, Some, None, IfSome, Result, Ok, Err, All}
 use Rattle.std.specs.Option.{option_or}
 use Rattle.base.specs.declared.fault.Fault.{Fault}
 use Rattle.base.specs.declared.fault.Fault.TheVariants.{NoSession, OutOfMemory}
@@ -8,6 +8,7 @@ use Rattle.base.specs.declared.step.Note.{Note}
 use Rattle.base.specs.declared.step.Note.TheVariants.{Refused, Done, Drawn as DrewAs, Stamped as AllStamped, Waiting, Committed}
 use Rattle.audited.specs.declared.receipt.Receipt.{Receipt}
 use Rattle.audited.specs.Audit.{IsLastOfRun}
+use Rattle.engine.specs.declared.halt.Halt.{Halt}
 use Rattle.engine.specs.declared.phase.Phase.{Phase}
 use Rattle.engine.specs.declared.phase.Phase.TheVariants.{Idle, Active, Drawn, Stamped, Covered}
 use Rattle.engine.specs.declared.phase.PollReply.{PollReply}
@@ -68,6 +69,17 @@ HasNoOther added fault = (first_refusal added ≡ None) ⊎ (first_refusal added
 abbrev pub ReportsRefusal : {X : Type 0} → List Receipt → Result X Fault → Type 0
 ReportsRefusal added (Ok x) = first_refusal added ≡ None
 ReportsRefusal added (Err fault) = HasNoOther added fault
+
+-- ---- what is known of the committer's end
+
+-- what the session knows of it stays; or it knew of none, is told of it, and the call fails with its fault
+abbrev pub Learns : Option Halt → Option Halt → Fault → Type 0
+Learns old new fault = (new ≡ old) ⊎ ((old ≡ None) × IfSome new (λ halt. halt.fault ≡ fault))
+
+-- so at Err; at Ok it stays
+abbrev pub Hears : {X : Type 0} → Option Halt → Option Halt → Result X Fault → Type 0
+Hears old new (Ok x) = new ≡ old
+Hears old new (Err fault) = Learns old new fault
 
 -- ---- a prepare
 

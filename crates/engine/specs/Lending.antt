@@ -3,7 +3,6 @@ use Rattle.std.specs.Prelude.{◌≡◌, ◌+◌, ◌-◌, ◌^◌, ℕ, ◌≤�
 use Rattle.std.specs.List.{list_any}
 use Rattle.std.specs.Option.{option_map_or}
 use Rattle.base.specs.Records.{Record}
-use Rattle.base.specs.declared.fault.Fault.{Fault}
 use Rattle.base.specs.declared.fault.Fault.TheVariants.{Device as DeviceFault, Failed, OutOfMemory}
 use Rattle.base.specs.declared.step.Step.{Step}
 use Rattle.base.specs.declared.step.Step.TheVariants.{Commit}
@@ -18,6 +17,9 @@ use Rattle.room.specs.Room.{Leads, Shows}
 use Rattle.audited.specs.Audit.{IsLastOfRun, Keeps, Stays}
 use Rattle.audited.specs.declared.audited.Audited.{Audited}
 use Rattle.audited.specs.declared.receipt.Receipt.{Receipt}
+use Rattle.engine.specs.declared.halt.Halt.{Halt}
+use Rattle.engine.specs.declared.halt.Why.{Why}
+use Rattle.engine.specs.declared.halt.Why.TheVariants.{Halted, Memory}
 
 -- the room is there, and has made at least this many steps
 abbrev pub HasMade : {D : Type 0} → {G : Ghosts D} → ℕ → Option (Audited D G) → Type 0
@@ -60,25 +62,28 @@ refusals_after refusals _ kept = refusals
 
 -- ---- the committer's end
 
--- the fault with which the step was refused, if it is the committer's
-abbrev pub halting : Step → Note → Option Fault
-halting Commit (Refused fault) = Some fault
-halting _ _ = None
+-- the step at this place, if it is a tick of the committer that was refused
+abbrev pub halting : Step → Note → ℕ → Option Halt
+halting Commit (Refused fault) place = Some (record { place = place; fault = fault })
+halting _ _ place = None
 
 -- the first of the two that is there
-abbrev pub first_of : Option Fault → Option Fault → Option Fault
-first_of (Some fault) other = Some fault
+abbrev pub first_of : Option Halt → Option Halt → Option Halt
+first_of (Some halt) other = Some halt
 first_of None other = other
 
--- the fault with which the committer was last refused, after a step with this note
-abbrev pub halted_after : Option Fault → Step → Note → Option Fault
-halted_after halted step note = first_of (halting step note) halted
+-- the tick of the committer that was last refused, after a step with this note at this place
+abbrev pub halted_after : Option Halt → Step → Note → ℕ → Option Halt
+halted_after halted step note place = first_of (halting step note place) halted
 
--- why nothing will be covered: the fault with which the committer was refused, or that it was refused memory more than a hundred times
--- in a row
-abbrev pub why_not : Option Fault → ℕ → Option Fault
-why_not (Some fault) refusals = Some fault
-why_not None refusals = if nat_lt 100 refusals then Some OutOfMemory else None
+-- why nothing will be covered: the tick that ended the committer, or that it was refused memory more than a hundred times in a row
+abbrev pub why_not : Option Halt → ℕ → Option Why
+why_not (Some halt) refusals = Some (Halted halt)
+why_not None refusals = if nat_lt 100 refusals then Some Memory else None
+
+-- a worker sleeps after more than a hundred refusals in a row, unless the engine is being closed
+abbrev pub sleeps : Bool → ℕ → Bool
+sleeps closing refusals = not closing && nat_lt 100 refusals
 
 -- ---- a wait for a timestamp
 
@@ -90,9 +95,9 @@ is_covered_in persisted longs timestamp = nat_le timestamp persisted && not (lis
 abbrev pub is_covered : Record → ℕ → Bool
 is_covered ruling timestamp = is_covered_in ruling.persisted ruling.longs timestamp
 
--- How a wait ends: with Ok once the timestamp is covered, with the fault why it won't be, and otherwise with Ok if the device has failed
-abbrev pub waited : Bool → Option Fault → Bool → Option (Result (Unit {0}) Fault)
+-- How a wait ends: with Ok once the timestamp is covered, with why it won't be, and otherwise with Ok if the device has failed
+abbrev pub waited : Bool → Option Why → Bool → Option (Result (Unit {0}) Why)
 waited true why failed = Some (Ok tt)
-waited false (Some fault) failed = Some (Err fault)
+waited false (Some why) failed = Some (Err why)
 waited false None true = Some (Ok tt)
 waited false None false = None

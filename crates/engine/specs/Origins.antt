@@ -1,5 +1,5 @@
 -- From which image a room's history is a run.
-use Rattle.std.specs.Prelude.{List, [], ◌∷◌, ◌++◌, ⊤}
+use Rattle.std.specs.Prelude.{◌≡◌, List, [], ◌∷◌, ◌++◌, length, slice_get, Option, Some, MatchOption, ⊤}
 use Rattle.base.specs.declared.fault.Fault.{Fault}
 use Rattle.base.specs.declared.step.Note.{Note}
 use Rattle.base.specs.declared.step.Note.TheVariants.{Refused}
@@ -14,6 +14,9 @@ use Rattle.pmem.specs.declared.device.Pmem.{Ghosts}
 use Rattle.room.specs.Runs.{RunOf}
 use Rattle.audited.specs.Audit.{IsAudited}
 use Rattle.audited.specs.declared.audited.Audited.{Audited}
+use Rattle.engine.specs.declared.halt.Halt.{Halt}
+use Rattle.engine.specs.declared.halt.Why.{Why}
+use Rattle.engine.specs.declared.halt.Why.TheVariants.{Halted, Memory}
 
 -- The room's history is a run from this image. An engine's start requires it of the image that its type names, and its close ensures it of
 -- the same image.
@@ -21,9 +24,22 @@ use Rattle.audited.specs.declared.audited.Audited.{Audited}
 abbrev pub IsFrom : {D : Type 0} → {G : Ghosts D} → (D → Device) → Image → Audited D G → Type 0
 IsFrom state image audited = ∥ IsAudited state audited.room image audited.opening audited.entries.items ∥₁
 
--- a run from this image ends in a tick of the committer that was refused with this fault
-abbrev pub HasHalted : Image → Fault → Type 0
-HasHalted image fault = ∥ ((before : List (Step × Note)) × RunOf image (before ++ (Tick, Refused fault) ∷ []) (λ q. ⊤)) ∥₁
+-- its entry at the place is a tick of the committer that was refused with the fault
+abbrev pub WasHalted : List (Step × Note) → Halt → Type 0
+WasHalted entries halt = slice_get entries halt.place ≡ Some (Tick, Refused halt.fault)
+
+-- a run from this image has as many entries as the place says, and then a tick of the committer that was refused with the fault
+abbrev pub HasHalted : Image → Halt → Type 0
+HasHalted image halt = ∥ ((before : List (Step × Note)) × (length before ≡ halt.place) × RunOf image (before ++ (Tick, Refused halt.fault) ∷ []) (λ q. ⊤)) ∥₁
+
+-- if a wait failed since the committer has ended, such a run did end it
+abbrev pub IsWhy : Image → Why → Type 0
+IsWhy image (Halted halt) = HasHalted image halt
+IsWhy image Memory = ⊤
+
+-- a session was told of such a tick, and this is its fault
+abbrev pub Knows : Image → Option Halt → Fault → Type 0
+Knows image told fault = MatchOption told ⊥ (λ halt. (halt.fault ≡ fault) × HasHalted image halt)
 
 -- a run from this image comes to a state in which a step covers this batch
 abbrev pub HasCovered : Image → Batch → Type 0

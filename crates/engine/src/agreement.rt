@@ -1,11 +1,13 @@
-//! Closing compares both ways: each receipt is an entry of the history, and each entry of a session has exactly one receipt.
+//! Closing compares both ways: each receipt is an entry of the history, and each entry of a session has exactly one receipt. It
+//! looks up each tick of the committer that a session was told of.
 //! Only the type is known of a value that comes out of a lock. So nothing else says that the room under it made the steps of
 //! these sessions.
 
-ghost use Rattle.std.specs.Prelude.{◌≡◌, ◌↔◌, ◌<◌, IsTrue, All, length};
+ghost use Rattle.std.specs.Prelude.{◌≡◌, ◌↔◌, ◌<◌, IsTrue, IfSome, All, length};
 ghost use Rattle.engine.specs.Receipts.{rises};
-ghost use Rattle.engine.specs.Agreement.{is_of_session, IsEntry, count_at, receipts_in, IsOnceAt, Agrees};
+ghost use Rattle.engine.specs.Agreement.{is_of_session, IsEntry, count_at, receipts_in, IsOnceAt, Agrees, IsTold, AreTold};
 
+use crate::halt::Halt;
 use crate::origin::Origin;
 use crate::session::Session;
 use audited::Receipt;
@@ -31,6 +33,44 @@ pub fn agrees<D: Pmem + Drop, J: Origin, B: Drop>(
         }
     }
     true
+}
+
+/// Whether each tick of the committer that a session was told of is in the list, from the first place on.
+pub fn are_told<D: Pmem + Drop, J: Origin, B: Drop>(
+    entries: &[(Step, Note)],
+    first: u64,
+    sessions: &[Session<D, J, B>],
+) -> bool
+    ensures { IsTrue result ↔ AreTold entries.now first sessions.now }
+{
+    for session in sessions {
+        if !is_told(entries, first, session.told()) {
+            return false;
+        }
+    }
+    true
+}
+
+// Whether the tick, if there is one, is in the list, from the first place on.
+fn is_told(entries: &[(Step, Note)], first: u64, told: Option<Halt>) -> bool
+    ensures { IsTrue result ↔ IfSome told (IsTold entries.now first) }
+{
+    match told {
+        Some(halt) => is_halt(entries, first, &halt),
+        None => true,
+    }
+}
+
+// Whether the list's entry at its place is a tick of the committer that was refused with its fault.
+fn is_halt(entries: &[(Step, Note)], first: u64, halt: &Halt) -> bool
+    ensures { IsTrue result ↔ IsTold entries.now first halt.now }
+{
+    match entries.get(halt.place as usize) {
+        Some((step, note)) => {
+            first <= halt.place && step.is(&Step::Commit) && note.is(&Note::Refused(halt.fault))
+        }
+        None => false,
+    }
 }
 
 // Whether each receipt is the list's entry at its place.

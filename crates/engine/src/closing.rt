@@ -2,9 +2,9 @@
 //! changed, and that session can go on.
 
 ghost use Rattle.std.specs.Prelude.{◌≡◌, ◌↔◌, ◌≤◌, IsTrue, IsFalse, true, None, IfSome, IfNone};
-ghost use Rattle.engine.specs.Agreement.{IsReturned, receipts_in};
+ghost use Rattle.engine.specs.Agreement.{IsReturned};
 
-use crate::agreement::agrees;
+use crate::agreement::{agrees, are_told};
 use crate::desk::Desk;
 use crate::origin::Origin;
 use crate::session::Session;
@@ -31,15 +31,15 @@ pub fn may_close<D: Pmem + Drop, J: Origin>(desk: &mut Desk<D, J>, count: u64) -
     true
 }
 
-/// Takes the room out exactly if it was opened with these numbers and the receipts are its steps. Otherwise it stays there.
+/// Takes the room out exactly if it was opened with these numbers and agrees with the sessions. Otherwise it stays there.
 pub fn take_room<D: Pmem + Drop, J: Origin, B: Drop>(
     desk: &mut Desk<D, J>,
     opening: &Status,
     first: u64,
     sessions: &[Session<D, J, B>],
 ) -> Option<Audited<D>>
-    ensures some { IfSome result (λ audited. (desk.old.audited ≡ Some audited) × IsReturned opening.now first (receipts_in sessions.now) audited) }
-    ensures none { IfNone result (IfSome desk.old.audited (λ audited. IsReturned opening.now first (receipts_in sessions.now) audited → ⊥)) }
+    ensures some { IfSome result (λ audited. (desk.old.audited ≡ Some audited) × IsReturned opening.now first sessions.now audited) }
+    ensures none { IfNone result (IfSome desk.old.audited (λ audited. IsReturned opening.now first sessions.now audited → ⊥)) }
     ensures kept { IfNone result (desk.new.audited ≡ desk.old.audited) }
 
     // A room that is taken out is no longer there. What else is under the lock stays.
@@ -57,16 +57,18 @@ pub fn take_room<D: Pmem + Drop, J: Origin, B: Drop>(
     }
 }
 
-// Whether the room was opened with these numbers, and the receipts are its steps.
+// Whether the room was opened with these numbers, the receipts are its steps, and what ended the committer is in its history.
 fn is_returned<D: Pmem + Drop, J: Origin, B: Drop>(
     audited: &Audited<D>,
     opening: &Status,
     first: u64,
     sessions: &[Session<D, J, B>],
 ) -> bool
-    ensures { IsTrue result ↔ IsReturned opening.now first (receipts_in sessions.now) audited.now }
+    ensures { IsTrue result ↔ IsReturned opening.now first sessions.now audited.now }
 {
-    is_same(&audited.opening(), opening) && agrees(audited.history(), first, sessions)
+    is_same(&audited.opening(), opening)
+        && agrees(audited.history(), first, sessions)
+        && are_told(audited.history(), first, sessions)
 }
 
 // Whether these are the same numbers.

@@ -1,10 +1,11 @@
-//! What ends the committer is kept with the room, under its lock, so that a session that waits for a cover learns why none
-//! comes. What a step makes due for another thread is noted there before the lock is free.
+//! The tick that ends the committer is kept with the room, under its lock, so that a session that waits for a cover learns why
+//! none comes. What a step makes due for another thread is noted there before the lock is free.
 
 ghost use Rattle.std.specs.Option.{ForSome};
-ghost use Rattle.engine.specs.Origins.{IsFrom, HasHalted};
+ghost use Rattle.engine.specs.Origins.{IsFrom, HasHalted, WasHalted};
 
 use crate::due::{Due, News};
+use crate::halt::{Halt, Why};
 use crate::origin::Origin;
 use audited::{Audited, Receipt};
 use base::Ts;
@@ -54,27 +55,29 @@ pub struct Desk<D: Pmem, J: Origin> {
     pub asleep: bool,
     /// How often in a row the committer was refused memory.
     pub refusals: u64,
-    /// The fault with which the committer was refused, which ended it.
-    halted: Option<Fault>,
+    /// The tick of the committer that was refused, which ended it.
+    halted: Option<Halt>,
     /// What the workers have to do.
     due: Due,
     of: PhantomData<J>,
     ghost from: { ForSome audited (IsFrom D.state J.image) },
     ghost ended: { ForSome halted (HasHalted J.image) },
+    // That tick is in the history of the room.
+    ghost kept: { ForSome audited (λ room. ForSome halted (WasHalted room.entries.items)) },
 }
 
 impl<D: Pmem + Drop, J: Origin> Desk<D, J> {
-    ghost use Rattle.std.specs.Prelude.{◌≡◌, ◌≤◌, ◌↔◌, ◌+◌, ◌⊎◌, ◌^◌, IsTrue, true, false, nat_lt, is_some, None, IfSome, IfNone, IfErr, OnErr, MatchOption, MatchResult};
+    ghost use Rattle.std.specs.Prelude.{◌≡◌, ◌≤◌, ◌↔◌, ◌+◌, ◌⊎◌, ◌^◌, IsTrue, true, false, min, nat_lt, is_some, Some, None, IfSome, IfNone, IfErr, OnErr, MatchOption, MatchResult};
     ghost use Rattle.base.specs.Batches.{Batch};
     ghost use Rattle.base.specs.declared.fault.Fault.TheVariants.{OutOfMemory};
     ghost use Rattle.base.specs.declared.step.Reply.TheVariants.{Covered};
     ghost use Rattle.base.specs.Replies.{note_of};
     ghost use Rattle.machine.specs.Machine.{State};
     ghost use Rattle.room.specs.Room.{Shows};
-    ghost use Rattle.engine.specs.Origins.{HasCovered};
+    ghost use Rattle.engine.specs.Origins.{HasCovered, IsWhy};
     ghost use Rattle.engine.specs.declared.desk.Duty.TheVariants.{Commit, Collect};
     ghost use Rattle.engine.specs.Due.{delivered, due_after, due_first, fourth_of, wants_record};
-    ghost use Rattle.engine.specs.Lending.{HasMade, MakesOnly, has_failed, is_covered, halted_after, refusals_after, why_not, waited};
+    ghost use Rattle.engine.specs.Lending.{HasMade, MakesOnly, has_failed, is_covered, halted_after, refusals_after, sleeps, why_not, waited};
 
     /// No room, no session, no refusal and no end. A tick and a visit are due.
     pub fn new() -> Desk<D, J>
@@ -94,6 +97,17 @@ impl<D: Pmem + Drop, J: Origin> Desk<D, J> {
             due: Due::new(),
             of: PhantomData,
         }
+    }
+
+    /// Lends it the room, whose committer hasn't ended.
+    pub fn lend(&mut self, audited: Audited<D>)
+        requires from { IsFrom D.state J.image audited }
+        ensures room { self.new.audited ≡ Some audited }
+        ensures halted { self.new.halted ≡ None }
+        ensures rest { (self.new.handed ≡ self.old.handed) × (self.new.closing ≡ self.old.closing) × (self.new.refusals ≡ self.old.refusals) × (self.new.asleep ≡ self.old.asleep) × (self.new.due ≡ self.old.due) }
+    {
+        self.halted = None;
+        self.audited = Some(audited);
     }
 
     /// Whether the room is there, and has made at least this many steps.
@@ -128,13 +142,14 @@ impl<D: Pmem + Drop, J: Origin> Desk<D, J> {
         }
     }
 
-    /// A worker's step, unless the engine is being closed or there is no room.
+    /// A worker's step, unless the engine is being closed or there is no room. Without memory it has no receipt. The tick of the
+    /// committer that is refused is kept here, and how often in a row it was refused memory.
     pub fn tick(&mut self, step: &Step) -> Option<(Reply, Option<Receipt>)>
         // A receipt is that of the step asked, with its reply's note.
         ensures made { IfSome result (λ made. IfSome made.1 (λ receipt. (receipt.step ≡ step.now) × (receipt.note ≡ note_of made.0))) }
 
-        // What the committer was refused with is kept, and nothing else is taken for it.
-        ensures halted { IfSome result (λ made. MatchOption made.1 (self.new.halted ≡ self.old.halted) (λ receipt. self.new.halted ≡ halted_after self.old.halted receipt.step receipt.note)) }
+        // What the committer was refused with is kept, with its place, and nothing else is taken for it.
+        ensures halted { IfSome result (λ made. MatchOption made.1 (self.new.halted ≡ self.old.halted) (λ receipt. self.new.halted ≡ halted_after self.old.halted receipt.step receipt.note receipt.place)) }
 
         // No step is made, and nothing changed, exactly if the engine is being closed or there is no room.
         ensures none { (result ≡ None) ↔ (IsTrue self.old.closing ⊎ (self.old.audited ≡ None)) }
@@ -166,7 +181,7 @@ impl<D: Pmem + Drop, J: Origin> Desk<D, J> {
         let (reply, receipt) = audited.step(*step);
         match receipt {
             Some(receipt) => {
-                let halted = newer(halting(&receipt.step, &receipt.note), self.halted);
+                let halted = newer(halting(&receipt), self.halted);
                 self.halted = halted;
                 self.refusals = refusals_after(self.refusals, step, true);
                 Some((reply, Some(receipt)))
@@ -232,17 +247,49 @@ impl<D: Pmem + Drop, J: Origin> Desk<D, J> {
         self.due.take_news()
     }
 
-    /// Why nothing will be covered: the fault that ended the committer, or that it was refused memory too often in a row.
-    pub fn why_not(&self) -> Option<Fault>
-        // Of what is under the lock, the fault is what the committer was refused with, and otherwise OutOfMemory after more than
+    /// Lets the committer try once more before lack of memory ends the wait that begins now.
+    pub fn allow_a_try(&mut self)
+        ensures refusals { self.new.refusals ≡ min self.old.refusals 100 }
+        ensures rest { (self.new.handed ≡ self.old.handed) × (self.new.closing ≡ self.old.closing) × (self.new.asleep ≡ self.old.asleep) }
+        ensures room { self.new.audited ≡ self.old.audited }
+        ensures halted { self.new.halted ≡ self.old.halted }
+        ensures due { self.new.due ≡ self.old.due }
+    {
+        self.refusals = self.refusals.min(REFUSALS);
+    }
+
+    /// Whether a worker that was refused memory this often in a row is to sleep. Of the committer it is counted here, since a wait
+    /// that began meanwhile lets it try once more.
+    pub fn sleeps(&self, duty: Duty, refusals: u64) -> bool
+        ensures commit { (duty ≡ Commit) → result ≡ sleeps self.now.closing self.now.refusals }
+        ensures collect { (duty ≡ Collect) → result ≡ sleeps self.now.closing refusals }
+    {
+        let counted = match duty {
+            Duty::Commit => self.refusals,
+            Duty::Collect => refusals,
+        };
+        !self.closing && REFUSALS < counted
+    }
+
+    /// The tick that ended the committer, if it has ended.
+    pub fn halted(&self) -> Option<Halt>
+        ensures halt { result ≡ self.now.halted }
+        ensures from { IfSome result (HasHalted J.image) }
+    {
+        self.halted
+    }
+
+    /// Why nothing will be covered: the committer has ended, or was refused memory too often in a row.
+    pub fn why_not(&self) -> Option<Why>
+        // Of what is under the lock: the tick with which the committer was refused, and otherwise lack of memory after more than
         // a hundred refusals in a row.
         ensures why { result ≡ why_not self.now.halted self.now.refusals }
-        ensures fault { IfSome result (λ fault. (fault ≡ OutOfMemory) ⊎ HasHalted J.image fault) }
+        ensures from { IfSome result (IsWhy J.image) }
     {
         match self.halted {
-            Some(fault) => Some(fault),
+            Some(halt) => Some(Why::Halted(halt)),
             None => if REFUSALS < self.refusals {
-                Some(Fault::OutOfMemory)
+                Some(Why::Memory)
             } else {
                 None
             },
@@ -251,12 +298,12 @@ impl<D: Pmem + Drop, J: Origin> Desk<D, J> {
 
     /// Whether a wait for the timestamp is over: with Ok if it is persisted and not long, or if the device has failed; with Err
     /// if it isn't persisted and nothing will be.
-    pub fn waited(&self, timestamp: Ts) -> Option<Result<(), Fault>>
+    pub fn waited(&self, timestamp: Ts) -> Option<Result<(), Why>>
         // A wait for a timestamp lasts exactly until it is persisted and not long, or nothing will be covered, or the device has
-        // failed. If it isn't covered, the fault is as for `why_not`.
+        // failed. If it isn't covered, the reason is as for `why_not`.
         ensures over { MatchOption self.now.audited (result ≡ None)
             (λ audited. (q : State) → Shows D.state audited.room q → result ≡ waited (is_covered q.ruling timestamp) (why_not self.now.halted self.now.refusals) (has_failed audited.entries.items)) }
-        ensures fault { IfSome result (λ over. IfErr over (λ fault. (fault ≡ OutOfMemory) ⊎ HasHalted J.image fault)) }
+        ensures from { IfSome result (λ over. IfErr over (IsWhy J.image)) }
     {
         let Some(audited) = &self.audited else {
             return None;
@@ -264,8 +311,8 @@ impl<D: Pmem + Drop, J: Origin> Desk<D, J> {
         if is_covered(&audited.status(), timestamp) {
             return Some(Ok(()));
         }
-        if let Some(fault) = self.why_not() {
-            return Some(Err(fault));
+        if let Some(why) = self.why_not() {
+            return Some(Err(why));
         }
         if has_failed(audited.history()) {
             return Some(Ok(()));
@@ -297,23 +344,26 @@ fn has_failed(entries: &[(Step, Note)]) -> bool
     }
 }
 
-// The fault with which the step was refused, if it is the committer's.
-fn halting(step: &Step, note: &Note) -> Option<Fault>
-    ensures fault { result ≡ halting step.now note.now }
-    ensures some { IfSome result (λ fault. (step.now ≡ Commit) × (note.now ≡ Refused fault)) }
+// The step, if it is a tick of the committer that was refused.
+fn halting(receipt: &Receipt) -> Option<Halt>
+    ensures halt { result ≡ halting receipt.now.step receipt.now.note receipt.now.place }
+    ensures some { IfSome result (λ halt. (receipt.now.step ≡ Commit) × (receipt.now.note ≡ Refused halt.fault) × (halt.place ≡ receipt.now.place)) }
 {
-    match (step, note) {
-        (Step::Commit, Note::Refused(fault)) => Some(*fault),
+    match (&receipt.step, &receipt.note) {
+        (Step::Commit, Note::Refused(fault)) => Some(Halt {
+            place: receipt.place,
+            fault: *fault,
+        }),
         _ => None,
     }
 }
 
 // The first of the two that is there.
-fn newer(found: Option<Fault>, before: Option<Fault>) -> Option<Fault>
+fn newer(found: Option<Halt>, before: Option<Halt>) -> Option<Halt>
     ensures { result ≡ first_of found before }
 {
     match found {
-        Some(fault) => Some(fault),
+        Some(halt) => Some(halt),
         None => before,
     }
 }

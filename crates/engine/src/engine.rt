@@ -103,7 +103,7 @@ impl<
                 return Err((fault, audited));
             }
         };
-        desk.audited = Some(audited);
+        desk.lend(audited);
         drop(desk);
         Ok(Engine {
             alloc,
@@ -121,18 +121,19 @@ impl<
 }
 
 impl<D: Pmem + Drop, J: Origin, B: Drop> Engine<D, J, B> {
-    ghost use Rattle.std.specs.Prelude.{◌≡◌, [], IfOk, IfErr, IfSome};
+    ghost use Rattle.std.specs.Prelude.{◌≡◌, [], None, IfOk, IfErr, IfSome};
     ghost use Rattle.base.specs.declared.fault.Fault.TheVariants.{OutOfMemory, WrongState, ReadersOut};
     ghost use Rattle.engine.specs.Origins.{IsFrom};
     ghost use Rattle.board.specs.Lists.{Begins};
     ghost use Rattle.engine.specs.declared.phase.Phase.TheVariants.{Idle};
-    ghost use Rattle.engine.specs.Agreement.{Agrees, IsReturned, receipts_in};
+    ghost use Rattle.engine.specs.Agreement.{Agrees, AreTold, IsReturned, receipts_in};
 
     /// A session, for one thread.
     pub fn session<R: Wait>(&self, rt: &R) -> Result<Session<D, J, B>, Fault>
         // It has no receipt and no transaction, and it knows what was published at the start.
         ensures empty { IfOk result (λ session. session.receipts.items ≡ []) }
         ensures phase { IfOk result (λ session. session.phase ≡ Idle) }
+        ensures told { IfOk result (λ session. session.told ≡ None) }
         ensures published { IfOk result (λ session. session.published ≡ self.now.published) }
 
         // It is refused only for lack of memory.
@@ -181,6 +182,10 @@ impl<D: Pmem + Drop, J: Origin, B: Drop> Engine<D, J, B> {
         // on has exactly one receipt.
         ensures agrees { IfOk result (λ audited. Agrees audited.entries.items self.first (receipts_in sessions.items)) }
 
+        // Each tick of the committer that a session was told of is in the history, where the session says, and was refused with
+        // the fault that the session was told.
+        ensures told { IfOk result (λ audited. AreTold audited.entries.items self.first sessions.items) }
+
         // At Ok the room's history is a run from the image from which the room was opened that was lent.
         ensures from { IfOk result (IsFrom D.state J.image) }
 
@@ -205,9 +210,9 @@ impl<D: Pmem + Drop, J: Origin, B: Drop> Engine<D, J, B> {
         }
     }
 
-    // Takes the room out, if it was opened with these numbers and the receipts are its steps.
+    // Takes the room out, if it was opened with these numbers and agrees with the sessions.
     fn take_back<R: Wait>(&self, rt: &R, sessions: &[Session<D, J, B>]) -> Option<Audited<D>>
-        ensures returned { IfSome result (IsReturned self.now.opening self.now.first (receipts_in sessions.now)) }
+        ensures returned { IfSome result (IsReturned self.now.opening self.now.first sessions.now) }
         ensures from { IfSome result (IsFrom D.state J.image) }
     {
         let mut desk = self.shared.desk.lock(rt);

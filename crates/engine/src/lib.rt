@@ -18,6 +18,7 @@ mod desk;
 mod due;
 mod engine;
 mod gate;
+mod halt;
 mod opening;
 mod origin;
 mod phase;
@@ -30,6 +31,7 @@ mod worker;
 
 pub use engine::Engine;
 pub use gate::{Gate, Go};
+pub use halt::Halt;
 pub use origin::Origin;
 pub use phase::{Phase, PollReply};
 pub use session::Session;

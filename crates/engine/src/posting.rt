@@ -2,6 +2,7 @@
 //! the committer tries again before its next tick. In between the lock is free, so what waits on the board is known by what was
 //! announced there.
 
+use crate::desk::Duty;
 use crate::origin::Origin;
 use crate::shared::Shared;
 use base::batch::Batch;
@@ -65,7 +66,7 @@ pub fn post<R: Wait + Drop, D: Pmem + Drop, J: Origin>(
         }
         refusals = refusals.saturating_add(1);
         shared.count_refusal(rt);
-        shared.rest(rt, refusals);
+        shared.rest(rt, Duty::Commit, refusals);
     }
     unreachable!()
 }

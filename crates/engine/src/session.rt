@@ -1,10 +1,13 @@
 //! Memory for a receipt is taken before its step, so no step is made that its session can't account for.
 
 ghost use Rattle.std.specs.Prelude.{◌≡◌, IsTrue};
+ghost use Rattle.std.specs.Option.{ForSome};
 ghost use Rattle.engine.specs.declared.phase.Phase.TheVariants.{Idle};
 ghost use Rattle.engine.specs.Phases.{phase_after};
 ghost use Rattle.engine.specs.Receipts.{rises, floor_of};
+ghost use Rattle.engine.specs.Origins.{HasHalted};
 
+use crate::halt::Halt;
 use crate::origin::Origin;
 use crate::phase::{Phase, PollReply};
 use crate::shared::Shared;
@@ -27,13 +30,16 @@ pub struct Session<D: Pmem, J: Origin, B: Drop> {
     pub(crate) phase: Phase,
     receipts: Vec<Receipt>,
     floor: u64,
+    // The tick that ended the committer, once a call has failed for that.
+    pub(crate) told: Option<Halt>,
     ghost rising: { IsTrue (rises 0 receipts.items) },
     ghost floor_is: { floor ≡ floor_of 0 receipts.items },
     pub ghost phase_is: { phase ≡ phase_after Idle receipts.items },
+    pub ghost told_of: { ForSome told (HasHalted J.image) },
 }
 
 impl<D: Pmem + Drop, J: Origin, B: Drop> Session<D, J, B> {
-    ghost use Rattle.std.specs.Prelude.{◌≢◌, ◌⊎◌, [], ℕ, length, IfOk, IfErr, OnErr};
+    ghost use Rattle.std.specs.Prelude.{◌≢◌, ◌⊎◌, [], ℕ, None, length, IfOk, IfErr, IfSome, OnErr};
     ghost use Rattle.base.specs.declared.fault.Fault.TheVariants.{NoSession, WrongState, OutOfMemory};
     ghost use Rattle.base.specs.declared.step.Step.TheVariants.{Begin, Get, Scan, Put, Delete, Poll, Abort};
     ghost use Rattle.base.specs.declared.step.Note.TheVariants.{Began, Row as RowNote, Rows, Done};
@@ -59,6 +65,7 @@ impl<D: Pmem + Drop, J: Origin, B: Drop> Session<D, J, B> {
 
         // The list that a token of the session begins with stays.
         ensures published { self.new.published ≡ self.old.published }
+        ensures told { self.new.told ≡ self.old.told }
     {
         if !matches!(self.phase, Phase::Idle) {
             return Err(Fault::WrongState);
@@ -77,6 +84,7 @@ impl<D: Pmem + Drop, J: Origin, B: Drop> Session<D, J, B> {
         ensures err { IfErr result (λ fault. Declines self.old.phase self.old.receipts.items self.new.receipts.items (Get (number_of self.old.phase) key) fault) }
         ensures phase { self.new.phase ≡ self.old.phase }
         ensures published { self.new.published ≡ self.old.published }
+        ensures told { self.new.told ≡ self.old.told }
     {
         let session = self.number()?;
         match self.make(rt, Step::Get { session, key })? {
@@ -99,6 +107,7 @@ impl<D: Pmem + Drop, J: Origin, B: Drop> Session<D, J, B> {
         ensures err { IfErr result (λ fault. Declines self.old.phase self.old.receipts.items self.new.receipts.items (Scan (number_of self.old.phase) table lo hi) fault) }
         ensures phase { self.new.phase ≡ self.old.phase }
         ensures published { self.new.published ≡ self.old.published }
+        ensures told { self.new.told ≡ self.old.told }
     {
         let session = self.number()?;
         let scan = Step::Scan {
@@ -121,6 +130,7 @@ impl<D: Pmem + Drop, J: Origin, B: Drop> Session<D, J, B> {
         ensures err { IfErr result (λ fault. Declines self.old.phase self.old.receipts.items self.new.receipts.items (Put (number_of self.old.phase) key row) fault) }
         ensures phase { self.new.phase ≡ self.old.phase }
         ensures published { self.new.published ≡ self.old.published }
+        ensures told { self.new.told ≡ self.old.told }
     {
         let session = self.number()?;
         match self.make(rt, Step::Put { session, key, row })? {
@@ -137,6 +147,7 @@ impl<D: Pmem + Drop, J: Origin, B: Drop> Session<D, J, B> {
         ensures err { IfErr result (λ fault. Declines self.old.phase self.old.receipts.items self.new.receipts.items (Delete (number_of self.old.phase) key) fault) }
         ensures phase { self.new.phase ≡ self.old.phase }
         ensures published { self.new.published ≡ self.old.published }
+        ensures told { self.new.told ≡ self.old.told }
     {
         let session = self.number()?;
         match self.make(rt, Step::Delete { session, key })? {
@@ -153,6 +164,7 @@ impl<D: Pmem + Drop, J: Origin, B: Drop> Session<D, J, B> {
         ensures err { IfErr result (λ fault. Declines self.old.phase self.old.receipts.items self.new.receipts.items (Abort (number_of self.old.phase)) fault) }
         ensures phase { IfErr result (λ fault. self.new.phase ≡ self.old.phase) }
         ensures published { self.new.published ≡ self.old.published }
+        ensures told { self.new.told ≡ self.old.told }
     {
         let session = self.number()?;
         match self.make(rt, Step::Abort { session })? {
@@ -169,6 +181,7 @@ impl<D: Pmem + Drop, J: Origin, B: Drop> Session<D, J, B> {
         ensures err { IfErr result (λ fault. Declines self.old.phase self.old.receipts.items self.new.receipts.items (Poll (number_of self.old.phase)) fault) }
         ensures phase { self.new.phase ≡ self.old.phase }
         ensures published { self.new.published ≡ self.old.published }
+        ensures told { self.new.told ≡ self.old.told }
     {
         let session = self.number()?;
         match self.make(rt, Step::Poll { session })? {
@@ -196,6 +209,15 @@ impl<D: Pmem + Drop, J: Origin, B: Drop> Session<D, J, B> {
         self.receipts.len() as u64
     }
 
+    /// The tick that ended the committer, if a call failed for that. It is the first that the session was told of, and closing
+    /// looks it up in the history.
+    pub fn told(&self) -> Option<Halt>
+        ensures told { result ≡ self.now.told }
+        ensures run { IfSome result (HasHalted J.image) }
+    {
+        self.told
+    }
+
     pub(crate) fn new(
         alloc: Global,
         shared: Arc<Shared<D, J, B>, Global>,
@@ -204,6 +226,7 @@ impl<D: Pmem + Drop, J: Origin, B: Drop> Session<D, J, B> {
         ensures receipts { result.receipts.items ≡ [] }
         ensures phase { result.phase ≡ Idle }
         ensures published { result.published ≡ published }
+        ensures told { result.told ≡ None }
     {
         Session {
             shared,
@@ -211,6 +234,7 @@ impl<D: Pmem + Drop, J: Origin, B: Drop> Session<D, J, B> {
             phase: Phase::Idle,
             receipts: Vec::new(alloc),
             floor: 0,
+            told: None,
         }
     }
 
@@ -230,6 +254,7 @@ impl<D: Pmem + Drop, J: Origin, B: Drop> Session<D, J, B> {
         ensures err { IfErr result (λ fault. (self.new.receipts.items ≡ self.old.receipts.items) × (fault ≡ OutOfMemory)) }
         ensures same { OnErr result (self.new.phase ≡ self.old.phase) }
         ensures published { self.new.published ≡ self.old.published }
+        ensures told { self.new.told ≡ self.old.told }
     {
         if self.receipts.reserve(1).is_err() {
             return Err(Fault::OutOfMemory);

@@ -1,10 +1,10 @@
 //! A thread asks under the lock before it sleeps, and what it asks for is changed only under the lock. So no call to wake is
 //! missed. The board has a lock of its own, since its writer waits for readers, and no session is to wait for those.
 
-use crate::desk::{Desk, Duty, REFUSALS};
+use crate::desk::{Desk, Duty};
+use crate::halt::{Halt, Why};
 use crate::origin::Origin;
 use base::Ts;
-use base::fault::Fault;
 use base::step::Reply;
 use pmem::Pmem;
 use std::sync::{Condvar, Mutex, MutexGuard, Wait};
@@ -26,14 +26,13 @@ pub struct Shared<D: Pmem, J: Origin, B: Drop> {
 }
 
 impl<D: Pmem + Drop, J: Origin, B: Drop> Shared<D, J, B> {
-    ghost use Rattle.std.specs.Prelude.{◌≡◌, ◌⊎◌, IfErr, MatchOption};
+    ghost use Rattle.std.specs.Prelude.{◌≡◌, IfErr, MatchOption};
     ghost use Rattle.std.specs.Sync.Mutex.{mutex_guard_value};
-    ghost use Rattle.base.specs.declared.fault.Fault.TheVariants.{OutOfMemory};
     ghost use Rattle.machine.specs.Machine.{State};
     ghost use Rattle.room.specs.Room.{Shows};
     ghost use Rattle.engine.specs.Due.{delivered, due_after, fourth_of, wants_record};
     ghost use Rattle.engine.specs.Lending.{HasMade};
-    ghost use Rattle.engine.specs.Origins.{HasHalted};
+    ghost use Rattle.engine.specs.Origins.{HasHalted, IsWhy};
 
     /// The board, and no room yet.
     pub fn new(board: B) -> Shared<D, J, B> {
@@ -73,12 +72,13 @@ impl<D: Pmem + Drop, J: Origin, B: Drop> Shared<D, J, B> {
     }
 
     /// Waits until the room has persisted the timestamp, even if it was long, or its device has failed. It makes no step and
-    /// takes no memory. Fails if nothing will be persisted any more: with the fault that ended the committer, or with
-    /// OutOfMemory if that was refused memory again and again.
-    pub fn wait_for<R: Wait>(&self, rt: &R, timestamp: Ts) -> Result<(), Fault>
-        ensures { IfErr result (λ fault. (fault ≡ OutOfMemory) ⊎ HasHalted J.image fault) }
+    /// takes no memory. Fails if nothing will be persisted any more: the committer has ended, or was refused memory since the
+    /// wait began, and too often in a row.
+    pub fn wait_for<R: Wait>(&self, rt: &R, timestamp: Ts) -> Result<(), Why>
+        ensures { IfErr result (IsWhy J.image) }
     {
         let mut desk = self.desk(rt);
+        desk.allow_a_try();
         for _ in rt.forever() {
             if let Some(over) = desk.waited(timestamp) {
                 return over;
@@ -88,13 +88,13 @@ impl<D: Pmem + Drop, J: Origin, B: Drop> Shared<D, J, B> {
         unreachable!()
     }
 
-    /// Fails as a wait does, if nothing will be covered.
-    pub fn ask<R: Wait>(&self, rt: &R) -> Result<(), Fault>
-        ensures { IfErr result (λ fault. (fault ≡ OutOfMemory) ⊎ HasHalted J.image fault) }
+    /// Fails if the committer has ended, with the tick that ended it.
+    pub fn ask<R: Wait>(&self, rt: &R) -> Result<(), Halt>
+        ensures { IfErr result (HasHalted J.image) }
     {
         let desk = self.desk(rt);
-        match desk.why_not() {
-            Some(fault) => Err(fault),
+        match desk.halted() {
+            Some(halt) => Err(halt),
             None => Ok(()),
         }
     }
@@ -152,9 +152,9 @@ impl<D: Pmem + Drop, J: Origin, B: Drop> Shared<D, J, B> {
 
     /// Lets a worker rest that was refused memory this often in a row. It yields, and after too many refusals it sleeps until a
     /// session takes the lock or the engine is being closed.
-    pub fn rest<R: Wait>(&self, rt: &R, refusals: u64) {
+    pub fn rest<R: Wait>(&self, rt: &R, duty: Duty, refusals: u64) {
         let mut desk = self.desk.lock(rt);
-        if desk.closing || refusals <= REFUSALS {
+        if !desk.sleeps(duty, refusals) {
             drop(desk);
             thread::yield_now();
             return;

@@ -93,7 +93,7 @@ fn work<R: Wait + Drop, D: Pmem + Drop, J: Origin, G: Gate>(
             }
             Err(Missed::Memory) => {
                 refusals = refusals.saturating_add(1);
-                shared.rest(rt, refusals);
+                shared.rest(rt, duty, refusals);
             }
             Err(Missed::Over) => break,
         }

@@ -1,5 +1,5 @@
-//! Threads over a device that fails after each of many numbers of operations: each session reports it, closing returns the
-//! device, and what was acknowledged is there at the next opening.
+//! Threads over a device that fails after each of many numbers of operations: each session reports it, and knows the tick that
+//! ended the committer if it reports that. Closing returns the device, and what was acknowledged is there at the next opening.
 ghost use Rattle.std.specs.Prelude.{◌≡◌, IfOk};
 ghost use Rattle.pmem.specs.Words.{IsAtRest, image_of};
 ghost use Rattle.pmem_model.specs.Sim.{device_of};
@@ -12,7 +12,7 @@ use base::fault::Fault;
 use base::key::Key;
 use base::row::Row;
 use board::{Board, History};
-use engine::{Engine, Origin, Session};
+use engine::{Engine, Halt, Origin, Session};
 use pmem::Pmem;
 use pmem_model::{Choice, SimPmem};
 use std::alloc::Global;
@@ -62,13 +62,22 @@ fn commit_each<D: Pmem + Drop, J: Origin, B: Drop>(
         if let Err(fault) = commit_row(rt, session, key, number) {
             return Reported {
                 acknowledged: number.saturating_sub(1),
-                fails: matches!(fault, Fault::Device | Fault::Failed),
+                fails: matches!(fault, Fault::Device | Fault::Failed)
+                    && is_told(session.told(), fault),
             };
         }
     }
     Reported {
         acknowledged: COMMITS,
         fails: false,
+    }
+}
+
+// Whether this is the fault of the tick that ended the committer, if the session knows of one.
+fn is_told(told: Option<Halt>, fault: Fault) -> bool {
+    match told {
+        Some(halt) => halt.fault == fault,
+        None => true,
     }
 }
 

@@ -4,6 +4,7 @@ use Rattle.std.specs.Prelude.{◌≢◌, All, Err, IfErr, IfOk, Ok, Result, if�
 use Rattle.std.proofs.Math.Seq.{drop-append_seam}
 use Rattle.std.proofs.lemmas.Bool.{false≢true}
 use Rattle.std.proofs.lemmas.List.Elements.{All-append, All-head, All-tail}
+use Rattle.base.specs.Images.{Image}
 use Rattle.base.specs.declared.fault.Fault.{Fault}
 use Rattle.base.specs.declared.fault.Fault.TheVariants.{OutOfMemory, WrongState}
 use Rattle.base.specs.declared.key.Key.{Key}
@@ -12,6 +13,8 @@ use Rattle.base.specs.declared.step.Step.TheVariants.{Abort, Begin, Draw, End, P
 use Rattle.base.specs.declared.step.Note.{Note}
 use Rattle.base.specs.declared.step.Note.TheVariants.{Began, Committed, Done, Refused}
 use Rattle.audited.specs.declared.receipt.Receipt.{Receipt}
+use Rattle.engine.specs.declared.halt.Halt.{Halt}
+use Rattle.engine.specs.Origins.{Knows}
 use Rattle.engine.specs.declared.phase.Phase.{Phase}
 use Rattle.engine.specs.declared.phase.Phase.TheVariants.{Idle, Active, Drawn, Stamped, Covered}
 use Rattle.engine.specs.Calls.{ArePolls, AreUnended, AskCommit, AskPrepare, Called, DeclinesCall, ReportsCommit, ReportsEnd, ReportsLast, note_of_commit}
@@ -289,6 +292,15 @@ pub final-refused : (Refused' : Type 0) (fault : Fault) → may_pass fault ≡ f
 final-refused a fault final b = grind (arith, no-memory)
 
 -- after it failed to abort
-pub gives-up : (Halted : Fault → Type 0) (mid new : List Receipt) (fault why : Fault) → (fault ≡ OutOfMemory) ⊎ (((fault ≡ WrongState) × ReportsNothing mid) ⊎ IsRefusedWith Halted mid fault)
-    → (may_pass why ≡ false) × (((why ≡ fault) × (new ≡ mid)) ⊎ ReportsLast new (Refused why)) → GivesUp Halted new why
-gives-up a mid new fault why is b = grind (arith, final-refused)
+pub gives-up : (image : Image) (told known : Option Halt) (mid new : List Receipt) (fault why : Fault) → (fault ≡ OutOfMemory) ⊎ (((fault ≡ WrongState) × ReportsNothing mid) ⊎ IsRefusedWith (Knows image told) mid fault)
+    → (may_pass why ≡ false) × (((why ≡ fault) × (new ≡ mid) × (known ≡ told)) ⊎ ReportsLast new (Refused why)) → GivesUp (Knows image known) new why
+gives-up image told known mid new fault why is (final, inr last) = record { is_final = final; why = inr (inl last) }
+gives-up image told known mid new fault why is (final, inl (same, none, knows)) = record {
+  is_final = final;
+  why = subst (λ (f : Fault). Why f new known) (sym same)
+      (subst (λ (rs : List Receipt). Why fault rs known) (sym none)
+      (subst (λ (t : Option Halt). Why fault mid t) (sym knows) (final-refused (Why fault mid told) fault (ap may_pass (sym same) ∙ final) is)));
+}
+  where
+    Why : Fault → List Receipt → Option Halt → Type 0
+    Why f rs t = ((f ≡ WrongState) × ReportsNothing rs) ⊎ IsRefusedWith (Knows image t) rs f

@@ -21,7 +21,9 @@ use Rattle.room.specs.Room.{Shows}
 use Rattle.room.proofs.Runs.{of-weaken}
 use Rattle.engine.specs.Agreement.{Agrees, IsEntry}
 use Rattle.engine.specs.Calls.{ReportsLast}
-use Rattle.engine.specs.Origins.{HasHalted, IsFrom}
+use Rattle.engine.specs.declared.halt.Halt.{Halt}
+use Rattle.engine.specs.Origins.{IsFrom, Knows}
+use Rattle.engine.proofs.Halting.{slice_get-last}
 use Rattle.workload.specs.Load.{AreMade, GivesUp, HasRefusal, IsRefusedWith, Makes, ReportsNothing, Works, may_pass}
 
 -- ---- parts of a list
@@ -39,62 +41,60 @@ All-pieces P f [] all = All-nil (λ x. All P (f x))
 All-pieces P f (x ∷ xs) all =
     All-cons (λ x. All P (f x)) x xs (All-left P (f x) (flat_map f xs) all) (All-pieces P f xs (All-right P (f x) (flat_map f xs) all))
 
-slice_get-last : {X : Type 0} (xs : List X) (x : X) → slice_get (xs ++ x ∷ []) (length xs) ≡ Some x
-slice_get-last [] x = refl
-slice_get-last (y ∷ xs) x = slice_get-last xs x
-
 -- ---- all commits are made
 
 -- if no thread met a fault
-pub are-made : {T : Type 0} (f : T → List Receipt) (fault : T → Option Fault) (Halted : Fault → Type 0) (sessions commits : ℕ) (tasks : List T) (entries : List (Step × Note)) (first : ℕ) (receipts : List Receipt)
-    → length tasks ≡ sessions → first ≡ 0 → All (λ t. Works Halted commits (f t) (fault t)) tasks → All (λ t. fault t ≡ None) tasks
+pub are-made : {T : Type 0} (f : T → List Receipt) (fault : T → Option Fault) (Halted : T → Fault → Type 0) (sessions commits : ℕ) (tasks : List T) (entries : List (Step × Note)) (first : ℕ) (receipts : List Receipt)
+    → length tasks ≡ sessions → first ≡ 0 → All (λ t. Works (Halted t) commits (f t) (fault t)) tasks → All (λ t. fault t ≡ None) tasks
     → receipts ≡ flat_map f tasks → Agrees entries first receipts → AreMade sessions commits entries
 are-made f fault Halted sessions commits tasks entries first receipts count begins works none are agrees = record {
   threads = map f tasks;
   count = length-map tasks f ∙ count;
-  each = All-map (Makes commits) f tasks (λ k d less. made (fault (slice_index_or tasks k d)) (f (slice_index_or tasks k d)) (none k d less) (works k d less));
+  each = All-map (Makes commits) f tasks (λ k d less. made (Halted (slice_index_or tasks k d)) (fault (slice_index_or tasks k d)) (f (slice_index_or tasks k d)) (none k d less) (works k d less));
   agrees = subst (λ (rs : List Receipt). Agrees entries 0 rs) (are ∙ sym (flat_map-map (λ (rs : List Receipt). rs) f tasks)) (subst (λ (n : ℕ). Agrees entries n receipts) begins agrees);
 }
   where
-    made : (fault : Option Fault) (receipts : List Receipt) → fault ≡ None → Works Halted commits receipts fault → Makes commits receipts
-    made None receipts is works = works
-    made (Some fault) receipts is works = absurd (cc is)
+    made : (H : Fault → Type 0) (fault : Option Fault) (receipts : List Receipt) → fault ≡ None → Works H commits receipts fault → Makes commits receipts
+    made H None receipts is works = works
+    made H (Some fault) receipts is works = absurd (cc is)
 
 -- ---- a thread met a fault
 
-halted-refusal : (image : Image) (fault : Fault) → HasHalted image fault → HasRefusal image fault
-halted-refusal image fault halted = ∥∥₁_map halted (λ h. (h.0 ++ (Tick, Refused fault) ∷ [], h.1, length h.0, Tick, slice_get-last h.0 (Tick, Refused fault)))
+halted-refusal : (image : Image) (told : Option Halt) (fault : Fault) → Knows image told fault → HasRefusal image fault
+halted-refusal image (Some halt) fault (is, halted) =
+    subst (HasRefusal image) is (∥∥₁_map halted (λ h. (h.0 ++ (Tick, Refused halt.fault) ∷ [], h.2, length h.0, Tick, slice_get-last h.0 (Tick, Refused halt.fault))))
+halted-refusal image None fault knows = absurd knows
 
-refusal : {D : Type 0} {G : Ghosts D} (state : D → Device) (image : Image) (audited : Audited D G) (first : ℕ) (receipts : List Receipt) (fault : Fault)
-    → All (IsEntry audited.entries.items first) receipts → IsFrom state image audited → IsRefusedWith (HasHalted image) receipts fault → HasRefusal image fault
-refusal state image audited first receipts fault all from (inl (before, r, last, told)) =
+refusal : {D : Type 0} {G : Ghosts D} (state : D → Device) (image : Image) (audited : Audited D G) (first : ℕ) (receipts : List Receipt) (told : Option Halt) (fault : Fault)
+    → All (IsEntry audited.entries.items first) receipts → IsFrom state image audited → IsRefusedWith (Knows image told) receipts fault → HasRefusal image fault
+refusal state image audited first receipts known fault all from (inl (before, r, last, told)) =
     let entries = audited.entries.items in
     let one : IsEntry entries first r = All-head (IsEntry entries first) r [] (All-right (IsEntry entries first) before (r ∷ []) (subst (All (IsEntry entries first)) last all)) in
     ∥∥₁_map from (λ a. (entries, of-weaken image entries (Shows state audited.room) (λ q. ⊤) (λ q shows. tt) a.run, r.place, r.step, one.entry ∙ ap (λ (note : Note). Some (r.step, note)) told))
-refusal state image audited first receipts fault all from (inr halted) = halted-refusal image fault halted
+refusal state image audited first receipts known fault all from (inr knows) = halted-refusal image known fault knows
 
-given-up : {D : Type 0} {G : Ghosts D} (state : D → Device) (image : Image) (audited : Audited D G) (first : ℕ) (receipts : List Receipt) (fault : Fault)
-    → All (IsEntry audited.entries.items first) receipts → IsFrom state image audited → GivesUp (HasHalted image) receipts fault
+given-up : {D : Type 0} {G : Ghosts D} (state : D → Device) (image : Image) (audited : Audited D G) (first : ℕ) (receipts : List Receipt) (told : Option Halt) (fault : Fault)
+    → All (IsEntry audited.entries.items first) receipts → IsFrom state image audited → GivesUp (Knows image told) receipts fault
     → (fault ≡ WrongState) ⊎ ((may_pass fault ≡ false) × HasRefusal image fault)
-given-up state image audited first receipts fault all from gives = of gives.why
+given-up state image audited first receipts told fault all from gives = of gives.why
   where
-    of : ((fault ≡ WrongState) × ReportsNothing receipts) ⊎ IsRefusedWith (HasHalted image) receipts fault → (fault ≡ WrongState) ⊎ ((may_pass fault ≡ false) × HasRefusal image fault)
+    of : ((fault ≡ WrongState) × ReportsNothing receipts) ⊎ IsRefusedWith (Knows image told) receipts fault → (fault ≡ WrongState) ⊎ ((may_pass fault ≡ false) × HasRefusal image fault)
     of (inl (wrong, nothing)) = inl wrong
-    of (inr refused) = inr (gives.is_final, refusal state image audited first receipts fault all from refused)
+    of (inr refused) = inr (gives.is_final, refusal state image audited first receipts told fault all from refused)
 
 -- the fault of some thread is WrongState, or a final one, which a run was refused with
 pub some-refusal : {D T : Type 0} {G : Ghosts D} (state : D → Device) (image : Image) (audited : Audited D G) (first commits : ℕ) (receipts : List Receipt)
-    (f : T → List Receipt) (fault : T → Option Fault) (tasks : List T) (why : Fault)
-    → All (λ t. Works (HasHalted image) commits (f t) (fault t)) tasks → Any (λ t. fault t ≡ Some why) tasks → receipts ≡ flat_map f tasks → Agrees audited.entries.items first receipts
+    (f : T → List Receipt) (fault : T → Option Fault) (told : T → Option Halt) (tasks : List T) (why : Fault)
+    → All (λ t. Works (Knows image (told t)) commits (f t) (fault t)) tasks → Any (λ t. fault t ≡ Some why) tasks → receipts ≡ flat_map f tasks → Agrees audited.entries.items first receipts
     → IsFrom state image audited → (why ≡ WrongState) ⊎ ((may_pass why ≡ false) × HasRefusal image why)
-some-refusal state image audited first commits receipts f fault tasks why works (k, task, less, is, met) are agrees from =
-    let gives = gave (fault (slice_index_or tasks k task)) (f (slice_index_or tasks k task)) (ap fault is ∙ met) (works k task less) in
+some-refusal state image audited first commits receipts f fault told tasks why works (k, task, less, is, met) are agrees from =
+    let gives = gave (Knows image (told (slice_index_or tasks k task))) (fault (slice_index_or tasks k task)) (f (slice_index_or tasks k task)) (ap fault is ∙ met) (works k task less) in
     let pieces = All-pieces (IsEntry audited.entries.items first) f tasks (subst (All (IsEntry audited.entries.items first)) are agrees.each) in
-    given-up state image audited first (f (slice_index_or tasks k task)) why (pieces k task less) from gives
+    given-up state image audited first (f (slice_index_or tasks k task)) (told (slice_index_or tasks k task)) why (pieces k task less) from gives
   where
     some-inj : (a b : Fault) → Some a ≡ Some b → a ≡ b
     some-inj a b h = cc h
 
-    gave : (fault : Option Fault) (receipts : List Receipt) → fault ≡ Some why → Works (HasHalted image) commits receipts fault → GivesUp (HasHalted image) receipts why
-    gave None receipts is works = absurd (cc is)
-    gave (Some other) receipts is works = subst (GivesUp (HasHalted image) receipts) (some-inj other why is) works
+    gave : (H : Fault → Type 0) (fault : Option Fault) (receipts : List Receipt) → fault ≡ Some why → Works H commits receipts fault → GivesUp H receipts why
+    gave H None receipts is works = absurd (cc is)
+    gave H (Some other) receipts is works = subst (GivesUp H receipts) (some-inj other why is) works

@@ -16,7 +16,7 @@ use Rattle.audited.specs.declared.audited.Audited.{Audited}
 use Rattle.engine.specs.declared.origin.Origin.{Ghosts as Origins}
 use Rattle.engine.specs.declared.session.Session.{Session}
 use Rattle.engine.specs.Agreement.{Agrees, receipts_in}
-use Rattle.engine.specs.Origins.{HasHalted, IsFrom}
+use Rattle.engine.specs.Origins.{IsFrom, Knows}
 use Rattle.workload.specs.declared.task.Task.{Task}
 use Rattle.workload.specs.Load.{AreMade, HasRefusal, may_pass}
 use Rattle.workload.specs.Tasks.{AllWork, AreFresh, sessions_in}
@@ -46,15 +46,15 @@ module _ {D J B : Type 0} {G : Ghosts D} {N : Origins J} {M : Names J} where
   receipts-of : (tasks : List (Task D J B G N M)) (closed : List (Session D J B G N M)) → closed ≡ sessions_in tasks → receipts_in closed ≡ receipts_in (sessions_in tasks)
   receipts-of tasks closed is = ap (λ (ss : List (Session D J B G N M)). receipts_in ss) is
 
-  pub tasks-made : (Halted : Fault → Type 0) (sessions commits first : ℕ) (tasks : List (Task D J B G N M)) (closed : List (Session D J B G N M)) (entries : List (Step × Note))
-      → length tasks ≡ sessions → first ≡ 0 → AllWork Halted commits tasks → All (λ t. t.fault ≡ None) tasks → closed ≡ sessions_in tasks → Agrees entries first (receipts_in closed) → AreMade sessions commits entries
-  tasks-made Halted sessions commits first tasks closed entries count begins works none is agrees =
-      are-made {T = Task D J B G N M} (λ t. t.session.receipts.items) (λ t. t.fault) Halted sessions commits tasks entries first (receipts_in closed) count begins works none
+  pub tasks-made : (image : Image) (sessions commits first : ℕ) (tasks : List (Task D J B G N M)) (closed : List (Session D J B G N M)) (entries : List (Step × Note))
+      → length tasks ≡ sessions → first ≡ 0 → AllWork image commits tasks → All (λ t. t.fault ≡ None) tasks → closed ≡ sessions_in tasks → Agrees entries first (receipts_in closed) → AreMade sessions commits entries
+  tasks-made image sessions commits first tasks closed entries count begins works none is agrees =
+      are-made {T = Task D J B G N M} (λ t. t.session.receipts.items) (λ t. t.fault) (λ t. Knows image t.session.told) sessions commits tasks entries first (receipts_in closed) count begins works none
       (receipts-of tasks closed is ∙ flat_map-map (λ (s : Session D J B G N M). s.receipts.items) (λ (t : Task D J B G N M). t.session) tasks) agrees
 
   pub tasks-refused : (state : D → Device) (image : Image) (commits first : ℕ) (tasks : List (Task D J B G N M)) (closed : List (Session D J B G N M)) (audited : Audited D G) (fault : Fault)
-      → AllWork (HasHalted image) commits tasks → Any (λ t. t.fault ≡ Some fault) tasks → closed ≡ sessions_in tasks → Agrees audited.entries.items first (receipts_in closed) → IsFrom state image audited
+      → AllWork image commits tasks → Any (λ t. t.fault ≡ Some fault) tasks → closed ≡ sessions_in tasks → Agrees audited.entries.items first (receipts_in closed) → IsFrom state image audited
       → (fault ≡ WrongState) ⊎ ((may_pass fault ≡ false) × HasRefusal image fault)
   tasks-refused state image commits first tasks closed audited fault works met is agrees from =
-      some-refusal {T = Task D J B G N M} state image audited first commits (receipts_in closed) (λ t. t.session.receipts.items) (λ t. t.fault) tasks fault works met
+      some-refusal {T = Task D J B G N M} state image audited first commits (receipts_in closed) (λ t. t.session.receipts.items) (λ t. t.fault) (λ t. t.session.told) tasks fault works met
       (receipts-of tasks closed is ∙ flat_map-map (λ (s : Session D J B G N M). s.receipts.items) (λ (t : Task D J B G N M). t.session) tasks) agrees from

@@ -3,7 +3,7 @@ ghost use Rattle.base.specs.declared.fault.Fault.TheVariants.{OutOfMemory, Wrong
 ghost use Rattle.base.specs.declared.step.Note.TheVariants.{Refused};
 ghost use Rattle.engine.specs.declared.phase.Phase.TheVariants.{Idle};
 ghost use Rattle.engine.specs.Calls.{ReportsLast};
-ghost use Rattle.engine.specs.Origins.{HasHalted};
+ghost use Rattle.engine.specs.Origins.{Knows};
 ghost use Rattle.workload.specs.Load.{EndsInPut, GivesUp, IsRefusedWith, Makes, MakesNone, MakesOne, ReportsNothing, Works, may_pass};
 ghost use Rattle.workload.specs.Tasks.{AllWork, AreFresh};
 
@@ -24,12 +24,12 @@ pub fn commit_all<
     B: Drop + Send,
 >(rt: &T, tasks: &mut [Task<D, J, B>], commits: u64)
     requires fresh { AreFresh tasks.old }
-    ensures { AllWork (HasHalted J.image) commits tasks.new }
+    ensures { AllWork J.image commits tasks.new }
 {
     let threads = tasks.len().max(1);
     let make = |key: usize, task: &mut Task<D, J, B>|
         requires { task.now.session.receipts.items ≡ [] }
-        ensures { Works (HasHalted J.image) commits task.exit.now.session.receipts.items task.exit.now.fault }
+        ensures { Works (Knows J.image task.exit.now.session.told) commits task.exit.now.session.receipts.items task.exit.now.fault }
     { work(rt, task, key as u64, commits) };
     for_each_mut(rt, tasks, threads, &make);
 }
@@ -42,7 +42,7 @@ fn work<T: Wait, D: Pmem + Drop, J: Origin, B: Drop>(
     commits: u64,
 )
     requires fresh { task.old.session.receipts.items ≡ [] }
-    ensures { Works (HasHalted J.image) commits task.new.session.receipts.items task.new.fault }
+    ensures { Works (Knows J.image task.new.session.told) commits task.new.session.receipts.items task.new.fault }
 {
     task.fault = match make_commits(rt, &mut task.session, key, commits) {
         Ok(()) => None,
@@ -62,9 +62,9 @@ fn make_commits<T: Wait, D: Pmem + Drop, J: Origin, B: Drop>(
     // As many commits as were asked for are acknowledged and drawn, and no transaction is open then.
     ensures ok { OnOk result (Makes commits session.new.receipts.items) }
 
-    // The thread's last step was refused with this fault, or the committer ended with it. Or, of WrongState, the thread's last
-    // commit reported that nothing was written, and ended its transaction.
-    ensures err { IfErr result (GivesUp (HasHalted J.image) session.new.receipts.items) }
+    // The thread's last step was refused with this fault, or its session was told that the committer ended with it. Or, of
+    // WrongState, the thread's last commit reported that nothing was written, and ended its transaction.
+    ensures err { IfErr result (GivesUp (Knows J.image session.new.told) session.new.receipts.items) }
 {
     let key = Key { table: 1, key };
     for made in 0..commits {
@@ -97,7 +97,7 @@ fn make_commit<T: Wait, D: Pmem + Drop, J: Origin, B: Drop>(
     ensures closed { OnOk result (session.new.phase ≡ Idle) }
 
     // As for `make_commits`.
-    ensures err { IfErr result (GivesUp (HasHalted J.image) session.new.receipts.items) }
+    ensures err { IfErr result (GivesUp (Knows J.image session.new.told) session.new.receipts.items) }
 {
     for _ in rt.forever() {
         match attempt(rt, session, key, row) {
@@ -126,7 +126,7 @@ fn attempt<T: Wait, D: Pmem + Drop, J: Origin, B: Drop>(
     ensures closed { IfOk result (λ made. IsTrue made → session.new.phase ≡ Idle) }
 
     // As for `make_commits`.
-    ensures err { IfErr result (GivesUp (HasHalted J.image) session.new.receipts.items) }
+    ensures err { IfErr result (GivesUp (Knows J.image session.new.told) session.new.receipts.items) }
 {
     match try_commit(rt, session, key, row) {
         Ok(()) => Ok(true),
@@ -151,7 +151,7 @@ fn try_commit<T: Wait, D: Pmem + Drop, J: Origin, B: Drop>(
     ensures none { IfErr result (λ fault. may_pass fault ≡ true → MakesNone session.old.phase session.old.receipts.items session.new.phase session.new.receipts.items) }
 
     // As for `make_commits`.
-    ensures err { IfErr result (λ fault. (fault ≡ OutOfMemory) ⊎ (((fault ≡ WrongState) × ReportsNothing session.new.receipts.items) ⊎ IsRefusedWith (HasHalted J.image) session.new.receipts.items fault)) }
+    ensures err { IfErr result (λ fault. (fault ≡ OutOfMemory) ⊎ (((fault ≡ WrongState) × ReportsNothing session.new.receipts.items) ⊎ IsRefusedWith (Knows J.image session.new.told) session.new.receipts.items fault)) }
 {
     match begin_once(rt, session, key, row) {
         Ok(()) => match session.commit(rt) {
@@ -213,7 +213,7 @@ fn step_back<T: Wait, D: Pmem + Drop, J: Origin, B: Drop>(
     fault: Fault,
 ) -> Result<(), Fault>
     ensures ok { OnOk result ((may_pass fault ≡ true) × MakesNone session.old.phase session.old.receipts.items session.new.phase session.new.receipts.items) }
-    ensures err { IfErr result (λ why. (may_pass why ≡ false) × (((why ≡ fault) × (session.new.receipts.items ≡ session.old.receipts.items)) ⊎ ReportsLast session.new.receipts.items (Refused why))) }
+    ensures err { IfErr result (λ why. (may_pass why ≡ false) × (((why ≡ fault) × (session.new.receipts.items ≡ session.old.receipts.items) × (session.new.told ≡ session.old.told)) ⊎ ReportsLast session.new.receipts.items (Refused why))) }
 {
     if !may_pass(fault) {
         return Err(fault);

@@ -5,7 +5,7 @@ ghost use Rattle.base.specs.declared.fault.Fault.TheVariants.{OutOfMemory};
 ghost use Rattle.pmem.specs.Words.{IsAtRest, image_of};
 ghost use Rattle.room.specs.Room.{Shows};
 ghost use Rattle.room.specs.Runs.{OpensTo};
-ghost use Rattle.engine.specs.Origins.{HasHalted, IsFrom};
+ghost use Rattle.engine.specs.Origins.{IsFrom};
 ghost use Rattle.workload.specs.Load.{AreMade, HasFree, HasNumbers, IsEngineFault, IsLoadFault, MakesTo};
 ghost use Rattle.workload.specs.Tasks.{AllWork, AreFresh};
 
@@ -136,7 +136,7 @@ fn run_tasks<
 >(rt: &T, tasks: &mut Vec<Task<D, J, B>>, commits: u64) -> Option<Fault>
     requires fresh { AreFresh tasks.old.items }
     ensures len { vec_len tasks.new ≡ vec_len tasks.old }
-    ensures works { AllWork (HasHalted J.image) commits tasks.new.items }
+    ensures works { AllWork J.image commits tasks.new.items }
     ensures some { IfSome result (λ fault. Any (λ task. task.fault ≡ Some fault) tasks.new.items) }
     ensures none { IfNone result (All (λ task. task.fault ≡ None) tasks.new.items) }
 {

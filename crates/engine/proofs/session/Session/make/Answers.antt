@@ -8,6 +8,7 @@ use Rattle.audited.specs.declared.receipt.Receipt.{Receipt}
 use Rattle.engine.specs.Receipts.{floor_of}
 use Rattle.engine.specs.Phases.{phase_after_step}
 use Rattle.engine.proofs.Phasing.{phase_after-push}
+use Rattle.engine.proofs.Halting.{kept-stepped}
 use Rattle.engine.proofs.Staying.{from-stepped, made-here}
 use Rattle.engine.proofs.Rising.{floor_of-append, rises-append, some_is}
 use Rattle.engine.proofs.session.Session.make.Goals as goal
@@ -26,6 +27,7 @@ invariant_of-self-2 g c =
       rising = rw items (rises-append 0 c.args.self.now.receipts.items r c.args.self.now.rising low);
       floor_is = rw items (sym (floor_of-append 0 c.args.self.now.receipts.items r));
       phase_is = phase_after-push c.args.self.now.phase c.after-self.result c.args.self.now.receipts.items _ r c.args.self.now.phase_is items c.after-self.ensures;
+      told_of = c.args.self.now.told_of;
     }
 
 pub returns-clause-fits : goal.returns-clause-fits
@@ -48,3 +50,8 @@ returns-clause-moved g c =
 pub invariant_of-deref_mut-clause-from : goal.invariant_of-deref_mut-clause-from
 invariant_of-deref_mut-clause-from g c =
     from-stepped g.D.Pmem.state g.J.Origin.image c.deref_mut.result.now.audited c.in-Some.audited c.step-reply.new.self c.deref_mut.result.now.from c.in-Some.is c.step-reply.ensures.audited
+
+pub invariant_of-deref_mut-clause-kept : goal.invariant_of-deref_mut-clause-kept
+invariant_of-deref_mut-clause-kept g c =
+    kept-stepped c.deref_mut.result.now.audited c.in-Some.audited c.step-reply.new.self c.args.step c.step-reply.result.0 c.step-reply.result.1 c.deref_mut.result.now.halted _ c.deref_mut.result.now.kept c.in-Some.is
+    c.step-reply.ensures.kept c.step-reply.ensures.refused

@@ -16,6 +16,7 @@ loop-preserved g c = record {
   clean = more-clean _ _ _ _ _ c.loop.invariant.clean c.in_ok-make.ensures.ok (ap (λ (reply : Reply). refused_with (note_of reply)) c.in-More.is);
   phase = c.in_ok-make.ensures.moved ∙ (ap (λ (reply : Reply). phase_after_step c.loop.self.phase (Stamp c.args.number) (note_of reply)) c.in-More.is ∙ c.loop.invariant.phase);
   published = c.in_ok-make.ensures.published ∙ c.loop.invariant.published;
+  told = c.in_ok-make.ensures.told ∙ c.loop.invariant.told;
 }
 
 pub returns-in-Stamped-clause-steps : goal.returns-in-Stamped-clause-steps

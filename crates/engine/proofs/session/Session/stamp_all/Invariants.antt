@@ -11,4 +11,5 @@ invariant-loop g l = record {
   clean : IsClean l.fn.self.receipts.items l.self.receipts.items;
   phase : l.self.phase ≡ l.fn.self.phase;
   published : l.self.published ≡ l.fn.self.published;
+  told : l.self.told ≡ l.fn.self.told;
 }

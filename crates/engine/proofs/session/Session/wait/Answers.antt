@@ -18,6 +18,7 @@ loop-preserved g c = record {
   ));
   clean = more-clean _ _ _ _ _ c.loop.invariant.clean c.in_ok-make.ensures.ok (ap (λ (reply : Reply). refused_with (note_of reply)) c.in-Waiting.is);
   published = c.in_ok-make.ensures.published ∙ c.loop.invariant.published;
+  told = c.in_ok-make.ensures.told ∙ c.loop.invariant.told;
 }
 
 pub returns-in-Committed-clause-steps : goal.returns-in-Committed-clause-steps

@@ -10,4 +10,5 @@ invariant-loop g l = record {
   polls : Called l.fn.self.receipts.items l.self.receipts.items (λ added. ArePolls l.number added × All (λ r. r.note ≡ Waiting) added);
   clean : IsClean l.fn.self.receipts.items l.self.receipts.items;
   published : l.self.published ≡ l.fn.self.published;
+  told : l.self.told ≡ l.fn.self.told;
 }
