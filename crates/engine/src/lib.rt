@@ -9,6 +9,7 @@ mod desk;
 mod due;
 mod engine;
 mod gate;
+mod keeping;
 mod opening;
 mod origin;
 mod phase;
@@ -21,6 +22,7 @@ mod worker;
 
 pub use engine::Engine;
 pub use gate::{Gate, Go};
+pub use keeping::Board;
 pub use origin::Origin;
 pub use phase::{Phase, PollReply};
 pub use session::Session;
