@@ -2,6 +2,7 @@ pub mod Phases
 pub mod Receipts
 pub mod Calls
 pub mod Agreement
+pub mod Keeping
 pub mod Posting
 pub mod Started
 pub mod Origins

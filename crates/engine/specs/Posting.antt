@@ -1,5 +1,5 @@
 -- How what is covered is published.
-use Rattle.std.specs.Prelude.{◌≡◌, ◌⊎◌, ◌+◌, ◌-◌, ◌≤◌, [], Option, Some, None, Contains, IfSome, MatchOption}
+use Rattle.std.specs.Prelude.{◌≡◌, ◌⊎◌, ◌-◌, [], Option, Some, None, Contains, IfSome, MatchOption}
 use Rattle.base.specs.Batches.{Batch}
 use Rattle.base.specs.Images.{Image}
 use Rattle.base.specs.Published.{Published, last_stamp}
@@ -28,11 +28,7 @@ pub record EndsIn (list : Published) (batch : Batch) : Type 0 where
   pub has : Contains list.batches batch
   pub stamp : last_stamp list ≡ batch.stamp
 
--- at most sixteen stamps of the list may be read
-abbrev pub IsShort : Published → Type 0
-IsShort list = last_stamp list ≤ list.floor + 15
-
--- the list with its floor raised, so that at most sixteen stamps may be read
+-- the list with its floor raised, if more than sixteen stamps may be read
 abbrev pub pruned : Published → Published
 pruned list = changed list (Raise (last_stamp list - 15))
 
@@ -47,11 +43,15 @@ posted old batch = record { list = pruned (with_batch old batch); waits = [] }
 
 -- ---- a try
 
+-- the batch may come next, if there is one
+abbrev pub MayCome : Shown → Option Batch → Type 0
+MayCome board batch = IfSome batch (Fits (whole board))
+
 -- what a try to publish a batch does, or, without one, a try to publish what waits
 abbrev pub Tries : Shown → Shown → Option Batch → Posting → Type 0
 Tries old new (Some batch) Done = Fits (whole old) batch × (new ≡ shown (waiting old (Add batch)))
 Tries old new (Some batch) (Again (Some left)) = (left ≡ batch) × (new ≡ old)
-Tries old new (Some batch) (Again None) = new ≡ waiting old (Add batch)
+Tries old new (Some batch) (Again None) = Fits (whole old) batch × (new ≡ waiting old (Add batch))
 Tries old new (Some batch) Unfit = (Fits (whole old) batch → ⊥) × (new ≡ old)
 Tries old new None Done = new ≡ shown old
 Tries old new None (Again None) = new ≡ old
@@ -61,9 +61,9 @@ Tries old new None Unfit = ⊥
 -- The outcome of a try that prunes afterwards. At Done all is published, and pruned. For lack of memory nothing is lost: the batch comes
 -- back and the board is as before, or the batch waits there. A batch that may not come next changes nothing
 abbrev pub Posts : Shown → Shown → Option Batch → Posting → Type 0
-Posts old new batch Done = new ≡ posted old batch
+Posts old new batch Done = MayCome old batch × (new ≡ posted old batch)
 Posts old new batch (Again (Some left)) = (batch ≡ Some left) × (new ≡ old)
-Posts old new batch (Again None) = (whole new ≡ with_batch old batch) ⊎ (whole new ≡ pruned (with_batch old batch))
+Posts old new batch (Again None) = MayCome old batch × ((whole new ≡ with_batch old batch) ⊎ (whole new ≡ pruned (with_batch old batch)))
 Posts old new batch Unfit = MatchOption batch ⊥ (λ b. Fits (whole old) b → ⊥) × (new ≡ old)
 
 -- ---- try after try

@@ -4,6 +4,7 @@
 use crate::closing::{may_close, take_room};
 use crate::desk::Duty;
 use crate::gate::Gate;
+use crate::keeping::Board;
 use crate::opening::board_of;
 use crate::origin::Origin;
 use crate::session::Session;
@@ -12,7 +13,7 @@ use crate::worker::spawn_worker;
 use audited::Audited;
 use base::fault::Fault;
 use base::step::Note;
-use board::{Board, History, Reader, Token};
+use board::{History, Reader, Token};
 use pmem::Pmem;
 use room::Status;
 use std::alloc::Global;

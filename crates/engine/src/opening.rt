@@ -6,9 +6,10 @@ ghost use Rattle.machine.specs.Machine.{State};
 ghost use Rattle.room.specs.Room.{Shows};
 ghost use Rattle.engine.specs.Started.{IsStartedOn};
 
+use crate::keeping::Board;
 use audited::Audited;
 use base::fault::Fault;
-use board::{Board, Coverage, History, Naming, Reader};
+use board::{Coverage, History, Naming, Reader};
 use pmem::Pmem;
 use std::alloc::Global;
 use std::sync::Wait;
@@ -31,7 +32,7 @@ pub fn board_of<R: Wait + Drop, D: Pmem + Drop, J: Naming>(
         longs: status.longs,
     };
     match audited.tables() {
-        Ok(rows) => Board::open(rt, alloc, history, coverage, &rows, 8),
+        Ok(rows) => Board::open(rt, alloc, history, coverage, &rows),
         Err(fault) => Err(fault),
     }
 }

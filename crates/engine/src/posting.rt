@@ -3,11 +3,12 @@
 //! announced there.
 
 use crate::desk::Duty;
+use crate::keeping::Board;
 use crate::origin::Origin;
 use crate::shared::Shared;
 use base::batch::Batch;
 use base::fault::Fault;
-use board::{Board, Naming, Token};
+use board::{Naming, Token};
 use pmem::Pmem;
 use std::alloc::Global;
 use std::sync::{Arc, Wait};
@@ -37,7 +38,8 @@ ghost use Rattle.base.specs.Published.{last_stamp};
 ghost use Rattle.board.specs.declared.change.Change.TheVariants.{Raise};
 ghost use Rattle.board.specs.Lists.{Begins, Fits};
 ghost use Rattle.board.specs.Shown.{whole, shown, waiting};
-ghost use Rattle.engine.specs.Posting.{EndsIn, IsLeftOf, IsShort, Posts, Tries, batch_of, posted};
+ghost use Rattle.engine.specs.Keeping.{KeepsSixteen};
+ghost use Rattle.engine.specs.Posting.{EndsIn, IsLeftOf, Posts, Tries, batch_of, posted};
 
 /// Publishes the batch, and keeps sixteen stamps readable. For lack of memory it rests and tries again, until the engine is
 /// being closed. `None` then, and if the batch doesn't go on from what was published.
@@ -46,8 +48,8 @@ pub fn post<R: Wait + Drop, D: Pmem + Drop, J: Origin>(
     shared: &Arc<Shared<D, J, Board<J, R>>, Global>,
     batch: Batch,
 ) -> Option<Token<J>>
-    // What is published has the batch and ends at its stamp, and at most sixteen stamps of it may be read.
-    ensures { IfSome result (λ list. EndsIn list batch × IsShort list) }
+    // What is published has the batch and ends at its stamp. Exactly its last sixteen stamps may be read, or all if there are fewer.
+    ensures { IfSome result (λ list. EndsIn list batch × KeepsSixteen list) }
 {
     let mut refusals = 0u64;
     let mut left = Left::OfBatch(batch);
@@ -77,12 +79,12 @@ fn post_left<R: Wait + Drop, J: Naming>(
     board: &mut Board<J, R>,
     left: Left<J>,
 ) -> Result<Token<J>, Option<Left<J>>>
-    // One try, after which what is published has the batch and ends at its stamp. Sixteen stamps may be read, or all that could
-    // be read before (`posted`). Otherwise the try leaves the batch, or a list that waits on the board and ends in it. A batch
+    // One try, after which what is published has the batch and ends at its stamp. Exactly the last sixteen stamps may be read then, or
+    // all if there are fewer (`posted`). Otherwise the try leaves the batch, or a list that waits on the board and ends in it. A batch
     // comes to nothing exactly if it may not come next (`Fits`), and then the board is as before.
     ensures published { IfOk result (λ list. list ≡ board.new.list) }
     ensures board { OnOk result (board.new ≡ posted board.old (batch_of left)) }
-    ensures left { (batch : BatchOf) → IsLeftOf batch left → MatchResult result (λ list. EndsIn list batch × IsShort list) (λ rest. IfSome rest (IsLeftOf batch)) }
+    ensures left { (batch : BatchOf) → IsLeftOf batch left → MatchResult result (λ list. EndsIn list batch × KeepsSixteen list) (λ rest. IfSome rest (IsLeftOf batch)) }
 {
     match left {
         Left::OfBatch(batch) => post_batch(board, batch),
@@ -95,14 +97,14 @@ fn post_batch<R: Wait + Drop, J: Naming>(
     board: &mut Board<J, R>,
     batch: Batch,
 ) -> Result<Token<J>, Option<Left<J>>>
-    // One try, after which what is published has the batch and ends at its stamp. Sixteen stamps may be read, or all that could
-    // be read before (`posted`). Otherwise the try leaves the batch, or a list that waits on the board and ends in it. A batch
+    // One try, after which what is published has the batch and ends at its stamp. Exactly the last sixteen stamps may be read then, or
+    // all if there are fewer (`posted`). Otherwise the try leaves the batch, or a list that waits on the board and ends in it. A batch
     // comes to nothing exactly if it may not come next (`Fits`), and then the board is as before.
-    ensures published { IfOk result (λ list. (list ≡ board.new.list) × EndsIn list batch × IsShort list) }
+    ensures published { IfOk result (λ list. (list ≡ board.new.list) × EndsIn list batch × KeepsSixteen list) }
     ensures board { OnOk result (board.new ≡ posted board.old (Some batch)) }
     ensures left { IfErr result (λ rest. MatchOption rest ((Fits (whole board.old) batch → ⊥) × (board.new ≡ board.old)) (IsLeftOf batch)) }
 {
-    match publish_and_prune(board, Some(batch)) {
+    match board.post(Some(batch)) {
         Posting::Done => Ok(board.token()),
         Posting::Again(rest) => match rest {
             Some(batch) => Err(Some(Left::OfBatch(batch))),
@@ -117,14 +119,14 @@ fn post_announced<R: Wait + Drop, J: Naming>(
     board: &mut Board<J, R>,
     due: Token<J>,
 ) -> Result<Token<J>, Option<Left<J>>>
-    // One try, after which what is published has the batch and ends at its stamp. Sixteen stamps may be read, or all that could
-    // be read before (`posted`). Otherwise the try leaves the batch, or a list that waits on the board and ends in it. A batch
+    // One try, after which what is published has the batch and ends at its stamp. Exactly the last sixteen stamps may be read then, or
+    // all if there are fewer (`posted`). Otherwise the try leaves the batch, or a list that waits on the board and ends in it. A batch
     // comes to nothing exactly if it may not come next (`Fits`), and then the board is as before.
-    ensures published { IfOk result (λ list. (list ≡ board.new.list) × Begins due list × (last_stamp list ≡ last_stamp due) × IsShort list) }
+    ensures published { IfOk result (λ list. (list ≡ board.new.list) × Begins due list × (last_stamp list ≡ last_stamp due) × KeepsSixteen list) }
     ensures board { OnOk result (board.new ≡ posted board.old None) }
     ensures left { IfErr result (λ rest. IfSome rest (λ left. (batch : BatchOf) → EndsIn due batch → IsLeftOf batch left)) }
 {
-    match publish_and_prune(board, None) {
+    match board.post(None) {
         Posting::Done => {
             let published = board.token();
             if due.begins(&published) && published.stamp() == due.stamp() {
@@ -138,9 +140,9 @@ fn post_announced<R: Wait + Drop, J: Naming>(
     }
 }
 
-// Publishes the batch, or what waits, and prunes then.
-fn publish_and_prune<R: Wait + Drop, J: Naming>(
-    board: &mut Board<J, R>,
+/// Publishes the batch, or what waits, and prunes then.
+pub fn publish_and_prune<R: Wait + Drop, J: Naming>(
+    board: &mut board::Board<J, R>,
     left: Option<Batch>,
 ) -> Posting
     // The batch is published exactly if it may come next. If memory is lacking, it comes back and the board is as before, or it
@@ -158,7 +160,10 @@ fn publish_and_prune<R: Wait + Drop, J: Naming>(
 }
 
 // Publishes the batch if it goes on from what was published, or what waits.
-fn publish<R: Wait + Drop, J: Naming>(board: &mut Board<J, R>, left: Option<Batch>) -> Posting
+fn publish<R: Wait + Drop, J: Naming>(
+    board: &mut board::Board<J, R>,
+    left: Option<Batch>,
+) -> Posting
     // The batch is published exactly if it may come next. If memory is lacking, it comes back and the board is as before, or it
     // waits there.
     ensures { Tries board.old board.new left result }
@@ -179,7 +184,7 @@ fn publish<R: Wait + Drop, J: Naming>(board: &mut Board<J, R>, left: Option<Batc
 }
 
 // Raises the lowest stamp that may be read, so that sixteen stay readable.
-fn prune<R: Wait + Drop, J: Naming>(board: &mut Board<J, R>) -> Result<(), Fault>
+fn prune<R: Wait + Drop, J: Naming>(board: &mut board::Board<J, R>) -> Result<(), Fault>
     // Sixteen stamps stay readable. If memory is lacking, the board is as before, or the change waits there.
     ensures few { last_stamp board.old.list ≤ board.old.list.floor + 15 → (result ≡ Ok tt) × (board.new ≡ board.old) }
     ensures many { board.old.list.floor + 15 < last_stamp board.old.list → MatchResult result

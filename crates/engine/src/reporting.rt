@@ -1,9 +1,10 @@
 //! It can't be known that the board under the lock is this engine's. What was published at the start is in the session, so a
 //! token is the later of both.
 
+use crate::keeping::Board;
 use crate::origin::Origin;
 use crate::session::Session;
-use board::{Board, Naming, Token};
+use board::{Naming, Token};
 use pmem::Pmem;
 use std::sync::Wait;
 

@@ -3,13 +3,14 @@
 
 use crate::desk::Duty;
 use crate::gate::{Gate, Go};
+use crate::keeping::Board;
 use crate::origin::Origin;
 use crate::posting::post;
 use crate::shared::Shared;
 use audited::Receipt;
 use base::fault::Fault;
 use base::step::{Note, Reply, Step};
-use board::{Board, Naming, Token};
+use board::{Naming, Token};
 use pmem::Pmem;
 use std::alloc::Global;
 use std::sync::{Arc, Wait};

@@ -8,8 +8,8 @@ use crate::fixture::{
 };
 use base::fault::Fault;
 use base::row::Row;
-use board::{Board, History, Reader, Token};
-use engine::{Engine, Origin, Session};
+use board::{History, Reader, Token};
+use engine::{Board, Engine, Origin, Session};
 use pmem::Pmem;
 use std::alloc::Global;
 use std::marker::Brand;

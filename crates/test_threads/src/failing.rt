@@ -11,8 +11,8 @@ use crate::fixture::{
 use base::fault::Fault;
 use base::key::Key;
 use base::row::Row;
-use board::{Board, History};
-use engine::{Engine, Halt, Origin, Session};
+use board::History;
+use engine::{Board, Engine, Halt, Origin, Session};
 use pmem::Pmem;
 use pmem_model::{Choice, SimPmem};
 use std::alloc::Global;

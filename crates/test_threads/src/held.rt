@@ -13,8 +13,8 @@ use crate::fixture::{
 use crate::hold::Holding;
 use base::fault::Fault;
 use base::row::Row;
-use board::{Board, History, Reader};
-use engine::{Engine, Origin, Session};
+use board::{History, Reader};
+use engine::{Board, Engine, Origin, Session};
 use pmem::Pmem;
 use pmem_model::SimPmem;
 use std::alloc::Global;
