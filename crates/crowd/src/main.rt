@@ -1,12 +1,10 @@
 //! Measures how many commits per second several threads make in one store in a file, if each commit waits for its sync.
-//! `crowd NAME SLOTS THREADS COMMITS [ROWS [read]]` creates or opens the store in the file NAME. Each of THREADS threads makes COMMITS
-//! commits, of one row or of ROWS rows. With `read`, one more thread reads meanwhile, one row in each transaction, and the time that the
-//! reads take is printed. `crowd NAME SLOTS readers THREADS READS` times READS reads in each of THREADS threads, while another thread
-//! commits without a pause. Without arguments it prints these two forms.
+//! `crowd NAME SLOTS THREADS COMMITS [ROWS]` creates or opens the store in the file NAME. Each of THREADS threads makes COMMITS commits,
+//! of one row or of ROWS rows. `crowd NAME SLOTS readers THREADS READS` times READS reads in each of THREADS threads, while another
+//! thread commits without a pause. Without arguments it prints these two forms.
 #![tactic(auto)]
 
 mod beside;
-mod reading;
 
 use anyhow::{Error, anyhow, bail};
 use base::fault::Fault;
@@ -15,20 +13,18 @@ use base::key::Key;
 use base::row::Row;
 use beside::{Readers, time_readers};
 use database::Database;
-use reading::{Reads, read_while};
 use std::alloc::Global;
 use std::env;
 use std::fs::File;
 use std::ops::Range;
 use std::rt::{Clock, Files};
 use std::sync::Wait;
-use std::sync::atomic::{AtomicU64, Ordering};
-use std::thread::{Threads, join, map_indices};
+use std::thread::{Threads, map_indices};
 use std::time::{Duration, Instant};
 use store::{Device, Refusal, open_database};
 
 const WORDS: &str =
-    "crowd NAME SLOTS THREADS COMMITS [ROWS [read]], or crowd NAME SLOTS readers THREADS READS";
+    "crowd NAME SLOTS THREADS COMMITS [ROWS], or crowd NAME SLOTS readers THREADS READS";
 
 // The least number of keys that each thread updates, one after the other. No other thread updates them.
 const KEYS: u64 = 8;
@@ -36,15 +32,13 @@ const KEYS: u64 = 8;
 // The most keys that a transaction writes.
 const TOGETHER: u64 = 32;
 
-// How many slots the store has, how many threads commit at once, how many commits each makes and of how many rows, and whether one more
-// thread reads.
+// How many slots the store has, how many threads commit at once, how many commits each makes and of how many rows.
 #[derive(Clone, Copy)]
 struct Crowd {
     slots: u64,
     threads: usize,
     commits: u64,
     rows: u64,
-    reads: bool,
 }
 
 impl Crowd {
@@ -52,13 +46,6 @@ impl Crowd {
     fn keys(&self) -> u64 {
         KEYS.max(self.rows)
     }
-}
-
-// How long the commits took, and the reads meanwhile.
-#[derive(Clone, Copy)]
-struct Took {
-    commits: Duration,
-    reads: Reads,
 }
 
 fn main(rt: HostRuntime) -> Result<(), Error> {
@@ -89,7 +76,6 @@ fn crowd_of(words: &[&str]) -> Result<Crowd, Error> {
         threads: threads.parse::<usize>()?,
         commits: commits.parse::<u64>()?,
         rows: rows_of(more)?,
-        reads: more.len() == 2,
     })
 }
 
@@ -97,7 +83,6 @@ fn rows_of(words: &[&str]) -> Result<u64, Error> {
     let rows = match words {
         [] => 1,
         [rows] => rows.parse::<u64>()?,
-        [rows, read] if *read == "read" => rows.parse::<u64>()?,
         _ => bail!("the words are {WORDS}"),
     };
     if rows == 0 || TOGETHER < rows {
@@ -106,25 +91,15 @@ fn rows_of(words: &[&str]) -> Result<u64, Error> {
     Ok(rows)
 }
 
-// Prints how many commits and rows there were, how many per second, and how long the reads took.
+// Prints how many commits and rows there were, and how many per second.
 fn measure<
     H: Print + Files<File = File> + Clock + Threads + Wait + Copy + Drop + Send + Sync + 'static,
 >(rt: &H, alloc: Global, name: &str, crowd: &Crowd) -> Result<(), Error> {
     let took = time_commits(rt, alloc, name, crowd)?;
     let commits = crowd.commits.saturating_mul(crowd.threads as u64);
-    print_rate(rt, "commits", commits, took.commits)?;
+    print_rate(rt, "commits", commits, took)?;
     if crowd.rows != 1 {
-        print_rate(rt, "rows", commits.saturating_mul(crowd.rows), took.commits)?;
-    }
-    if crowd.reads {
-        let reads = took.reads;
-        println!(rt;
-            "{} reads, {} ns each, {} ns the longest, {} more than a millisecond",
-            reads.count,
-            reads.mean(),
-            reads.longest,
-            reads.slow
-        )?;
+        print_rate(rt, "rows", commits.saturating_mul(crowd.rows), took)?;
     }
     Ok(())
 }
@@ -151,46 +126,21 @@ fn print_rate<H: Print>(rt: &H, what: &str, count: u64, took: Duration) -> Resul
 }
 
 // Opens the store in the file of this name, which is created if it is missing, and uses its slots. Then each thread commits
-// transactions, each of which updates some keys. Returns how long these commits took, and the reads.
+// transactions, each of which updates some keys. Returns how long these commits took.
 fn time_commits<
     H: Files<File = File> + Clock + Threads + Wait + Copy + Drop + Send + Sync + 'static,
->(rt: &H, alloc: Global, name: &str, crowd: &Crowd) -> Result<Took, Error> {
+>(rt: &H, alloc: Global, name: &str, crowd: &Crowd) -> Result<Duration, Error> {
     let geometry = Geometry::new(crowd.slots, Geometry::LEAST_PLACES, Geometry::MOST_WINDOW)?;
     let database = match open_database(rt, alloc, name, geometry) {
         Ok(database) => database,
         Err(refusal) => return Err(error_of(refusal)),
     };
     use_slots(alloc, &database, crowd)?;
-    let took = time_threads(rt, alloc, &database, crowd)?;
+    let took = time_committers(rt, alloc, &database, crowd)?;
     match database.close() {
         Ok(_) => Ok(took),
         Err(refused) => Err(Error::from(refused.fault)),
     }
-}
-
-fn time_threads<H: Clock + Threads + Wait + Drop + Send + Sync>(
-    rt: &H,
-    alloc: Global,
-    database: &Database<Device, H>,
-    crowd: &Crowd,
-) -> Result<Took, Error> {
-    let committing = AtomicU64::new(1);
-    let (commits, reads) = join(
-        rt,
-        || {
-            let took = time_committers(rt, alloc, database, crowd);
-            committing.store(0, Ordering::SeqCst);
-            took
-        },
-        || match crowd.reads {
-            true => read_while(rt, database, &committing),
-            false => Ok(Reads::none()),
-        },
-    );
-    Ok(Took {
-        commits: commits?,
-        reads: reads?,
-    })
 }
 
 fn time_committers<H: Clock + Threads + Wait + Drop + Send + Sync>(

@@ -15,7 +15,7 @@ use Rattle.requests.specs.declared.status.Status.{Status}
 use Rattle.store.specs.declared.error.StoreError.{StoreError}
 use Rattle.store.specs.declared.status.Status as usage
 use Rattle.store.specs.Answers.{Answers, Puts, OfScanned, ScanRefused, IsCommitRefusal}
-use Rattle.store.specs.Status.{ShowsLayout, ShowsNumbers, ShowsFill}
+use Rattle.store.specs.Status.{ShowsStore}
 use Rattle.serving.specs.Refusals.{status_of}
 
 -- the store refused with an error of which this holds, and this is its status
@@ -80,7 +80,7 @@ ScansLast range limit session answer = ScansPart (λ all. take limit (reverse al
 -- the numbers of a status that the store showed
 abbrev pub ShowsStatus : Answer → Type 0
 ShowsStatus (answer.Numbers numbers) =
-    (shown : usage.Status) × ComesTo (λ q. ShowsLayout q shown) × ComesTo (λ q. ShowsNumbers q shown) × ComesTo (λ q. ShowsFill q shown)
+    (shown : usage.Status) × ComesTo (λ q. ShowsStore q shown)
     × (numbers ≡ shown.row_limit ∷ shown.slots ∷ shown.free ∷ shown.rows ∷ shown.versions ∷ shown.persisted ∷ shown.left ∷ [])
 ShowsStatus _ = ⊥
 
