@@ -1,5 +1,6 @@
 /* bindings thread|stack|sqlite FOLDER SECONDS: gets and commits of rows of 8 bytes, from C, over a file in the folder. It prints a line
- * for each piece of work: its name, and how many were done per second. */
+ * for each piece of work: its name, and how many were done per second. With a fourth word, THREADS, it makes commits of a row alone, by
+ * that many threads, each of which updates keys of its own. */
 #include "nipamast.h"
 #include <pthread.h>
 #include <sqlite3.h>
@@ -9,7 +10,7 @@
 #include <time.h>
 #include <unistd.h>
 
-enum { KEYS = 1024, ROWS = 32, THREADS = 8 };
+enum { KEYS = 1024, ROWS = 32, THREADS = 8, MOST_THREADS = 64 };
 
 static const char *path;
 static double seconds;
@@ -53,15 +54,15 @@ static void *run_thread(void *p) {
     return NULL;
 }
 
-static void measure_threads(const char *name, void (*work)(void *, long), void **contexts) {
-    struct thread threads[THREADS];
+static void measure_threads(const char *name, void (*work)(void *, long), void **contexts, long count) {
+    struct thread threads[MOST_THREADS];
     double start = now();
     long made = 0;
-    for (long i = 0; i < THREADS; i++) {
+    for (long i = 0; i < count; i++) {
         threads[i] = (struct thread){ .work = work, .context = contexts[i], .number = i, .end = start + seconds };
         must(!pthread_create(&threads[i].thread, NULL, run_thread, &threads[i]), "a thread");
     }
-    for (int i = 0; i < THREADS; i++) {
+    for (long i = 0; i < count; i++) {
         pthread_join(threads[i].thread, NULL);
         made += threads[i].made;
     }
@@ -108,7 +109,26 @@ static void measure_nipamast(int calls) {
     nipamast_abort(t);
     measure("commit", n_commit, NULL, 8);
     measure("commit-rows", n_commit_many, NULL, 4);
-    measure_threads("commit-threads", n_commit, contexts);
+    measure_threads("commit-threads", n_commit, contexts, THREADS);
+    must(!nipamast_close(store), "close");
+}
+
+/* The keys 8 n to 8 n + 7 are the thread's whose context is n. */
+static void n_commit_own(void *context, long i) { n_write(*(long *)context * 8 + i % 8, 1); }
+
+static void measure_committers(int calls, long count) {
+    nipamast_options o = NIPAMAST_OPTIONS;
+    long numbers[MOST_THREADS];
+    void *contexts[MOST_THREADS];
+    o.slots = 16384;
+    o.calls = (uint8_t)calls;
+    must(count > 0 && count <= MOST_THREADS, "1 to 64 threads:");
+    must(!nipamast_open(path, &o, &store), "open");
+    for (long i = 0; i < count; i++) {
+        numbers[i] = i;
+        contexts[i] = &numbers[i];
+    }
+    measure_threads("commit-own", n_commit_own, contexts, count);
     must(!nipamast_close(store), "close");
 }
 
@@ -185,17 +205,19 @@ static void measure_sqlite(void) {
     measure("commit-rows", s_commit_many, d, 4);
     disconnect(d);
     for (int i = 0; i < THREADS; i++) contexts[i] = connect();
-    measure_threads("commit-threads", s_commit, contexts);
+    measure_threads("commit-threads", s_commit, contexts, THREADS);
     for (int i = 0; i < THREADS; i++) disconnect(contexts[i]);
 }
 
 int main(int count, char **words) {
     char name[4200];
-    must(count == 4, "bindings thread|stack|sqlite FOLDER SECONDS:");
+    must(count == 4 || (count == 5 && strcmp(words[1], "sqlite")), "bindings thread|stack|sqlite FOLDER SECONDS, or bindings thread|stack FOLDER SECONDS THREADS:");
     seconds = atof(words[3]);
     snprintf(name, sizeof name, "%s/bindings.db", words[2]);
     path = name;
-    if (!strcmp(words[1], "sqlite")) measure_sqlite();
-    else measure_nipamast(!strcmp(words[1], "stack") ? NIPAMAST_BY_STACK : NIPAMAST_BY_THREAD);
+    int calls = !strcmp(words[1], "stack") ? NIPAMAST_BY_STACK : NIPAMAST_BY_THREAD;
+    if (count == 5) measure_committers(calls, atol(words[4]));
+    else if (!strcmp(words[1], "sqlite")) measure_sqlite();
+    else measure_nipamast(calls);
     return 0;
 }

@@ -1,4 +1,4 @@
-"""bindings.py thread|stack|sqlite FOLDER SECONDS: the same work as bindings.c, from Python, with as many lines of output."""
+"""bindings.py thread|stack|sqlite FOLDER SECONDS [THREADS]: the same work as bindings.c, from Python, with as many lines of output."""
 import os
 import sqlite3
 import sys
@@ -53,6 +53,14 @@ def measure_nipamast(path, seconds, by_stack):
         measure_threads("commit-threads", [lambda i: store.put(1, i % KEYS, ROW)] * THREADS, seconds)
 
 
+def measure_committers(path, seconds, by_stack, count):
+    import nipamast
+
+    with nipamast.open(path, slots=16_384, by_stack=by_stack) as store:
+        works = [lambda i, first=number * 8: store.put(1, first + i % 8, ROW) for number in range(count)]
+        measure_threads("commit-own", works, seconds)
+
+
 def connect(path):
     db = sqlite3.connect(path, isolation_level=None, timeout=60, check_same_thread=False)
     db.execute("PRAGMA journal_mode=WAL")
@@ -90,7 +98,9 @@ def measure_sqlite(path, seconds):
 def main():
     engine, folder, seconds = sys.argv[1], sys.argv[2], float(sys.argv[3])
     path = os.path.join(folder, "bindings.db")
-    if engine == "sqlite":
+    if len(sys.argv) > 4:
+        measure_committers(path, seconds, engine == "stack", int(sys.argv[4]))
+    elif engine == "sqlite":
         measure_sqlite(path, seconds)
     else:
         measure_nipamast(path, seconds, engine == "stack")

@@ -1,10 +1,12 @@
 //! Measures how many commits per second several threads make in one store in a file, if each commit waits for its sync.
 //! `crowd NAME SLOTS THREADS COMMITS [ROWS]` creates or opens the store in the file NAME. Each of THREADS threads makes COMMITS commits,
-//! of one row or of ROWS rows. `crowd NAME SLOTS readers THREADS READS` times READS reads in each of THREADS threads, while another
-//! thread commits without a pause. Without arguments it prints these two forms.
+//! of one row or of ROWS rows. `crowd NAME SLOTS transact THREADS COMMITS` makes them by `Store::transact`, of one row each.
+//! `crowd NAME SLOTS readers THREADS READS` times READS reads in each of THREADS threads, while another thread commits without a pause.
+//! Without arguments it prints these three forms.
 #![tactic(auto)]
 
 mod beside;
+mod transacting;
 
 use anyhow::{Error, anyhow, bail};
 use base::fault::Fault;
@@ -22,9 +24,10 @@ use std::sync::Wait;
 use std::thread::{Threads, map_indices};
 use std::time::{Duration, Instant};
 use store::{Device, Refusal, open_database};
+use transacting::{Transactions, time_transactions};
 
 const WORDS: &str =
-    "crowd NAME SLOTS THREADS COMMITS [ROWS], or crowd NAME SLOTS readers THREADS READS";
+    "crowd NAME SLOTS THREADS COMMITS [ROWS], or crowd NAME SLOTS transact THREADS COMMITS, or crowd NAME SLOTS readers THREADS READS";
 
 // The least number of keys that each thread updates, one after the other. No other thread updates them.
 const KEYS: u64 = 8;
@@ -61,6 +64,14 @@ fn main(rt: HostRuntime) -> Result<(), Error> {
                 reads: reads.parse::<u64>()?,
             };
             measure_readers(&rt, alloc, name, &readers)?;
+        }
+        [name, slots, "transact", threads, commits] => {
+            let transactions = Transactions {
+                slots: slots.parse::<u64>()?,
+                threads: threads.parse::<usize>()?,
+                commits: commits.parse::<u64>()?,
+            };
+            measure_transactions(&rt, alloc, name, &transactions)?;
         }
         [name, crowd @ ..] => measure(&rt, alloc, name, &crowd_of(crowd)?)?,
     }
@@ -102,6 +113,17 @@ fn measure<
         print_rate(rt, "rows", commits.saturating_mul(crowd.rows), took)?;
     }
     Ok(())
+}
+
+// Prints how many transactions there were, and how many per second.
+fn measure_transactions<
+    H: Print + Files<File = File> + Clock + Threads + Wait + Copy + Drop + Send + Sync + 'static,
+>(rt: &H, alloc: Global, name: &str, transactions: &Transactions) -> Result<(), Error> {
+    let took = time_transactions(rt, alloc, name, transactions)?;
+    let commits = transactions
+        .commits
+        .saturating_mul(transactions.threads as u64);
+    print_rate(rt, "commits", commits, took)
 }
 
 // Prints how many reads there were, how many per second, and how many commits meanwhile.
