@@ -5,8 +5,8 @@ use Rattle.std.proofs.lemmas.List.{append-nil, length-drop, length-take, length-
 use Rattle.std.specs.Option.{option_or}
 use Rattle.std.specs.declared.io.Error.{Error}
 use Rattle.base.specs.Images.{layout_of, has_good_geometry}
-use Rattle.base.specs.Layout.{Layout, is_between, is_in_limits, is_known_version, slot_start, slot_words, total_words}
-use Rattle.base.proofs.Layouts.{line-words}
+use Rattle.base.specs.Layout.{Layout, is_in_limits, slot_start, slot_words, total_words}
+use Rattle.base.proofs.Layouts.{in-limits, line-words}
 use Rattle.journal.specs.Files.{magic, HasTail, IsFile, Opens}
 use Rattle.journal.proofs.Files.{lines-off, opens-off, opens-one}
 use Rattle.journal.proofs.Tails.{named_one}
@@ -252,9 +252,7 @@ names-alone asked own file shape is size room sized tail not_alone = absurd (not
 -- the last eight words of an image alone are a slot's
 slot-words : (a : Layout) → is_in_limits a ≡ true → slot_start a 0 + 8 ≤ total_words a
 slot-words a limits =
-    let all = and_parts (is_known_version a.version) (is_between 1 65536 a.slots && (is_between 2 64 a.places && is_between 4 1024 a.window)) limits in
-    let slots = and_parts (is_between 1 65536 a.slots) (is_between 2 64 a.places && is_between 4 1024 a.window) all.1 in
-    let some : 1 ≤ a.slots = leb-true 1 a.slots (and_parts (nat_le 1 a.slots) (nat_le a.slots 65536) slots.0).0 in
+    let some : 1 ≤ a.slots = (in-limits a limits).slots.0 in
     omega (arith, times (slot_words a.version) a.slots (line-words a.version) some)
   where
     times : (n count : ℕ) → 8 ≤ n → 1 ≤ count → 8 ≤ n * count

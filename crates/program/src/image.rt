@@ -7,7 +7,7 @@ use std::alloc::Global;
 use std::io;
 
 /// The bytes of the longest file of an image: one with a journal after it that has room for an entry of all its lines.
-pub const MOST_BYTES: usize = 17_860_992;
+pub const MOST_BYTES: usize = 4_563_437_952;
 
 const WORD_BYTES: usize = 8;
 

@@ -173,6 +173,7 @@ fn find_bad(alloc: Global, geometry: Geometry, readings: &[SlotReading]) -> Resu
 }
 
 // Fails if the slot that holds this is bad. Its key joins those of the slots before.
+#[tactic(auto, using(base::proofs::Layouts::few_slots))]
 fn visit(
     geometry: Geometry,
     slot: u64,
