@@ -9,6 +9,6 @@ mod ranges;
 mod walking;
 
 pub use entry::{Entry, KeyedEntry};
-pub use map::{Index, Known};
+pub use map::{HintedEntries, Index, Known};
 pub use ranges::{KeyRange, listed};
 pub use walking::Found;

@@ -1,9 +1,9 @@
 use crate::entry::{Entry, KeyedEntry};
-use crate::hints::{hint_for, note, widen};
+use crate::hints::{hint_for, hints_of, note, widen};
 use base::fault::Fault;
 use base::key::Key;
 use base::{SlotNo, Ts};
-use std::alloc::Global;
+use std::alloc::{AllocError, Global};
 use std::collections::BTreeMap;
 use std::marker::Model;
 
@@ -14,6 +14,40 @@ pub struct Known {
     pub link: Option<SlotNo>,
 }
 
+/// Entries of keys, with hints of where each is, for an index that is made of them.
+#[derive(Drop)]
+pub struct HintedEntries {
+    entries: Vec<KeyedEntry>,
+    hints: Vec<u32>,
+}
+
+impl Model for HintedEntries {
+    ghost use Rattle.std.specs.Prelude.{List};
+    ghost use Rattle.base.specs.declared.key.Key.{Key};
+    ghost use Rattle.index.specs.declared.entry.Entry.{Entry};
+
+    ghost Value = { List (Key × Entry) };
+
+    ghost view = { λ h. h.entries.items };
+}
+
+impl HintedEntries {
+    ghost use Rattle.std.specs.Prelude.{◌≡◌, IfOk};
+
+    /// The same entries. There are hints enough for as many keys as are named, so that an index of them that has no more never
+    /// takes time to renew them.
+    pub fn of(
+        alloc: Global,
+        entries: Vec<KeyedEntry>,
+        keys: usize,
+    ) -> Result<HintedEntries, AllocError>
+        ensures { IfOk result (λ listed. listed ≡ entries.items) }
+    {
+        let hints = hints_of(alloc, keys, entries.as_slice())?;
+        Ok(HintedEntries { entries, hints })
+    }
+}
+
 /// The entry of each key, which says where its versions are. A key that has no entry has a blank one.
 #[derive(Drop)]
 pub struct Index {
@@ -22,7 +56,7 @@ pub struct Index {
     // The place of each key's entry.
     pub(crate) places: BTreeMap<Key, usize, Global>,
     // Places at which entries may be: tried first, with a search if the entry isn't there.
-    hints: Vec<usize>,
+    hints: Vec<u32>,
 }
 
 impl Model for Index {
@@ -57,19 +91,16 @@ impl Index {
         }
     }
 
-    /// An index with exactly these entries, at these places. It takes no memory: the first draws note where entries may be.
-    pub fn of(
-        alloc: Global,
-        entries: Vec<KeyedEntry>,
-        places: BTreeMap<Key, usize, Global>,
-    ) -> Index
-        requires { ArePlaced places.entries entries.items }
-        ensures { result ≡ entries.items }
+    /// An index with exactly these entries, at these places. It takes no memory.
+    pub fn of(listed: HintedEntries, places: BTreeMap<Key, usize, Global>) -> Index
+        requires { ArePlaced places.entries listed }
+        ensures { result ≡ listed }
     {
+        let HintedEntries { entries, hints } = listed;
         Index {
             entries,
             places,
-            hints: Vec::new(alloc),
+            hints,
         }
     }
 

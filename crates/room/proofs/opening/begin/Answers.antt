@@ -71,7 +71,7 @@ returns-in-Err-open-clause-log g c =
 pub of-index-requires : goal.of-index-requires
 of-index-requires g c =
     let found = c.in-Ok.learnt.found in
-    let entries : c.in-Ok.learnt.entries.items ≡ map entry_of found.live.items = c.in-Ok.ensures.ok.entries_are in
+    let entries : c.in-Ok.learnt.entries ≡ map entry_of found.live.items = c.in-Ok.ensures.ok.entries_are in
     let places : c.in-Ok-open.life.places.entries ≡ found.places.entries = ap (λ (m : BTreeMap Key ℕ). m.entries) c.in-Ok-open.ensures.places in
     subst (λ (es : List (Key × Entry)). ArePlaced c.in-Ok-open.life.places.entries es) (sym entries)
     (subst (λ (ps : List (Key × ℕ)). ArePlaced ps (map entry_of found.live.items)) (sym places) (are-placed found.live.items found.places.entries c.in-Ok.ensures.ok.found.placed))
