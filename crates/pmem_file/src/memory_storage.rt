@@ -89,6 +89,7 @@ impl JournaledPmem<JournaledImages<MemoryStorage>> {
     ghost use Rattle.pmem.specs.Device.{restarted};
     ghost use Rattle.pmem.specs.Words.{IsAtRest, image_of};
     ghost use Rattle.pmem_file.specs.Devices.{failure_of, places_of, state_of};
+    ghost use Rattle.pmem_file.specs.Journaled.{places_named};
 
     /// A device at rest with the image that the storage's words stand for, as those of a file. Fails as `over` does.
     pub fn of_storage(
@@ -102,7 +103,7 @@ impl JournaledPmem<JournaledImages<MemoryStorage>> {
         ensures rest { IfOk result (λ device. IsAtRest (state_of device)) }
         ensures device { IfOk result (λ device. state_of device ≡ restarted (image_of (state_of device))) }
         ensures stands { IfOk result (λ device. Opens words room (stored_in storage) (image_of (state_of device))) }
-        ensures places { IfOk result (λ device. places_of device ≡ places) }
+        ensures places { IfOk result (λ device. places_of device ≡ places_named (image_of (state_of device)) places) }
         ensures works { IfOk result (λ device. failure_of device ≡ None) }
         ensures unopened { IfErr result (λ unopened. StandsAs (IsStored unopened.storage) words room (stored_in storage)) }
     {
