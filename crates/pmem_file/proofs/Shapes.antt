@@ -1,5 +1,5 @@
 -- Which shape the words of a file have.
-use Rattle.std.proofs.Common.{◌≡◌, ◌≢◌, ◌⊎◌, inl, inr, ℕ, ◌+◌, ◌-◌, ◌*◌, ◌^◌, ◌<◌, ◌≤◌, ◌&&◌, true, nat_eq, nat_le, List, Option, Result, Ok, Err, None, Some, IfOk, IfNone, IfSome, IsTrue, OnSome, length, take, drop, replicate, get_or, refl, sym, ◌∙◌, ap, subst, arith}
+use Rattle.std.proofs.Common.{◌≡◌, ◌≢◌, ◌⊎◌, inl, inr, ℕ, ◌+◌, ◌-◌, ◌*◌, ◌^◌, ◌<◌, ◌≤◌, ◌&&◌, true, nat_le, List, Option, Result, Ok, Err, None, Some, IfOk, IfNone, IfSome, IsTrue, OnSome, length, take, drop, replicate, get_or, refl, sym, ◌∙◌, ap, subst, arith}
 use Rattle.std.proofs.lemmas.Bool.{and_parts, eqb-true, leb-true}
 use Rattle.std.proofs.lemmas.List.{append-nil, length-drop, length-take, length-replicate, get_or-drop, get_or-take, get_or-replicate, get_or_append_left, get_or-append_right, take_all}
 use Rattle.std.specs.Option.{option_or}
@@ -12,6 +12,8 @@ use Rattle.journal.proofs.Files.{lines-off, opens-off, opens-one}
 use Rattle.journal.proofs.Tails.{named_one}
 use Rattle.log_area.specs.Rulings.{IsLaidOut}
 use Rattle.pmem_file.specs.declared.shape.Shape.{Shape}
+use Rattle.pmem_file.specs.Journaled.{places_named}
+use Rattle.pmem_file.proofs.Named.{named-of}
 use Rattle.pmem_file.specs.Shapes.{IsBlank, IsImageOf, HasItsPlaces, HasShape, IsMadeFor, IsGrown, IsGrowing, IsNothingBehind, IsOurs, KeepsNames, least_room, room_made, room_older, whole, padded}
 
 zero-magic : 0 ≢ magic
@@ -291,6 +293,9 @@ no-ours-empty asked words is none (inr (inr g)) = omega (arith, none, g.size)
 
 -- ---- a device that begins with such words
 
-pub begun : (asked : Option Layout) (words : List ℕ) (shape : Shape) (image : List ℕ) (places : ℕ) → HasShape asked words shape → Opens shape.words shape.room (padded shape words) image → places ≡ shape.places
+pub begun : (asked : Option Layout) (words : List ℕ) (shape : Shape) (image : List ℕ) (places : ℕ) → HasShape asked words shape → Opens shape.words shape.room (padded shape words) image → places ≡ places_named image shape.places
     → HasItsPlaces asked image places
-begun asked words shape image places has opens is = grind (arith, opens-one shape.words shape.room (padded shape words) has.image image has.opens opens)
+begun asked words shape image places has opens is =
+    let named = has.has_places in
+    let image_is : IsImageOf asked named.layout image = subst (λ (l : List ℕ). IsImageOf asked named.layout l) (opens-one shape.words shape.room (padded shape words) has.image image has.opens opens) named.image in
+    record { layout = named.layout; image = image_is; places_are = is ∙ named-of asked named.layout image shape.places image_is named.places_are }
