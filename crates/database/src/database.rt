@@ -12,9 +12,11 @@ use base::fault::Fault;
 use base::geometry::Geometry;
 use base::key::Key;
 use base::row::Row;
+use history::{History, Log, Origin};
 use pmem::Pmem;
 use room::{Room, Status, Usage};
 use std::alloc::Global;
+use std::marker::Brand;
 use std::sync::{Arc, Wait};
 use std::thread::Threads;
 use sync_ahead::SyncAhead;
@@ -37,16 +39,18 @@ pub struct Report {
 
 /// A store of rows over a device, with a committer and a collector in threads of their own. Threads may share it. A drop ends both
 /// workers, and leaves the device as a crash would: once it returns, the device is dropped too.
-pub struct Database<D: Pmem + Drop, R: Wait + Drop> {
+pub struct Database<D: Pmem + Drop, R: Wait + Drop, J: Origin = Brand> {
     pub(crate) rt: R,
-    pub(crate) shared: Arc<Shared<D>, Global>,
+    pub(crate) shared: Arc<Shared<D, J>, Global>,
+    // Its history is kept.
+    is_kept: bool,
 }
 
 impl<
     D: SyncAhead + Drop + Send + Sync + 'static,
     R: Threads + Wait + Copy + Drop + Send + Sync + 'static,
 > Database<D, R> {
-    ghost use Rattle.std.specs.Prelude.{◌≡◌, List, ℕ, None, IfOk, IfErr};
+    ghost use Rattle.std.specs.Prelude.{◌≡◌, List, ℕ, None, IfOk, IfErr, false};
     ghost use Rattle.base.specs.Commits.{Commit};
     ghost use Rattle.base.specs.Images.{opening_fault};
     ghost use Rattle.base.specs.Stands.{Stands};
@@ -68,6 +72,74 @@ impl<
         // At Err the device is as it was, or each crash meanwhile leaves the same history.
         ensures images { (history drawn : List Commit) (next : ℕ) → Stands (image_of (D.state device)) history drawn next
             → IfErr result (λ e. KeepsHistory (D.state device) (D.state e.device) history next) }
+
+        // Its history isn't kept: `run_kept` opens one whose history is.
+        ensures kept { IfOk result (λ database. database.is_kept ≡ false) }
+    {
+        Database::<D, R, Brand>::open_with(rt, alloc, device, None)
+    }
+}
+
+impl<
+    D: SyncAhead + Drop + Send + Sync + 'static,
+    R: Threads + Wait + Copy + Drop + Send + Sync + 'static,
+    J: Origin + Send + Sync + 'static,
+> Database<D, R, J> {
+    ghost use Rattle.std.specs.Prelude.{◌≡◌, List, [], ℕ, None, IfOk, IfErr, is_some, true};
+    ghost use Rattle.std.specs.Option.{ForSome};
+    ghost use Rattle.base.specs.Commits.{Commit};
+    ghost use Rattle.base.specs.Images.{opening_fault};
+    ghost use Rattle.base.specs.Stands.{Stands};
+    ghost use Rattle.pmem.specs.Words.{IsAtRest, image_of};
+    ghost use Rattle.database.specs.Opening.{IsOpeningRefusal, KeepsHistory};
+
+    /// Opens a device at rest, and keeps its history from then on.
+    pub fn open_kept(
+        rt: R,
+        alloc: Global,
+        device: D,
+        history: History,
+    ) -> Result<Database<D, R, J>, Refused<D>>
+    where
+        D::Pending: Send,
+        requires at_rest { IsAtRest (D.state device) }
+        requires name { history ≡ J.book }
+        requires opened { D.state device ≡ J.opened }
+
+        // As for `open`.
+        ensures may_open { IfOk result (λ _. opening_fault (image_of (D.state device)) ≡ None) }
+        ensures fault { IfErr result (λ e. IsOpeningRefusal (D.state device) (D.state e.device) e.fault) }
+        ensures images { (history drawn : List Commit) (next : ℕ) → Stands (image_of (D.state device)) history drawn next
+            → IfErr result (λ e. KeepsHistory (D.state device) (D.state e.device) history next) }
+
+        // Its history is kept.
+        ensures kept { IfOk result (λ database. database.is_kept ≡ true) }
+    {
+        Database::<D, R, J>::open_with(rt, alloc, device, Some(Log::new(history)))
+    }
+
+    // Opens a device at rest, with the history that is kept of it, if one is.
+    fn open_with(
+        rt: R,
+        alloc: Global,
+        device: D,
+        log: Option<Log<J>>,
+    ) -> Result<Database<D, R, J>, Refused<D>>
+    where
+        D::Pending: Send,
+        requires at_rest { IsAtRest (D.state device) }
+        requires log { ForSome log (λ log. (log ≡ []) × (D.state device ≡ J.opened)) }
+        ensures kept { IfOk result (λ database. database.is_kept ≡ is_some log) }
+
+        // At Ok the image has none of the faults that opening reports.
+        ensures may_open { IfOk result (λ _. opening_fault (image_of (D.state device)) ≡ None) }
+
+        // At Err NoThread or OutOfMemory, and the device is as it was. Or opening the room was refused with this fault.
+        ensures fault { IfErr result (λ e. IsOpeningRefusal (D.state device) (D.state e.device) e.fault) }
+
+        // At Err the device is as it was, or each crash meanwhile leaves the same history.
+        ensures images { (history drawn : List Commit) (next : ℕ) → Stands (image_of (D.state device)) history drawn next
+            → IfErr result (λ e. KeepsHistory (D.state device) (D.state e.device) history next) }
     {
         let Ok(shared) = Arc::new(alloc, Shared::new()) else {
             return Err(Refused {
@@ -78,10 +150,15 @@ impl<
         if let Err(fault) = start_workers(&rt, &shared) {
             return Err(Refused { fault, device });
         }
+        let is_kept = log.is_some();
         match Room::open(&rt, alloc, device) {
             Ok(room) => {
-                shared.put_in(&rt, OpenedRoom::new(room));
-                Ok(Database { rt, shared })
+                shared.put_in(&rt, OpenedRoom::new(room, log));
+                Ok(Database {
+                    rt,
+                    shared,
+                    is_kept,
+                })
             }
             Err((fault, device)) => {
                 shared.end_work(&rt);
@@ -91,20 +168,21 @@ impl<
     }
 }
 
-impl<D: Pmem + Drop, R: Wait + Drop> Drop for Database<D, R> {
+impl<D: Pmem + Drop, R: Wait + Drop, J: Origin> Drop for Database<D, R, J> {
     fn drop(self) {
-        let Database { rt, shared } = self;
+        let Database { rt, shared, .. } = self;
         shared.end_work(&rt);
         shared.drop_room(&rt);
     }
 }
 
-impl<D: SyncAhead + Drop, R: Wait + Drop> Database<D, R> {
+impl<D: SyncAhead + Drop, R: Wait + Drop, J: Origin> Database<D, R, J> {
     ghost use Rattle.std.specs.Prelude.{◌≡◌, Ok, Err, IfOk, IfErr};
     ghost use Rattle.base.specs.declared.step.Step.TheVariants.{Begin};
     ghost use Rattle.database.specs.Replies.{began_of};
     ghost use Rattle.database.specs.Obeys.{AnswersStep};
     ghost use Rattle.database.specs.Committing.{ReportsWritten, ReportsUnwritten};
+    ghost use Rattle.database.specs.Histories.{HasBegun};
     ghost use Rattle.room.specs.Room.{ShowsStatus};
     ghost use Rattle.room.specs.Runs.{ComesTo};
     ghost use Rattle.room.specs.Usage.{ShowsUsage};
@@ -112,13 +190,17 @@ impl<D: SyncAhead + Drop, R: Wait + Drop> Database<D, R> {
     ghost use Rattle.database.specs.Closing.{ClosesRun, IsClosed, IsClosingRefused};
 
     /// Begins a transaction, which reads the rows that are committed now, and what it writes itself. 62 may be open.
-    pub fn begin(&self) -> Result<Transaction<'_, D, R>, Fault>
+    pub fn begin(&self) -> Result<Transaction<'_, D, R, J>, Fault>
         // A run ends in this call's Begin. Its reply has the number of the transaction's session, or the fault.
         ensures ok { IfOk result (λ transaction. AnswersStep Begin began_of (Ok transaction.session)) }
         ensures err { IfErr result (λ fault. AnswersStep Begin began_of (Err fault)) }
+
+        // If the history is kept, the transaction knows it up to this Begin, and its session is the one that was free then. It has
+        // made no step since.
+        ensures begun { IfOk result (λ transaction. HasBegun J.opened self.now.is_kept transaction.session transaction.trace) }
     {
-        match self.shared.begin(&self.rt) {
-            Ok(session) => Ok(Transaction::new(&self.rt, &self.shared, session)),
+        match self.shared.begin(&self.rt, self.is_kept) {
+            Ok((session, begun)) => Ok(Transaction::new(&self.rt, &self.shared, session, begun)),
             Err(fault) => Err(fault),
         }
     }

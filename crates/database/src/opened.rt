@@ -1,13 +1,17 @@
 //! No clause can name what a lock holds, so the type of what the desk's lock holds carries its run. The run has all steps since the
 //! device was opened, and among them the tick that ended the committer, if one has. Only steps change what the room shows.
 
+ghost use Rattle.std.specs.Option.{ForSome};
 ghost use Rattle.room.specs.Runs.{HasTaken};
+ghost use Rattle.room_logs.specs.Logs.{HasLog};
 ghost use Rattle.database.specs.Ended.{EndedAlong};
 
 use crate::database::Report;
 use base::Ts;
 use base::fault::Fault;
 use base::geometry::Geometry;
+use base::step::Step;
+use history::{Log, Origin};
 use pmem::Pmem;
 use room::{Room, Status, Tick, Usage, Visit};
 use sync_ahead::SyncAhead;
@@ -15,16 +19,19 @@ use sync_ahead::SyncAhead;
 /// The room of a device that was opened. It shows the end of a run from that opening: the thread that holds the lock extends the run by
 /// steps, and in no other way.
 #[derive(Drop)]
-pub struct OpenedRoom<D: Pmem> {
+pub struct OpenedRoom<D: Pmem, J: Origin> {
     pub(crate) room: Room<D>,
     /// Why nothing more will be covered: the fault that the committer was refused with, in this very run.
     pub(crate) ended: Option<Fault>,
     /// Of every value: the room shows the end of a run from the opening of some device. If a fault is kept as the reason why the
     /// committer has ended, a tick in that run was refused with it.
     ghost run: { ∥ HasTaken D.state room (EndedAlong ended) ∥₁ },
+    /// The history, if one is kept: the steps that the room has made since its device was opened, except for reads and polls.
+    pub(crate) log: Option<Log<J>>,
+    ghost logged: { ForSome log (λ log. ∥ HasLog D.state J.opened room log ∥₁) },
 }
 
-impl<D: Pmem + Drop> OpenedRoom<D> {
+impl<D: Pmem + Drop, J: Origin> OpenedRoom<D, J> {
     ghost use Rattle.std.specs.Prelude.{◌≡◌, ◌≢◌, ◌-◌, None, Some, IsSome, Ok, Err};
     ghost use Rattle.base.specs.declared.fault.Fault.TheVariants.{OutOfMemory};
     ghost use Rattle.base.specs.declared.step.Step.TheVariants.{Commit, Collect};
@@ -35,16 +42,22 @@ impl<D: Pmem + Drop> OpenedRoom<D> {
     ghost use Rattle.room.specs.Room.{Leads, Shows, ShowsStatus, covered_by};
     ghost use Rattle.room.specs.Runs.{ComesTo};
     ghost use Rattle.room.specs.Usage.{ShowsUsage};
+    ghost use Rattle.database.specs.Histories.{LogsQuiet};
     ghost use Rattle.database.specs.Opening.{IsFresh};
     ghost use Rattle.database.specs.Reports.{ShowsReport};
 
-    /// The room as it was opened.
-    pub fn new(room: Room<D>) -> OpenedRoom<D>
+    /// The room as it was opened, and its history, if one is kept.
+    pub fn new(room: Room<D>, log: Option<Log<J>>) -> OpenedRoom<D, J>
         requires opened { IsFresh D.state room }
+        requires logged { ForSome log (λ log. HasLog D.state J.opened room log) }
         ensures room { result.room ≡ room }
         ensures ended { result.ended ≡ None }
     {
-        OpenedRoom { room, ended: None }
+        OpenedRoom {
+            room,
+            ended: None,
+            log,
+        }
     }
 
     /// A tick of the committer. If it is refused, the fault is kept, except for lack of memory, which passes.
@@ -60,6 +73,7 @@ impl<D: Pmem + Drop> OpenedRoom<D> {
     {
         let returned = self.room.advance();
         self.ended = ended_by(&returned, self.ended);
+        note(&mut self.log, returned.is_ok(), &Step::Commit);
         returned
     }
 
@@ -69,8 +83,11 @@ impl<D: Pmem + Drop> OpenedRoom<D> {
         ensures step { Leads D.state self.old.room self.new.room Collect (visited result) }
 
         ensures ended { self.new.ended ≡ self.old.ended }
+        ensures log { LogsQuiet self.old.log self.new.log }
     {
-        self.room.collect()
+        let returned = self.room.collect();
+        note(&mut self.log, returned.is_ok(), &Step::Collect);
+        returned
     }
 
     /// The layout of the device.
@@ -126,7 +143,26 @@ impl<D: Pmem + Drop> OpenedRoom<D> {
 }
 
 ghost use Rattle.std.specs.Prelude.{◌≡◌, ◌≢◌, ◌⊎◌, Some, Err};
+ghost use Rattle.database.specs.Histories.{Logs, made_if};
 ghost use Rattle.base.specs.declared.fault.Fault.TheVariants.{OutOfMemory};
+
+/// Adds a step that was made to the history, if one is kept. A history that has grown past what is known of it isn't kept any more; that
+/// doesn't happen.
+#[inline(always)]
+pub fn note<J: Origin>(log: &mut Option<Log<J>>, is_made: bool, step: &Step)
+    ensures { Logs (made_if is_made step.now) log.old log.new }
+{
+    if !is_made {
+        return;
+    }
+    let is_added = match log {
+        Some(kept) => kept.add(step),
+        None => return,
+    };
+    if !is_added {
+        *log = None;
+    }
+}
 
 // The fault that has ended the committer after a tick with this result; `before` is the one that had ended it before, if any.
 fn ended_by(returned: &Result<Tick, Fault>, before: Option<Fault>) -> Option<Fault>
@@ -141,7 +177,7 @@ fn ended_by(returned: &Result<Tick, Fault>, before: Option<Fault>) -> Option<Fau
     }
 }
 
-impl<D: SyncAhead + Drop> OpenedRoom<D> {
+impl<D: SyncAhead + Drop, J: Origin> OpenedRoom<D, J> {
     ghost use Rattle.std.specs.Prelude.{◌≡◌};
     ghost use Rattle.machine.specs.Machine.{State};
     ghost use Rattle.room.specs.Room.{Shows, device_of};
@@ -152,6 +188,7 @@ impl<D: SyncAhead + Drop> OpenedRoom<D> {
         ensures device { device_of D.state self.new.room ≡ device_of D.state self.old.room }
         ensures shows { (q : State) → Shows D.state self.old.room q → Shows D.state self.new.room q }
         ensures ended { self.new.ended ≡ self.old.ended }
+        ensures log { self.new.log ≡ self.old.log }
     {
         self.room.begin_sync()
     }
@@ -162,6 +199,7 @@ impl<D: SyncAhead + Drop> OpenedRoom<D> {
         ensures device { device_of D.state self.new.room ≡ device_of D.state self.old.room }
         ensures shows { (q : State) → Shows D.state self.old.room q → Shows D.state self.new.room q }
         ensures ended { self.new.ended ≡ self.old.ended }
+        ensures log { self.new.log ≡ self.old.log }
     {
         self.room.end_sync(pending);
     }
