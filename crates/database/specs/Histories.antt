@@ -6,25 +6,17 @@ use Rattle.base.specs.declared.key.Key.{Key}
 use Rattle.base.specs.declared.step.Step.{Step}
 use Rattle.base.specs.declared.step.Step.TheVariants.{Begin, Put, Delete, Draw, Stamp, End}
 use Rattle.base.specs.Commits.{Commit}
-use Rattle.history.specs.declared.origin.Origin.{Ghosts as Origins}
 use Rattle.machine.specs.Machine.{State, free_session}
 use Rattle.pmem.specs.Device.{Device}
 use Rattle.pmem.specs.Words.{image_of}
-use Rattle.pmem.specs.declared.device.Pmem.{Ghosts}
 use Rattle.room.specs.Runs.{InEach}
 use Rattle.session_laws.specs.Laws.{IsFirst}
 use Rattle.session_laws.specs.Logs.{state_after, AreMade, own, Follows}
 use Rattle.session_laws.specs.Transactions.{Open, Commits}
 use Rattle.database.specs.declared.error.CommitError.{CommitError}
 use Rattle.database.specs.declared.error.CommitError.TheVariants.{Refused, Open as IsOpen}
-use Rattle.database.specs.declared.opened.OpenedRoom.{OpenedRoom}
 
 -- ---- under the lock
-
--- the log of the room that is there, if it is kept
-abbrev pub log_in : {D J : Type 0} → {G : Ghosts D} → {O : Origins J} → Option (OpenedRoom D J G O) → Option (List Step)
-log_in (Some room) = room.log
-log_in None = None
 
 -- what a step adds to a log if it was made; a refused one adds nothing
 abbrev pub made_if : Bool → Step → List Step
@@ -164,6 +156,11 @@ FollowsIn s seen log = (now : List Step) × (log ≡ Some now) × Follows s seen
 abbrev pub Attends : ℕ → Option Known → Option (List Step) → Type 0
 Attends s (Some known) log = FollowsIn s known.seen log
 Attends s None log = ⊤
+
+-- the history up to now is returned, if that is asked for
+abbrev pub KnownIf : Bool → Option (List Step) → Option (List Step) → Type 0
+KnownIf true log known = (now : List Step) × (log ≡ Some now) × (known ≡ Some now)
+KnownIf false log known = known ≡ None
 
 -- the transaction knows the history up to now, if it knew it before
 abbrev pub KeepsUp : Option Known → Option (List Step) → Option Known → Type 0

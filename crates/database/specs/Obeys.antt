@@ -26,6 +26,11 @@ abbrev pub ended_of : {D J : Type 0} → {G : Ghosts D} → {O : Origins J} → 
 ended_of (Some room) = room.ended
 ended_of None = None
 
+-- the log of the room that is there, if it is kept
+abbrev pub log_in : {D J : Type 0} → {G : Ghosts D} → {O : Origins J} → Option (OpenedRoom D J G O) → Option (List Step)
+log_in (Some room) = room.log
+log_in None = None
+
 -- the room makes this step, and what is returned is read off its reply
 abbrev pub Obeys : {D A : Type 0} → {G : Ghosts D} → (D → Device) → Room D G → Room D G → Step → (Reply → Result A Fault) → Result A Fault → Type 0
 Obeys state old new step read result = (reply : Reply) × Leads state old new step reply × (result ≡ read reply)

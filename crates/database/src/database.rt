@@ -42,22 +42,22 @@ pub struct Report {
 pub struct Database<D: Pmem + Drop, R: Wait + Drop, J: Origin = Brand> {
     pub(crate) rt: R,
     pub(crate) shared: Arc<Shared<D, J>, Global>,
-    // Its history is kept.
     is_kept: bool,
+    ghost kept: { is_kept ≡ J.kept },
 }
 
 impl<
     D: SyncAhead + Drop + Send + Sync + 'static,
     R: Threads + Wait + Copy + Drop + Send + Sync + 'static,
 > Database<D, R> {
-    ghost use Rattle.std.specs.Prelude.{◌≡◌, List, ℕ, None, IfOk, IfErr, false};
+    ghost use Rattle.std.specs.Prelude.{◌≡◌, List, ℕ, None, IfOk, IfErr};
     ghost use Rattle.base.specs.Commits.{Commit};
     ghost use Rattle.base.specs.Images.{opening_fault};
     ghost use Rattle.base.specs.Stands.{Stands};
     ghost use Rattle.pmem.specs.Words.{IsAtRest, image_of};
     ghost use Rattle.database.specs.Opening.{IsOpeningRefusal, KeepsHistory};
 
-    /// Opens a device at rest.
+    /// Opens a device at rest. Its history isn't kept: `run_kept` opens one whose history is.
     pub fn open(rt: R, alloc: Global, device: D) -> Result<Database<D, R>, Refused<D>>
     where
         D::Pending: Send,
@@ -72,9 +72,6 @@ impl<
         // At Err the device is as it was, or each crash meanwhile leaves the same history.
         ensures images { (history drawn : List Commit) (next : ℕ) → Stands (image_of (D.state device)) history drawn next
             → IfErr result (λ e. KeepsHistory (D.state device) (D.state e.device) history next) }
-
-        // Its history isn't kept: `run_kept` opens one whose history is.
-        ensures kept { IfOk result (λ database. database.is_kept ≡ false) }
     {
         Database::<D, R, Brand>::open_with(rt, alloc, device, None)
     }
@@ -103,6 +100,7 @@ impl<
     where
         D::Pending: Send,
         requires at_rest { IsAtRest (D.state device) }
+        requires kept { J.kept ≡ true }
         requires name { history ≡ J.book }
         requires opened { D.state device ≡ J.opened }
 
@@ -111,9 +109,6 @@ impl<
         ensures fault { IfErr result (λ e. IsOpeningRefusal (D.state device) (D.state e.device) e.fault) }
         ensures images { (history drawn : List Commit) (next : ℕ) → Stands (image_of (D.state device)) history drawn next
             → IfErr result (λ e. KeepsHistory (D.state device) (D.state e.device) history next) }
-
-        // Its history is kept.
-        ensures kept { IfOk result (λ database. database.is_kept ≡ true) }
     {
         Database::<D, R, J>::open_with(rt, alloc, device, Some(Log::new(history)))
     }
@@ -129,7 +124,7 @@ impl<
         D::Pending: Send,
         requires at_rest { IsAtRest (D.state device) }
         requires log { ForSome log (λ log. (log ≡ []) × (D.state device ≡ J.opened)) }
-        ensures kept { IfOk result (λ database. database.is_kept ≡ is_some log) }
+        requires kept { is_some log ≡ J.kept }
 
         // At Ok the image has none of the faults that opening reports.
         ensures may_open { IfOk result (λ _. opening_fault (image_of (D.state device)) ≡ None) }
@@ -170,7 +165,11 @@ impl<
 
 impl<D: Pmem + Drop, R: Wait + Drop, J: Origin> Drop for Database<D, R, J> {
     fn drop(self) {
-        let Database { rt, shared, .. } = self;
+        let Database {
+            rt,
+            shared,
+            is_kept: _,
+        } = self;
         shared.end_work(&rt);
         shared.drop_room(&rt);
     }
@@ -197,7 +196,7 @@ impl<D: SyncAhead + Drop, R: Wait + Drop, J: Origin> Database<D, R, J> {
 
         // If the history is kept, the transaction knows it up to this Begin, and its session is the one that was free then. It has
         // made no step since.
-        ensures begun { IfOk result (λ transaction. HasBegun J.opened self.now.is_kept transaction.session transaction.trace) }
+        ensures begun { IfOk result (λ transaction. HasBegun J.opened J.kept transaction.session transaction.trace) }
     {
         match self.shared.begin(&self.rt, self.is_kept) {
             Ok((session, begun)) => Ok(Transaction::new(&self.rt, &self.shared, session, begun)),

@@ -71,7 +71,8 @@ impl<D: Pmem + Drop, J: Origin> Desk<D, J> {
     ghost use Rattle.database.specs.Obeys.{Obeys, InRoom, AnswersStep, ended_of};
     ghost use Rattle.database.specs.Ticking.{LeavesRest, LeavesCounts};
     ghost use Rattle.std.specs.Prelude.{is_ok};
-    ghost use Rattle.database.specs.Histories.{Attends, EndsOnly, Logs, TookFree, log_in, made_if, answered_end, answered_end_to};
+    ghost use Rattle.database.specs.Histories.{Attends, EndsOnly, KnownIf, Logs, TookFree, made_if, answered_end, answered_end_to};
+    ghost use Rattle.database.specs.Obeys.{log_in};
     ghost use Rattle.session_laws.specs.Logs.{IsQuietSince};
     ghost use Rattle.database.specs.Committing.{BeginsWith, AnswersBegunWith, IsAnswered, IsAnsweredAt, IsGivenUp, HasLackedMemory, IsLeftWaiting, IsWithoutAnswer, IsSettledUpTo, AnswersOnce, IsReadFor, most_refusals, open_after};
 
@@ -220,6 +221,13 @@ impl<D: Pmem + Drop, J: Origin> Desk<D, J> {
             Some(answer) => answer_to(timestamp, answer),
             None => None,
         }
+    }
+
+    /// The history so far, if that is asked for.
+    pub fn known_if<R: Wait>(&self, rt: &R, is_kept: bool) -> Option<Front<J>>
+        ensures { KnownIf is_kept (log_in self.now.room) result }
+    {
+        if is_kept { Some(self.known(rt)) } else { None }
     }
 
     /// The history so far. It waits forever if none is kept.
@@ -566,7 +574,7 @@ impl<D: Pmem + Drop, J: Origin> Shared<D, J> {
         let mut desk = self.desk(rt);
         match desk.begin() {
             Ok(session) => {
-                let front = if is_kept { Some(desk.known(rt)) } else { None };
+                let front = desk.known_if(rt, is_kept);
                 Ok((session, front))
             }
             Err(fault) => Err(fault),

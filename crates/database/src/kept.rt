@@ -1,6 +1,6 @@
 //! A database whose history is kept has a name for it, which is picked here: a program doesn't write one.
 
-ghost use Rattle.std.specs.Prelude.{◌≡◌, IsTrue};
+ghost use Rattle.std.specs.Prelude.{◌≡◌, true};
 ghost use Rattle.pmem.specs.Words.{IsAtRest};
 
 use crate::database::{Database, Refused};
@@ -13,12 +13,12 @@ use sync_ahead::SyncAhead;
 
 /// What a program does with a database whose history is kept.
 pub trait Program<D: SyncAhead + Drop, R: Wait + Drop> {
-    ghost use Rattle.std.specs.Prelude.{IsTrue};
+    ghost use Rattle.std.specs.Prelude.{◌≡◌, true};
 
     type Answer;
 
     fn run<J: Origin + Send + Sync + 'static>(self, database: Database<D, R, J>) -> Self::Answer
-        requires kept { IsTrue database.is_kept };
+        requires kept { J.kept ≡ true };
 }
 
 /// Opens a device at rest, keeps its history from then on, and runs the program with the database.
@@ -44,6 +44,7 @@ fn run_named<
 where
     D::Pending: Send,
     requires at_rest { IsAtRest (D.state device) }
+    requires kept { J.kept ≡ true }
     requires name { history ≡ J.book }
     requires opened { D.state device ≡ J.opened }
 {

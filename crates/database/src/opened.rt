@@ -73,7 +73,7 @@ impl<D: Pmem + Drop, J: Origin> OpenedRoom<D, J> {
     {
         let returned = self.room.advance();
         self.ended = ended_by(&returned, self.ended);
-        note(&mut self.log, returned.is_ok(), &Step::Commit);
+        note(&mut self.log, &returned, &Step::Commit);
         returned
     }
 
@@ -86,7 +86,7 @@ impl<D: Pmem + Drop, J: Origin> OpenedRoom<D, J> {
         ensures log { LogsQuiet self.old.log self.new.log }
     {
         let returned = self.room.collect();
-        note(&mut self.log, returned.is_ok(), &Step::Collect);
+        note(&mut self.log, &returned, &Step::Collect);
         returned
     }
 
@@ -142,17 +142,17 @@ impl<D: Pmem + Drop, J: Origin> OpenedRoom<D, J> {
     }
 }
 
-ghost use Rattle.std.specs.Prelude.{◌≡◌, ◌≢◌, ◌⊎◌, Some, Err};
+ghost use Rattle.std.specs.Prelude.{◌≡◌, ◌≢◌, ◌⊎◌, Some, Err, is_ok};
 ghost use Rattle.database.specs.Histories.{Logs, made_if};
 ghost use Rattle.base.specs.declared.fault.Fault.TheVariants.{OutOfMemory};
 
 /// Adds a step that was made to the history, if one is kept. A history that has grown past what is known of it isn't kept any more; that
 /// doesn't happen.
 #[inline(always)]
-pub fn note<J: Origin>(log: &mut Option<Log<J>>, is_made: bool, step: &Step)
-    ensures { Logs (made_if is_made step.now) log.old log.new }
+pub fn note<J: Origin, T>(log: &mut Option<Log<J>>, returned: &Result<T, Fault>, step: &Step)
+    ensures { Logs (made_if (is_ok returned.now) step.now) log.old log.new }
 {
-    if !is_made {
+    if returned.is_err() {
         return;
     }
     let is_added = match log {

@@ -29,7 +29,7 @@ pub fn begin<D: Pmem + Drop, J: Origin>(room: &mut OpenedRoom<D, J>) -> Result<u
     ensures free { TookFree J.opened room.old.log result }
 {
     let returned = room.room.begin();
-    note(&mut room.log, returned.is_ok(), &Step::Begin);
+    note(&mut room.log, &returned, &Step::Begin);
     returned
 }
 
@@ -73,11 +73,7 @@ pub fn put<D: Pmem + Drop, J: Origin>(
     ensures log { Logs (made_if (is_ok result) (Put session key row)) room.old.log room.new.log }
 {
     let returned = room.room.put(session, key, row);
-    note(
-        &mut room.log,
-        returned.is_ok(),
-        &Step::Put { session, key, row },
-    );
+    note(&mut room.log, &returned, &Step::Put { session, key, row });
     returned
 }
 
@@ -92,11 +88,7 @@ pub fn delete<D: Pmem + Drop, J: Origin>(
     ensures log { Logs (made_if (is_ok result) (Delete session key)) room.old.log room.new.log }
 {
     let returned = room.room.delete(session, key);
-    note(
-        &mut room.log,
-        returned.is_ok(),
-        &Step::Delete { session, key },
-    );
+    note(&mut room.log, &returned, &Step::Delete { session, key });
     returned
 }
 
@@ -111,7 +103,7 @@ pub fn draw<D: Pmem + Drop, J: Origin>(
     ensures next { DrewNext J.opened room.old.log result }
 {
     let returned = room.room.draw(session);
-    note(&mut room.log, returned.is_ok(), &Step::Draw { session });
+    note(&mut room.log, &returned, &Step::Draw { session });
     returned
 }
 
@@ -125,7 +117,7 @@ pub fn stamp<D: Pmem + Drop, J: Origin>(
     ensures log { Logs (made_if (is_ok result) (Stamp session)) room.old.log room.new.log }
 {
     let returned = room.room.stamp(session);
-    note(&mut room.log, returned.is_ok(), &Step::Stamp { session });
+    note(&mut room.log, &returned, &Step::Stamp { session });
     returned
 }
 
@@ -163,7 +155,7 @@ pub fn abort<D: Pmem + Drop, J: Origin>(
     ensures log { Logs (made_if (is_ok result) (Abort session)) room.old.log room.new.log }
 {
     let returned = room.room.abort(session);
-    note(&mut room.log, returned.is_ok(), &Step::Abort { session });
+    note(&mut room.log, &returned, &Step::Abort { session });
     returned
 }
 
@@ -174,7 +166,7 @@ pub fn end<D: Pmem + Drop, J: Origin>(room: &mut OpenedRoom<D, J>, session: u8) 
     ensures log { Logs (made_if (is_ok result) (End session)) room.old.log room.new.log }
 {
     let returned = room.room.end(session);
-    note(&mut room.log, returned.is_ok(), &Step::End { session });
+    note(&mut room.log, &returned, &Step::End { session });
     returned
 }
 

@@ -5,6 +5,7 @@ ghost use Rattle.base.specs.declared.step.Step.TheVariants.{Abort};
 ghost use Rattle.database.specs.Replies.{done_of};
 ghost use Rattle.database.specs.Obeys.{AnswersStep};
 ghost use Rattle.database.specs.Committing.{HasAborted};
+ghost use Rattle.std.specs.Prelude.{◌≡◌, is_some};
 
 use crate::committing::{put_collecting, write_all};
 use crate::desk::{Desk, Shared};
@@ -29,6 +30,7 @@ pub struct Transaction<'a, D: Pmem + Drop, R: Wait, J: Origin = Brand> {
     session: u8,
     /// What it knows of the history, if that is kept.
     trace: Option<Trace<J>>,
+    ghost kept: { is_some trace ≡ J.kept },
 }
 
 impl<D: Pmem + Drop, R: Wait, J: Origin> Drop for Transaction<'_, D, R, J> {
@@ -67,10 +69,11 @@ impl<'a, D: SyncAhead + Drop, R: Wait, J: Origin> Transaction<'a, D, R, J> {
     ghost use Rattle.base.specs.declared.step.Step.TheVariants.{Get, Scan, Delete, Abort};
     ghost use Rattle.database.specs.Replies.{row_of, rows_of, done_of};
     ghost use Rattle.database.specs.Obeys.{AnswersStep};
-    ghost use Rattle.std.specs.Prelude.{None, is_ok};
+    ghost use Rattle.std.specs.Prelude.{false, is_ok, is_some};
     ghost use Rattle.base.specs.declared.step.Step.TheVariants.{Put};
     ghost use Rattle.database.specs.Committing.{AnswersPut, AnswersWrites, ReportsCommit, ReportsError};
-    ghost use Rattle.database.specs.Histories.{Does, DoesWrites, HasCommitted, KeepsUp, begun_in, log_in, made_if, seen_in, traced};
+    ghost use Rattle.database.specs.Histories.{Does, DoesWrites, HasCommitted, KeepsUp, begun_in, made_if, seen_in, traced};
+    ghost use Rattle.database.specs.Obeys.{log_in};
 
     pub(crate) fn new(
         rt: &'a R,
@@ -78,6 +81,7 @@ impl<'a, D: SyncAhead + Drop, R: Wait, J: Origin> Transaction<'a, D, R, J> {
         session: u8,
         begun: Option<Front<J>>,
     ) -> Transaction<'a, D, R, J>
+        requires kept { is_some begun ≡ J.kept }
         ensures session { result.session ≡ session }
         ensures trace { result.trace ≡ traced begun }
     {
@@ -93,7 +97,7 @@ impl<'a, D: SyncAhead + Drop, R: Wait, J: Origin> Transaction<'a, D, R, J> {
     fn keep(&mut self, desk: &Desk<D, J>)
         ensures session { self.new.session ≡ self.old.session }
         ensures trace { KeepsUp self.old.trace (log_in desk.now.room) self.new.trace }
-        ensures same { self.old.trace ≡ None → self.new ≡ self.old }
+        ensures same { J.kept ≡ false → self.new ≡ self.old }
     {
         if let Some(trace) = &mut self.trace {
             trace.seen = desk.known(self.rt);
@@ -159,7 +163,7 @@ impl<'a, D: SyncAhead + Drop, R: Wait, J: Origin> Transaction<'a, D, R, J> {
         // other step.
         ensures session { self.new.session ≡ self.old.session }
         ensures does { Does self.old.session (made_if (is_ok result) (Put self.old.session key row)) self.old.trace self.new.trace }
-        ensures same { self.old.trace ≡ None → self.new ≡ self.old }
+        ensures same { J.kept ≡ false → self.new ≡ self.old }
     {
         let mut desk = self.shared.desk(self.rt);
         desk.attend(self.rt, self.session, &self.trace);
@@ -180,7 +184,7 @@ impl<'a, D: SyncAhead + Drop, R: Wait, J: Origin> Transaction<'a, D, R, J> {
         // other step.
         ensures session { self.new.session ≡ self.old.session }
         ensures does { Does self.old.session (made_if (is_ok result) (Delete self.old.session key)) self.old.trace self.new.trace }
-        ensures same { self.old.trace ≡ None → self.new ≡ self.old }
+        ensures same { J.kept ≡ false → self.new ≡ self.old }
     {
         let mut desk = self.shared.desk(self.rt);
         desk.attend(self.rt, self.session, &self.trace);
@@ -204,7 +208,7 @@ impl<'a, D: SyncAhead + Drop, R: Wait, J: Origin> Transaction<'a, D, R, J> {
         // other step.
         ensures session { self.new.session ≡ self.old.session }
         ensures does { DoesWrites self.old.session writes.now result self.old.trace self.new.trace }
-        ensures same { self.old.trace ≡ None → self.new ≡ self.old }
+        ensures same { J.kept ≡ false → self.new ≡ self.old }
     {
         let mut desk = self.shared.desk(self.rt);
         desk.attend(self.rt, self.session, &self.trace);

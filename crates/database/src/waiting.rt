@@ -118,11 +118,7 @@ impl<D: SyncAhead + Drop, J: Origin> Shared<D, J> {
                 let prepared = prepare(rt, room, session);
                 let drawn = room.last_drawn();
                 if !is_full(&prepared) {
-                    let front = if trace.is_some() {
-                        Some(desk.known(rt))
-                    } else {
-                        None
-                    };
+                    let front = desk.known_if(rt, trace.is_some());
                     return (desk, prepared, drawn, front);
                 }
                 desk = self.take_turn(rt, desk);

@@ -2,10 +2,14 @@
 
 use std::marker::Brand;
 
-/// Which history it is, and which device its room was opened from. Only contracts see it: each call of a program picks it.
+/// Which history it is, whether it is kept, and which device its room was opened from. Only contracts see it: each call of a program
+/// picks it. What isn't named keeps no history.
 pub trait Origin {
+    ghost use Rattle.std.specs.Prelude.{Bool};
     ghost use Rattle.logbook.specs.Pages.{Book};
     ghost use Rattle.pmem.specs.Device.{Device};
+
+    ghost kept: { Bool };
 
     ghost book: { Book };
 
@@ -13,7 +17,9 @@ pub trait Origin {
 }
 
 impl Origin for Brand {
-    ghost use Rattle.std.specs.Prelude.{[], None};
+    ghost use Rattle.std.specs.Prelude.{[], None, false};
+
+    ghost kept = { false };
 
     ghost book = { record { number = 0; log_name = 0; cells_name = 0 } };
 
