@@ -40,11 +40,11 @@ use Rattle.session_laws.proofs.Logs.{own-append}
 use Rattle.session_laws.proofs.Sessions.{begins-fresh}
 use Rattle.session_laws.specs.Sessions.{stamps_or_polls}
 use Rattle.room_logs.specs.Logs.{HasLog, ShowsOrFailed, Tells}
-use Rattle.room_logs.proofs.Logs.{log-steps, log-tells, each-both, each-follows}
+use Rattle.room_logs.proofs.Logs.{log-opened, log-steps, log-tells, each-both, each-follows}
 use Rattle.database.specs.declared.error.CommitError.{CommitError}
 use Rattle.history.specs.declared.origin.Origin.{Ghosts as Origins}
 use Rattle.database.specs.declared.opened.OpenedRoom.{OpenedRoom}
-use Rattle.database.specs.Histories.{made_if, write_step, write_steps, GoesOn, Logs, LogsOwn, LogsQuiet, LogsStamps, LogsPrepared, OfEachStart, TookFree, DrewNext, IsNextAfter, MadeSince, Known, Attends, KnownIf, KeepsUp, Does, PreparesAfter, EndsOnly, EndsAfter, HasCommitted, BeginsAt, HasBegun, traced}
+use Rattle.database.specs.Histories.{made_if, write_step, write_steps, GoesOn, Logs, LogsOwn, LogsQuiet, LogsStamps, LogsPrepared, LogsWrites, DoesWrites, OfEachStart, TookFree, DrewNext, IsNextAfter, MadeSince, Known, Attends, KnownIf, KeepsUp, Does, PreparesAfter, EndsOnly, EndsAfter, HasCommitted, BeginsAt, HasBegun, traced}
 use Rattle.database.specs.Obeys.{log_in}
 
 -- ---- a log that goes on
@@ -310,16 +310,16 @@ committed-after opened s t None (Some drawn) log p ends = absurd (cc p)
 committed-after opened s t None None log p ends = ends
 
 -- from its last step on the end is the session's one own step
-pub ends-only : (s at : ℕ) (answer : Option (Result ℕ CommitError)) (before after : Option (List Step)) → IfSome before (IsQuietSince s at) → Logs (End s ∷ []) before after → IfSome after (EndsOnly s at)
-ends-only s at answer (Some before) (Some after) quiet (more, goes, is) =
+pub ends-only : (s at : ℕ) (before after : Option (List Step)) → IfSome before (IsQuietSince s at) → Logs (End s ∷ []) before after → IfSome after (EndsOnly s at)
+ends-only s at (Some before) (Some after) quiet (more, goes, is) =
     let whole : after ≡ before ++ End s ∷ [] = goes ∙ ap (λ (x : List Step). before ++ x) is in
     subst (EndsOnly s at) (sym whole) (
       omega (arith, length-append before (End s ∷ []), quiet.0),
       ap (own s) (drop-append-le at before (End s ∷ []) quiet.0) ∙ own-parts s (drop at before) (End s ∷ []) [] (End s ∷ []) quiet.1 (own_end s),
     )
-ends-only s at answer (Some before) None quiet logs = tt
-ends-only s at answer None (Some after) quiet logs = absurd (cc logs)
-ends-only s at answer None None quiet logs = tt
+ends-only s at (Some before) None quiet logs = tt
+ends-only s at None (Some after) quiet logs = absurd (cc logs)
+ends-only s at None None quiet logs = tt
 
 -- so it is if that is where a front ends
 pub ends-after : (opened : Device) (s at : ℕ) (drawn log : List Step) → at ≡ length drawn → IsPrefix drawn log → EndsOnly s at log → MadeSince opened log → EndsAfter opened s (Some drawn) (Some log)
@@ -391,21 +391,26 @@ stamps-then s is_made old mid new first second =
     goes-join (λ x. (count : ℕ) × (x ≡ replicate count (Stamp s))) (λ y. y ≡ made_if is_made (Stamp s)) (λ z. (count : ℕ) × (z ≡ replicate count (Stamp s))) old mid new (λ x y stamps one. by is_made x y stamps one) first second
   where
     by : (is_made : Bool) (x y : List Step) → (count : ℕ) × (x ≡ replicate count (Stamp s)) → y ≡ made_if is_made (Stamp s) → (count : ℕ) × (x ++ y ≡ replicate count (Stamp s))
-    by true x y (count, is) one = (count + 1, cc (is, one) ∙ sym (replicate_more count (Stamp s)))
-    by false x y (count, is) one = (count, cc (is, one) ∙ append-nil (replicate count (Stamp s)))
+    by true x y (count, is) one = (count + 1, ap (λ (l : List Step). l ++ y) is ∙ (ap (λ (l : List Step). replicate count (Stamp s) ++ l) one ∙ replicate_more count (Stamp s)))
+    by false x y (count, is) one = (count, ap (λ (l : List Step). l ++ y) is ∙ (ap (λ (l : List Step). replicate count (Stamp s) ++ l) one ∙ append-nil (replicate count (Stamp s))))
 
 -- a draw and its stamps
 pub drawn-stamped : (s : ℕ) (drawn : Result (Option ℕ) Fault) (t : ℕ) (old mid new : Option (List Step)) → Logs (made_if (is_ok drawn) (Draw s)) old mid → drawn ≡ Ok (Some t) → LogsStamps s mid new → LogsPrepared s (Ok (Some t)) old new
 drawn-stamped s drawn t old mid new first is second =
     goes-join (λ x. x ≡ made_if (is_ok drawn) (Draw s)) (λ y. (count : ℕ) × (y ≡ replicate count (Stamp s))) (λ z. (count : ℕ) × (z ≡ Draw s ∷ replicate count (Stamp s))) old mid new
-    (λ x y made stamps. (stamps.0, cc (made ∙ ap (λ (r : Result (Option ℕ) Fault). made_if (is_ok r) (Draw s)) is, stamps.1))) first second
+    (λ x y made stamps. (
+      stamps.0,
+      ap (λ (l : List Step). l ++ y) (made ∙ ap (λ (r : Result (Option ℕ) Fault). made_if (is_ok r) (Draw s)) is) ∙ ap (λ (l : List Step). Draw s ∷ l) stamps.1,
+    )) first second
 
 -- a draw of nothing and an end
 pub drawn-ended : (s : ℕ) (drawn : Result (Option ℕ) Fault) (ended : Result ⊤ Fault) (old mid new : Option (List Step)) → Logs (made_if (is_ok drawn) (Draw s)) old mid → drawn ≡ Ok None → Logs (made_if (is_ok ended) (End s)) mid new → ended ≡ Ok tt
     → LogsPrepared s (Ok None) old new
 drawn-ended s drawn ended old mid new first is second so =
     goes-join (λ x. x ≡ made_if (is_ok drawn) (Draw s)) (λ y. y ≡ made_if (is_ok ended) (End s)) (λ z. z ≡ Draw s ∷ End s ∷ []) old mid new
-    (λ x y made over. cc (made ∙ ap (λ (r : Result (Option ℕ) Fault). made_if (is_ok r) (Draw s)) is, over ∙ ap (λ (r : Result ⊤ Fault). made_if (is_ok r) (End s)) so)) first second
+    (λ x y made over.
+    ap (λ (l : List Step). l ++ y) (made ∙ ap (λ (r : Result (Option ℕ) Fault). made_if (is_ok r) (Draw s)) is)
+    ∙ ap (λ (l : List Step). Draw s ∷ l) (over ∙ ap (λ (r : Result ⊤ Fault). made_if (is_ok r) (End s)) so)) first second
 
 -- the answer is of the draw that was made
 pub drew-as : {E : Type 0} (opened : Device) (log : Option (List Step)) (drawn : Result (Option ℕ) Fault) (t : ℕ) → DrewNext opened log drawn → drawn ≡ Ok (Some t) → DrewNext {E = E} opened log (Ok (Some t))
@@ -434,3 +439,37 @@ in-room {D} {J} {G} {O} By there room is by = subst (λ (o : Option (OpenedRoom 
 
 pub no-step : (log : Option (List Step)) → Logs [] log log
 no-step log = goes-none (λ x. x ≡ []) log refl
+
+-- a commit of nothing
+pub committed-none : (opened : Device) (s : ℕ) (known : Option Known) (front : Option (List Step)) → PreparesAfter opened s known None front → HasCommitted opened s known None front
+committed-none opened s (Some known) (Some log) p = p
+committed-none opened s (Some known) None p = p
+committed-none opened s None front p = p
+
+-- the end, from where its last step before stood
+pub ends-if : (s : ℕ) (last : Option ℕ) (before after : Option (List Step)) → IfSome last (λ at. IfSome before (IsQuietSince s at)) → Logs (End s ∷ []) before after → IfSome last (λ at. IfSome after (EndsOnly s at))
+ends-if s (Some at) before after quiet logs = ends-only s at before after quiet logs
+ends-if s None before after quiet logs = tt
+
+-- the history is known exactly if it is kept
+pub begun-kept : (opened : Device) (is_kept : Bool) (n : ℕ) (front : Option (List Step)) → BeginsAt opened is_kept n front → is_some front ≡ is_kept
+begun-kept opened true n (Some log) begins = refl
+begun-kept opened true n None begins = absurd begins
+begun-kept opened false n (Some log) begins = absurd (cc begins)
+begun-kept opened false n None begins = refl
+
+pub does-writes : (s : ℕ) (writes : List (Key × Option (List ℕ))) (result : Result ⊤ Fault) (old new : Option Known) (before after : Option (List Step)) → Attends s old before → LogsWrites s writes result before after → KeepsUp old after new → DoesWrites s writes result old new
+does-writes s writes (Ok done) old new before after attends logs keeps = does-turn s (write_steps s writes) old new before after attends logs keeps
+does-writes s writes (Err fault) old new before after attends (made, left, whole, logs) keeps = (made, left, whole, does-turn s (write_steps s made) old new before after attends logs keeps)
+
+-- ---- an opening
+
+-- a room that was opened from the device has the empty log
+pub log-begun : {D : Type 0} {G : Ghosts D} (state : D → Device) (room : Room D G) (device opened : Device) (log : List Step) → RunOver device (device_of state room) [] (Shows state room) → (log ≡ []) × (device ≡ opened) → HasLog state opened room log
+log-begun state room device opened log run (none, same) =
+    subst (HasLog state opened room) (sym none) (log-opened state room opened (subst (λ (d : Device). RunOver d (device_of state room) [] (Shows state room)) same run))
+
+pub begun-as : (opened : Device) (is_kept kept : Bool) (n m : ℕ) (front : Option (List Step)) (known : Option Known) → BeginsAt opened is_kept n front → is_kept ≡ kept → m ≡ n → known ≡ traced front → HasBegun opened kept m known
+begun-as opened is_kept kept n m front known begins same number trace =
+    subst (HasBegun opened kept m) (sym trace)
+    (subst (λ (k : ℕ). HasBegun opened kept k (traced front)) (sym number) (subst (λ (b : Bool). HasBegun opened b n (traced front)) same (has-begun opened is_kept n front begins)))

@@ -1,6 +1,8 @@
 //! What callers see. A database holds the desk through an `Arc`, and so do its two workers, whose threads nobody joins: closing
 //! waits until both have counted themselves out under the lock.
 
+ghost use Rattle.std.specs.Prelude.{◌≡◌};
+
 use crate::closing::close_room;
 use crate::desk::Shared;
 use crate::error::CommitError;
