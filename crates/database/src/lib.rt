@@ -7,6 +7,10 @@
 //! of a call speaks of some run: that it ends in the step of the call, and that what is returned is read off its reply. That the
 //! room is that of this very database is seen in the code.
 //!
+//! A database that `run_kept` opens keeps its history, by name: the log of the steps that its room has made since the device was
+//! opened. What its calls say names that log. A transaction knows it up to its begin and up to its own last step, and `commit_known`
+//! returns it up to the transaction's end. Nothing is stored for it but numbers. A program that wants it is a `Program`.
+//!
 //! After a Conflict, begin again: the commit in the way is covered by then. A transaction that is dropped is aborted, and one
 //! that only reads needs no commit. `JournaledPmem::open` keeps the layout of a file that exists. If the file is missing or
 //! empty, it creates one of zeros, which `format_new` then makes an image of: `crates/kv/src/opening.rt` is what to copy, with
