@@ -473,3 +473,7 @@ pub begun-as : (opened : Device) (is_kept kept : Bool) (n m : ℕ) (front : Opti
 begun-as opened is_kept kept n m front known begins same number trace =
     subst (HasBegun opened kept m) (sym trace)
     (subst (λ (k : ℕ). HasBegun opened kept k (traced front)) (sym number) (subst (λ (b : Bool). HasBegun opened b n (traced front)) same (has-begun opened is_kept n front begins)))
+
+pub ends-as : (s : ℕ) (last : Option ℕ) (at : ℕ) (kept : Option (List Step)) (log front : List Step) → IfSome last (λ at. IfSome kept (EndsOnly s at)) → last ≡ Some at → kept ≡ Some log → front ≡ log → EndsOnly s at front
+ends-as s last at kept log front only is there same =
+    subst (EndsOnly s at) (sym same) (subst (λ (k : Option (List Step)). IfSome k (EndsOnly s at)) there (subst (λ (l : Option ℕ). IfSome l (λ at. IfSome kept (EndsOnly s at))) is only))
