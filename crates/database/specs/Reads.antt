@@ -1,4 +1,4 @@
--- Reads of a part of what a scan returns. They are no steps: a run comes to a state, and what is returned is read off the reply that the
+-- Reads of a part of what a scan returns. They aren't steps: a run comes to a state, and what is returned is read off the reply that the
 -- machine has there.
 use Rattle.std.specs.Prelude.{Result}
 use Rattle.base.specs.declared.fault.Fault.{Fault}

@@ -1,5 +1,5 @@
 //! Reads of a part of what a scan returns, and pages of rows over all tables. Each is one turn of the lock, looks at little more than the
-//! rows that it returns, and takes memory for these alone. What a transaction has written itself lies over its snapshot, as in a scan.
+//! rows that it returns, and takes memory for these alone. What a transaction has written itself is laid over its snapshot, as in a scan.
 
 ghost use Rattle.base.specs.declared.step.Step.TheVariants.{Scan};
 ghost use Rattle.room.specs.Runs.{ComesTo};

@@ -51,7 +51,7 @@ impl Dumped {
 }
 
 impl<'a, R: Print> Printer<'a, R> {
-    /// Prints what stands above the rows of a table.
+    /// Prints the heading of rows.
     pub fn begin_rows(&self) -> io::Result<()> {
         if self.manner.is_table {
             println!(self.rt; "{:>20} | row", "key")?;
@@ -80,7 +80,7 @@ impl<'a, R: Print> Printer<'a, R> {
         println!(self.rt; "end {count}")
     }
 
-    /// Prints what stands above the tables.
+    /// Prints the heading of tables.
     pub fn begin_tables(&self) -> io::Result<()> {
         if self.manner.is_table {
             println!(self.rt; "table | rows")?;
