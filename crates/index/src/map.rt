@@ -287,9 +287,16 @@ impl Index {
     }
 
     /// The commit that was drawn for the key is covered. Its version is in the slot; a deletion has none, and ends the newest.
+    /// Returns the slot of the version that was the newest before.
     #[inline(always)]
-    pub fn cover(&mut self, key: Key, near: Option<usize>, slot: Option<SlotNo>)
+    pub fn cover(
+        &mut self,
+        key: Key,
+        near: Option<usize>,
+        slot: Option<SlotNo>,
+    ) -> Option<SlotNo>
         requires { IsTrue (has_room self.old key) }
+        ensures newest { result ≡ (entry_at self.old key).newest }
 
         // Every other entry is as it was. It takes no memory.
         ensures entries { Sets self.old self.new key (covered slot (entry_at self.old key)) }
@@ -310,6 +317,7 @@ impl Index {
             ..entry
         };
         self.set_in(place, key, covered);
+        entry.newest
     }
 
     /// The key's version in the slot is freed. If it isn't the newest covered one, nothing changes.
