@@ -131,7 +131,12 @@ pub fn collect<D: Pmem + Drop>(room: &mut OpenedRoom<D>, places: u64)
     ensures visits { RepeatsTimes D.state room.old.room room.new.room Collect places }
     ensures ended { room.new.ended ≡ room.old.ended }
 {
-    for _made in 0..places {
-        let _ = room.visit();
+    let mut left = places;
+    while left > 0 {
+        left -= room.pass(left);
+        if left > 0 {
+            let _ = room.visit();
+            left -= 1;
+        }
     }
 }

@@ -289,12 +289,7 @@ impl Index {
     /// The commit that was drawn for the key is covered. Its version is in the slot; a deletion has none, and ends the newest.
     /// Returns the slot of the version that was the newest before.
     #[inline(always)]
-    pub fn cover(
-        &mut self,
-        key: Key,
-        near: Option<usize>,
-        slot: Option<SlotNo>,
-    ) -> Option<SlotNo>
+    pub fn cover(&mut self, key: Key, near: Option<usize>, slot: Option<SlotNo>) -> Option<SlotNo>
         requires { IsTrue (has_room self.old key) }
         ensures newest { result ≡ (entry_at self.old key).newest }
 

@@ -14,6 +14,7 @@ ghost use Rattle.room.specs.Opening.{HasBegun, HasEntries, HasLearnt};
 use crate::room::Room;
 use crate::volatile::VolatileState;
 use base::fault::Fault;
+use collector::ReplacedSlots;
 use dirty_table::DirtyTable;
 use index::{Index, KeyedEntry};
 use pmem::Pmem;
@@ -120,6 +121,10 @@ fn begin<R: Threads + Sync, D: Pmem + Sync>(
         Ok(dirty) => dirty,
         Err(_) => return Err(Fault::OutOfMemory),
     };
+    let replaced = match ReplacedSlots::none(alloc, found.free.len() as u64) {
+        Ok(replaced) => replaced,
+        Err(_) => return Err(Fault::OutOfMemory),
+    };
     let life = match found.open(device) {
         Ok(life) => life,
         Err(fault) => return Err(fault),
@@ -129,6 +134,7 @@ fn begin<R: Threads + Sync, D: Pmem + Sync>(
         alloc,
         index,
         slots,
+        replaced,
         dirty,
         life.geometry,
         life.ruling,

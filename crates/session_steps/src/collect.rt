@@ -96,7 +96,7 @@ fn forget<D: Pmem>(index: &mut Index, device: &D, geometry: Geometry, slot: Slot
 }
 
 impl Sessions {
-    ghost use Rattle.std.specs.Prelude.{◌≤◌, true, Ok, IfErr};
+    ghost use Rattle.std.specs.Prelude.{◌≤◌, ◌+◌, true, Ok, IfErr};
     ghost use Rattle.collector.specs.Sweeping.{is_due};
     ghost use Rattle.session_steps.specs.Steps.{ShowsSome};
     ghost use Rattle.session_steps.specs.Collecting.{Collects, Passes, StopsAfter};
@@ -142,6 +142,7 @@ impl Sessions {
         // As many visits as are returned: each is the machine's own step, for every plain state that the sessions show on a device and
         // that hasn't failed, and moves the place on by one (`Passes`).
         ensures passes { Passes self.old self.new result }
+        ensures moved { self.new ≡ record self.old { collector = record self.old.collector { place = self.old.collector.place + result } } }
 
         // It makes the most, unless gaps are to be swept, or it comes to a slot among the replaced ones, or to the closing place.
         ensures most { result ≤ most }
