@@ -112,8 +112,8 @@ freed-unreplaced q held slot (frees g none) is = ap (replace q.history) none
 -- what is found is one of them
 pub found-contained : {X : Type 0} (p : X → Bool) (xs : List X) (x : X) → find p xs ≡ Some x → Contains xs x
 found-contained p [] x found = absurd (cc found)
-found-contained p (y ∷ xs) x found = by (p y) found
+found-contained p (y ∷ xs) x found = by (p y) found (found-contained p xs x)
   where
-    by : (b : Bool) → cond b (Some y) (find p xs) ≡ Some x → Contains (y ∷ xs) x
-    by true found = let same : y ≡ x = cc found in (0, omega arith, same)
-    by false found = let (k, lt, is) = found-contained p xs x found in (k + 1, omega (arith, lt), is)
+    by : (b : Bool) → cond b (Some y) (find p xs) ≡ Some x → (find p xs ≡ Some x → Contains xs x) → Contains (y ∷ xs) x
+    by true found rest = let same : y ≡ x = cc found in (0, omega arith, same)
+    by false found rest = let (k, lt, is) = rest found in (k + 1, omega (arith, lt), is)

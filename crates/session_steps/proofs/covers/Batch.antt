@@ -336,11 +336,11 @@ module _ (s : Sessions) (ruling : Record) (h : Hidden) (hand : Hand) (may : MayC
 
       by : (v : Option Version) → h.held slot ≡ v → replace h.history v ≡ false → replace (h.history ++ hand.commits) v ≡ false
       by None held is = refl
-      by (Some v) held is = of v.writer held is
+      by (Some v) held is = by-writer v.writer held is
         where
-          of : (w : Writer) → h.held slot ≡ Some (version_by v.key w) → is_replaced_by h.history v.key w ≡ false → is_replaced_by (h.history ++ hand.commits) v.key w ≡ false
-          of (BySession n) held is = refl
-          of (ByCommit t) held is = of-commit v.key t held is (has_timestamp hand.commits t) refl (has_timestamp h.history t) refl
+          by-writer : (w : Writer) → h.held slot ≡ Some (version_by v.key w) → is_replaced_by h.history v.key w ≡ false → is_replaced_by (h.history ++ hand.commits) v.key w ≡ false
+          by-writer (BySession n) held is = refl
+          by-writer (ByCommit t) held is = of-commit v.key t held is (has_timestamp hand.commits t) refl (has_timestamp h.history t) refl
 
   -- ---- the lines
 

@@ -1,4 +1,4 @@
-use Rattle.std.proofs.Common.{◌≡◌, ◌<◌, ◌^◌, ℕ, List, map, Bool, false, length, sym, ◌∙◌, ap, subst, arith, rules}
+use Rattle.std.proofs.Common.{◌≡◌, ◌<◌, ◌^◌, ℕ, List, map, Bool, false, length, sym, ◌∙◌, ap, subst, arith}
 use Rattle.std.specs.Prelude.{replicate}
 use Rattle.base.specs.Layout.{total_words}
 use Rattle.base.specs.declared.fault.Fault.TheVariants.{OutOfMemory}
@@ -61,7 +61,7 @@ returns-in-Err-new-2-clause-version g c = version-refused (g.D.Pmem.state c.args
 pub none-requires : goal.none-requires
 none-requires g c =
     let few = examined-few (g.D.Pmem.state c.args.device.now) c.in-Ok.learnt.found.geometry c.in-Ok.learnt.found.ruling c.in-Ok.learnt.found.gaps c.in-Ok.learnt.found.free.items c.in-Ok.learnt.found.live.items c.in-Ok.ensures.ok.found.examined in
-    search rules
+    subst (λ (n : ℕ). n < 2 ^ 32) (sym c.len.ensures) few
 
 pub returns-in-Err-none-clause-log : goal.returns-in-Err-none-clause-log
 returns-in-Err-none-clause-log g c =
