@@ -1,8 +1,9 @@
 -- Visits of slots whose versions aren't replaced: each moves the place on, and nothing else changes.
-use Rattle.std.proofs.Common.{◌≡◌, ◌+◌, ◌<◌, ◌≤◌, ℕ, zero, suc, Bool, true, false, ◌&&◌, cond, List, refl, sym, ◌∙◌, ap, subst, arith, Option, None}
+use Rattle.std.proofs.Common.{◌≡◌, ◌+◌, ◌<◌, ◌≤◌, ℕ, zero, suc, Bool, true, false, ◌&&◌, cond, List, [], ◌∷◌, refl, sym, ◌∙◌, ap, subst, nat_lt, arith, Option, None}
 use Rattle.std.specs.Prelude.{Some, slice_get}
 use Rattle.std.specs.List.{list_all}
 use Rattle.std.proofs.lemmas.Bool.Decides.{nat_tests}
+use Rattle.base.specs.Actors.{collector as actor}
 use Rattle.base.specs.declared.gap.Gap.{Gap}
 use Rattle.base.specs.declared.step.Step.TheVariants.{Collect}
 use Rattle.base.specs.declared.step.Reply.TheVariants.{Visited, SweepEnd}
@@ -11,10 +12,10 @@ use Rattle.base.specs.Lists.{replaced}
 use Rattle.machine.specs.Machine.{State, Stepped, answered, refusal, session_numbers}
 use Rattle.machine.specs.Collecting.{is_at_slot, held_after_visit, slot_visited, sweep_ended, visited, collected, replace, sees_replaced}
 use Rattle.pmem.specs.Device.{Device, IsOrderly}
-use Rattle.pmem.specs.Trace.{Runs, made}
+use Rattle.pmem.specs.Trace.{fence_op, Runs}
 use Rattle.pmem.specs.Words.{value_of}
 use Rattle.collector.specs.declared.rounds.Collector.{Collector}
-use Rattle.collector.specs.Sweeping.{is_due, tick_operations}
+use Rattle.collector.specs.Sweeping.{is_due, sweep_operations, tick_operations}
 use Rattle.index.specs.Entries.{entry_at}
 use Rattle.state_invariant.proofs.collector.Kept.{stays}
 use Rattle.device_invariant.specs.Upholds.{Upholds}
@@ -44,7 +45,12 @@ allowed q works = rw works refl
 
 -- it makes no operation, if no gaps are to be swept
 quiet-runs : (a : Layout) (gaps : List Gap) (swept : Bool) (place : ℕ) (device : Device) → IsOrderly device → is_due swept gaps ≡ false → Runs (tick_operations a gaps swept place (value_of device)) device device
-quiet-runs a gaps swept place device orderly quiet = grind (arith, made)
+quiet-runs a gaps swept place device orderly quiet =
+    subst (λ (due : Bool). Runs (cond (nat_lt place a.slots) (cond due (sweep_operations a gaps (value_of device) place) []) (cond due (fence_op actor ∷ []) [])) device device) (sym quiet) (by (nat_lt place a.slots))
+  where
+    by : (b : Bool) → Runs (cond b [] []) device device
+    by true = record { made = refl; orderly = orderly }
+    by false = record { made = refl; orderly = orderly }
 
 -- ---- so many of them
 
@@ -84,9 +90,9 @@ module _ (s : Sessions) (h : Hidden) (device : Device) (orderly : IsOrderly devi
   }
 
 -- by what the code has of it
-pub passes-by : (s : Sessions) (collector : Collector) (count : ℕ) → collector ≡ record { place = s.collector.place + count; swept = s.collector.swept } → is_due s.collector.swept s.numbers.record.gaps ≡ false
-    → ((slot : ℕ) → s.collector.place ≤ slot → slot < s.collector.place + count → slice_get s.replaced slot ≡ Some false) → Passes s (record s { collector = collector }) count
-passes-by s collector count is quiet out device q orderly shown works =
+pub passes-by : (s : Sessions) (moved : Collector) (count : ℕ) → moved ≡ record { place = s.collector.place + count; swept = s.collector.swept } → is_due s.collector.swept s.numbers.record.gaps ≡ false
+    → ((slot : ℕ) → s.collector.place ≤ slot → slot < s.collector.place + count → slice_get s.replaced slot ≡ Some false) → Passes s (record s { collector = moved }) count
+passes-by s moved count is quiet out device q orderly shown works =
     subst (λ (c : Collector). PassesTo (record s { collector = c }) device count q) (sym is)
     (subst (λ (p : State). PassesTo (record s { collector = record { place = s.collector.place + count; swept = s.collector.swept } }) device count p) (sym shown.plain)
     (passes-to s shown.hidden device orderly (sym (ap (λ (p : State). p.failed) shown.plain) ∙ works) (subst (λ (p : State). Upholds shown.hidden.origin p device) shown.plain shown.upholds)

@@ -1,5 +1,5 @@
 -- Slots whose versions are replaced, and those that have to be marked.
-use Rattle.std.proofs.Common.{◌≡◌, ◌≢◌, ◌⊎◌, inl, inr, ℕ, ◌+◌, ◌<◌, ◌≤◌, Bool, true, false, ◌&&◌, cond, not, List, [], ◌∷◌, ◌++◌, length, set, refl, sym, ◌∙◌, ap, subst, nat_eq, arith, Contains}
+use Rattle.std.proofs.Common.{◌≡◌, ◌≢◌, ◌⊎◌, inl, inr, ℕ, suc, ◌<◌, ◌≤◌, Bool, true, false, ◌&&◌, cond, not, List, [], ◌∷◌, ◌++◌, length, set, refl, sym, ◌∙◌, ap, subst, nat_eq, arith, Contains}
 use Rattle.std.specs.Prelude.{Option, Some, None, slice_get, find}
 use Rattle.std.proofs.lemmas.Bool.{cases_eq, cases_lt, eq-eqb, eqb-true}
 use Rattle.std.proofs.lemmas.Bool.Decides.{nat_tests}
@@ -116,4 +116,4 @@ found-contained p (y ∷ xs) x found = by (p y) found (found-contained p xs x)
   where
     by : (b : Bool) → cond b (Some y) (find p xs) ≡ Some x → (find p xs ≡ Some x → Contains xs x) → Contains (y ∷ xs) x
     by true found rest = let same : y ≡ x = cc found in (0, omega arith, same)
-    by false found rest = let (k, lt, is) = rest found in (k + 1, omega (arith, lt), is)
+    by false found rest = let (k, lt, is) = rest found in (suc k, omega (arith, lt), is)

@@ -384,7 +384,7 @@ module _ (s : Sessions) (h : Hidden) (before now : Device) (holds : HoldsOn s h 
           by : (b : Bool) → is_free slots place ≡ b → (slot ≡ place) ⊎ (slot ≢ place) → IsUnreplaced then slot
           by true free (inl same) = subst (λ (k : ℕ). IsUnreplaced then k) (sym same) (lt, ap (replace h.history) (nothing (held place) (sym free-at ∙ free)))
           by true free (inr apart) = still-out (sym (set-other s.replaced place slot false apart) ∙ of-marks true free)
-          by false taken either = still-out (of-marks false taken)
+          by false held_by either = still-out (of-marks false held_by)
 
       pub collects-slot : (q' : State) × CollectsTo s new before now (Ok (Slot place)) q q'
       collects-slot =

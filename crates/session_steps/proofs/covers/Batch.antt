@@ -340,7 +340,7 @@ module _ (s : Sessions) (ruling : Record) (h : Hidden) (hand : Hand) (may : MayC
         where
           by-writer : (w : Writer) → h.held slot ≡ Some (version_by v.key w) → is_replaced_by h.history v.key w ≡ false → is_replaced_by (h.history ++ hand.commits) v.key w ≡ false
           by-writer (BySession n) held is = refl
-          by-writer (ByCommit t) held is = of-commit v.key t held is (has_timestamp hand.commits t) refl (has_timestamp h.history t) refl
+          by-writer (ByCommit t) held is = of-commit v.key t held is (has_timestamp hand.commits t) (has_timestamp h.history t) refl refl
 
   -- ---- the lines
 
