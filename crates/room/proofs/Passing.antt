@@ -57,7 +57,7 @@ abbrev reply_in : Step × Reply → Reply
 reply_in one = one.1
 
 -- the states after each of them
-states_after : State → ℕ → ℕ → List State
+abbrev states_after : State → ℕ → ℕ → List State
 states_after q k zero = []
 states_after q k (suc count) = passed (k + 1) q ∷ states_after q (k + 1) count
 

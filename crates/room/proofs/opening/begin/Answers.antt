@@ -61,7 +61,9 @@ returns-in-Err-new-2-clause-version g c = version-refused (g.D.Pmem.state c.args
 pub none-requires : goal.none-requires
 none-requires g c =
     let few = examined-few (g.D.Pmem.state c.args.device.now) c.in-Ok.learnt.found.geometry c.in-Ok.learnt.found.ruling c.in-Ok.learnt.found.gaps c.in-Ok.learnt.found.free.items c.in-Ok.learnt.found.live.items c.in-Ok.ensures.ok.found.examined in
-    subst (λ (n : ℕ). n < 2 ^ 32) (sym c.len.ensures) few
+    let size = c.as_slice.ensures.len in
+    let same = ap (λ (l : List Bool). length l) c.as_slice.ensures.value in
+    omega (arith, few, size, same, c.len.ensures)
 
 pub returns-in-Err-none-clause-log : goal.returns-in-Err-none-clause-log
 returns-in-Err-none-clause-log g c =
@@ -104,9 +106,12 @@ open-sessions-requires g c =
     let counted : length c.in-Ok.learnt.found.free.items ≡ c.in-Ok-open.life.geometry.slots =
     ap (λ (l : List Bool). length l) free-now
     ∙ free-counted (g.D.Pmem.state c.args.device.now) (g.D.Pmem.state c.open.new.device) c.in-Ok-open.life.geometry c.in-Ok-open.life.ruling c.in-Ok-open.life.next c.in-Ok-open.life.free.items c.in-Ok-open.life.live.items c.in-Ok-open.ensures.ok in
+    let size = c.as_slice.ensures.len in
+    let same = ap (λ (l : List Bool). length l) c.as_slice.ensures.value in
+    let many : c.len.result ≡ c.in-Ok-open.life.geometry.slots = omega (arith, size, same, counted, c.len.ensures) in
     record {
       slots = ap (λ (l : List Bool). length l) (c.in-Ok-new.ensures ∙ c.as_slice.ensures.value) ∙ counted;
-      replaced = c.in-Ok-none.ensures ∙ ap (λ (n : ℕ). replicate n false) (c.len.ensures ∙ counted);
+      replaced = c.in-Ok-none.ensures ∙ ap (λ (n : ℕ). replicate n false) many;
       untouched = c.in-Ok-new-2.ensures.touches;
       sized =
           let words : (g.D.Pmem.state c.args.device.now).words ≡ total_words c.in-Ok-open.life.geometry =
