@@ -72,7 +72,7 @@ unfolding repeats-then
 times-then state old mid new step count reply (replies, many, repeats) leads =
     let a = repeats-then state old mid new step reply (replies, repeats) leads in (a.0, length_push replies reply ∙ ap (λ (n : ℕ). n + 1) many, a.1)
 
--- so many after so many
+-- this many after that many
 pub times-join : {D : Type 0} → {G : Ghosts D} → (state : D → Device) (old mid new : Room D G) (step : Step) (count more : ℕ)
     → RepeatsTimes state old mid step count → RepeatsTimes state mid new step more → RepeatsTimes state old new step (count + more)
 times-join state old mid new step count more (replies, many, repeats) (others, much, rest) = (

@@ -3,7 +3,7 @@ use Rattle.base.specs.declared.step.Step.TheVariants.{Collect}
 use Rattle.database.specs.Obeys.{RepeatsTimes}
 use Rattle.database.proofs.steps.collect.Given as goal
 
--- all but so many visits are made
+-- all but this many visits are made
 abbrev pub invariant-loop : goal.invariant-loop
 invariant-loop g l = record {
   within : l.left ≤ l.places;
