@@ -26,7 +26,7 @@ impl ReplacedSlots {
     ghost use Rattle.collector.specs.Replaced.{marked};
     ghost use Rattle.slot_alloc.specs.Free.{is_free};
 
-    /// None of this many slots.
+    /// None of so many slots.
     pub fn none(alloc: Global, count: SlotNo) -> Result<ReplacedSlots, AllocError>
         requires { count < 2 ^ 32 }
         ensures { IfOk result (λ slots. slots ≡ replicate count false) }

@@ -1,5 +1,5 @@
 -- Visits of slots whose versions aren't replaced: each moves the place on, and nothing else changes.
-use Rattle.std.proofs.Common.{◌≡◌, ◌+◌, ◌<◌, ◌≤◌, ℕ, zero, suc, Bool, true, false, ◌&&◌, cond, List, [], ◌∷◌, refl, sym, ◌∙◌, ap, subst, nat_lt, arith, None}
+use Rattle.std.proofs.Common.{◌≡◌, ◌+◌, ◌<◌, ◌≤◌, ℕ, zero, suc, Bool, true, false, ◌&&◌, cond, List, [], ◌∷◌, refl, sym, ◌∙◌, ap, subst, nat_lt, arith, Option, None}
 use Rattle.std.specs.Prelude.{Some, slice_get}
 use Rattle.std.specs.List.{list_all}
 use Rattle.std.proofs.lemmas.Bool.Decides.{nat_tests}
@@ -52,7 +52,7 @@ quiet-runs a gaps swept place device orderly quiet =
     by true = record { made = refl; orderly = orderly }
     by false = record { made = refl; orderly = orderly }
 
--- ---- this many of them
+-- ---- so many of them
 
 module _ (s : Sessions) (h : Hidden) (device : Device) (orderly : IsOrderly device) (works : h.failed ≡ false) (upholds : Upholds h.origin (plain_of s h) device) (agrees : Agrees s h.origin h.seen (plain_of s h)) (count : ℕ)
     (quiet : is_due s.collector.swept s.numbers.record.gaps ≡ false) (out : (slot : ℕ) → s.collector.place ≤ slot → slot < s.collector.place + count → slice_get s.replaced slot ≡ Some false) where
