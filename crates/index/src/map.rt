@@ -54,7 +54,7 @@ pub struct Index {
     // Each with its key. An entry stays at its place, except that the last one moves to that of an entry that is taken out.
     pub(crate) entries: Vec<KeyedEntry>,
     // The place of each key's entry.
-    pub(crate) places: BTreeMap<Key, usize, Global>,
+    pub(crate) places: BTreeMap<Key, u32, Global>,
     // Places at which entries may be: tried first, with a search if the entry isn't there.
     hints: Vec<u32>,
 }
@@ -92,7 +92,7 @@ impl Index {
     }
 
     /// An index with exactly these entries, at these places. It takes no memory.
-    pub fn of(listed: HintedEntries, places: BTreeMap<Key, usize, Global>) -> Index
+    pub fn of(listed: HintedEntries, places: BTreeMap<Key, u32, Global>) -> Index
         requires { ArePlaced places.entries listed }
         ensures { result ≡ listed }
     {
@@ -123,7 +123,7 @@ impl Index {
         ensures none { IfNone result (has_room self.now key ≡ false) }
     {
         match self.places.get(&key) {
-            Some(place) => Some(*place),
+            Some(place) => Some(*place as usize),
             None => None,
         }
     }
@@ -249,10 +249,13 @@ impl Index {
             return Err(Fault::OutOfMemory);
         }
         let place = self.entries.len();
+        let Ok(small) = u32::try_from(place) else {
+            return Err(Fault::OutOfMemory);
+        };
         if widen(&mut self.hints, self.entries.as_slice()).is_err() {
             return Err(Fault::OutOfMemory);
         }
-        let Ok(_) = self.places.insert(key, place) else {
+        let Ok(_) = self.places.insert(key, small) else {
             return Err(Fault::OutOfMemory);
         };
         self.entries.push_reserved(KeyedEntry::new(key, entry));
@@ -417,12 +420,29 @@ impl Index {
     {
         let last = self.entries.len() - 1;
         let moved = self.entries[last].key();
-        // The key has a place, so this takes no memory.
-        let Ok(_) = self.places.insert(moved, place) else {
-            unreachable!()
-        };
-        self.places.remove(&key);
+        give_place(&mut self.places, key, moved);
         self.entries.swap_remove(place);
         note(self.hints.as_mut_slice(), moved, place);
     }
+}
+
+ghost use Rattle.std.specs.Prelude.{◌≡◌, IsSome, None, if◌then◌else◌};
+ghost use Rattle.base.specs.Keys.{key_eq, lookup_key};
+ghost use Rattle.base.specs.declared.key.Key.{Key as KeyValue};
+
+// Takes a key out, and gives its place to the key that moves there. That one has a place, so this takes no memory.
+fn give_place(places: &mut BTreeMap<Key, u32, Global>, key: Key, moved: Key)
+    requires key { IsSome (lookup_key places.old.entries key) }
+    requires moved { IsSome (lookup_key places.old.entries moved) }
+    ensures { (k : KeyValue) → lookup_key places.new.entries k ≡ (if key_eq key k then None else (if key_eq moved k then lookup_key places.old.entries key else lookup_key places.old.entries k)) }
+{
+    let Some(place) = places.remove(&key) else {
+        unreachable!()
+    };
+    if moved == key {
+        return;
+    }
+    let Ok(_) = places.insert(moved, place) else {
+        unreachable!()
+    };
 }

@@ -113,7 +113,7 @@ impl Index {
             return Ok(seen);
         }
         for (key, place) in self.places.range(range.bounds()) {
-            let newest = self.entry(*key, Some(*place)).newest;
+            let newest = self.entry(*key, Some(*place as usize)).newest;
             if let Some(found) = follow(device, geometry, snapshot, newest, *key) {
                 let Ok(_) = seen.insert(*key, found.row) else {
                     return Err(AllocError);
