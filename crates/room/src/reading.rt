@@ -1,4 +1,4 @@
-//! Reads that return a part of what the step Scan does, or the rows of more than one table. They are no steps of their own: the room is
+//! Reads that return a part of what the step Scan does, or the rows of more than one table. They aren't steps of their own: the room is
 //! lent, and stays as it is. They take memory for what they return alone.
 
 ghost use Rattle.machine.specs.Machine.{State};
