@@ -8,7 +8,7 @@ from journal import bytes_of, has_no_journal, tail_of
 from store import SMALL, Lost, rows_in
 
 ROWS = {at: f"{at:02x}" for at in range(1, 9)}
-LAYOUTS = (("--slots", "16", "--places", "2", "--window", "8"), ("--slots", "16", "--places", "2", "--window", "8", "--wide"), ("--slots", "40", "--places", "5", "--window", "16"))
+LAYOUTS = (("--slots", "16", "--places", "2", "--window", "8"), ("--slots", "16", "--places", "2", "--window", "8", "--wide"), ("--slots", "16", "--places", "2", "--window", "8", "--lines", "2"), ("--slots", "40", "--places", "5", "--window", "16"))
 COMMIT = "begin\nput 2 1 7 6162\ndraw 2\nstamp 2\ncycle\npoll 2\n"
 
 

@@ -16,7 +16,7 @@ def bytes_of(words):
 def image_bytes(held):
     """How many bytes the image has, by its superblock: a line, four for each place, and one or two for each slot."""
     version, slots, places = struct.unpack_from("<3Q", held, 8)
-    return LINE * (1 + 4 * places + slots * (1 if version < 3 else 2))
+    return LINE * (1 + 4 * places + slots * (1 if version in (1, 2, 260) else 2))
 
 
 def tail_of(held):

@@ -107,16 +107,16 @@ def driver(kv, folder):
 def layouts(kv, folder):
     """A layout is asked for within its limits, and of a store that exists only if it has it."""
     file = made(kv, folder)
-    for words in (["--slots", "65536"], ["--places", "3"], ["--window", "8"], ["--wide"], ["--slots", "1024", "--wide"]):
+    for words in (["--slots", "65536"], ["--places", "3"], ["--window", "8"], ["--wide"], ["--slots", "1024", "--wide"], ["--lines", "1"]):
         ended = kv_on(kv, file, "get 1 1\n", options=words)
         want(ended.returncode == 2 and ended.output == "" and "it has 1024 slots of 32 bytes, 2 places and a window of 1024, and keeps them" in ended.told, f"{words}", ended)
     ended = kv_on(kv, file, "get 1 1\n", options=("--slots", "1024", "--places", "2", "--window", "1024"))
     want(ended.returncode == 0 and "row a1" in ended.output, "what it has may be asked for", ended)
     none = os.path.join(folder, "none.img")
-    for option, number, limits in (("slots", 0, "1..=65536"), ("slots", 100_000, "1..=65536"), ("places", 1, "2..=64"), ("places", 65, "2..=64"), ("window", 3, "4..=1024"), ("window", 1_025, "4..=1024")):
+    for option, number, limits in (("slots", 0, "1..=16777216"), ("slots", 16_777_217, "1..=16777216"), ("places", 1, "2..=64"), ("places", 65, "2..=64"), ("window", 3, "4..=1024"), ("window", 1_025, "4..=1024")):
         ended = kv_on(kv, none, "", options=(f"--{option}", str(number)))
         want(ended.returncode == 2 and f"--{option}" in ended.told and limits in ended.told and not os.path.exists(none), f"--{option} {number}", ended)
-    return "5 layouts of others were refused for a store, and 6 numbers that no store has"
+    return "6 layouts of others were refused for a store, and 6 numbers that no store has"
 
 
 def command_words(kv, folder):

@@ -270,7 +270,7 @@ def words(kv, folder):
     want(kv_on(kv, larger, "dump\n").output.splitlines()[1:-2] == dumped, "the copy dumps the same")
     ended = kv_on(kv, larger, "put 1 1 " + "ab" * 96 + "\nget 1 1\n")
     want(ended.returncode == 0 and "row " + "ab" * 96 in ended.output, "a wide row", ended)
-    for bad in (["--slots", "0"], ["--slots", "70000"], ["--slots"], ["--slots", "x"], ["--places", "1"]):
+    for bad in (["--slots", "0"], ["--slots", "16777217"], ["--lines", "3"], ["--wide", "--lines", "2"], ["--slots"], ["--slots", "x"], ["--places", "1"]):
         ended = subprocess.run([kv, os.path.join(folder, "none.img"), *bad], input=b"", capture_output=True, timeout=20, check=False)
         want(ended.returncode == 2 and not os.path.exists(os.path.join(folder, "none.img")), f"{bad}: {ended.returncode}, {ended.stderr}")
     return "each kind of line answers; what is dumped makes the same store; wrong options make none"
@@ -298,7 +298,7 @@ def one_command(kv, folder):
         ended = one(kv, none, *words)
         want(ended.returncode == 2 and ended.output == "" and ended.told.startswith("kv: ") and not os.path.exists(none), f"{words}", ended)
     ended = one(kv, none, "help")
-    want(ended.returncode == 0 and "--slots 65536 load" in ended.output and not os.path.exists(none), "help makes no store", ended)
+    want(ended.returncode == 0 and "--slots 1000000 load" in ended.output and not os.path.exists(none), "help makes no store", ended)
     return "11 commands behind the file's name were run alone; 9 wrong ones made no store"
 
 
@@ -370,7 +370,7 @@ def full_store(kv, folder):
     want("slots 65536\n" in one(kv, large, "stat").output and one(kv, full, "del", "1", "1").returncode == 0 and one(kv, full, "put", "1", "9", "09").returncode == 0, "a deletion makes room")
     want(one(kv, large, "load", text="".join(f"2 {at} 00\n" for at in range(65_536 - 9))).returncode == 0, "it takes 65,536 rows")
     ended = kv_on(kv, large, "put 1 9 ff\ndel 2 0\nput 1 9 ff\nput 1 8 ff\nget 1 9\n")
-    want(ended.returncode == 3 and re.search(r"refused SlotsOut no slot is free, and an update needs one too: delete a row\n(committed \d+\n){3}row ff\nclosed\n$", ended.output), "a full store of 65,536", ended)
+    want(ended.returncode == 3 and re.search(r"refused SlotsOut no slot is free, and an update needs one too: delete a row, or copy all rows into a store with more slots, as help shows\n(committed \d+\n){3}row ff\nclosed\n$", ended.output), "a full store of 65,536", ended)
     return "a store with 8 slots refuses the ninth row, and its copy with 65,536 takes it; a full one of these is updated once a row is deleted"
 
 

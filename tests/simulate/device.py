@@ -5,6 +5,8 @@ WORDS_OF_A_LINE = 8
 WORDS_OF_A_RECORD = 32
 MOST_GAPS, MOST_LONGS = 8, 12
 LIMIT = 2 ** 62
+# Of each version of the format, by word 1 of the superblock, how many lines a slot has and how many slots an image may have.
+VERSIONS = {1: (1, 65_536), 2: (1, 65_536), 3: (2, 65_536), 260: (1, 16_777_216), 516: (2, 16_777_216)}
 
 FAULTS = {
     "TooLong": 1, "BadGeometry": 2, "Device": 3, "NotFormatted": 4, "Damaged": 5, "Version": 6, "GapsFull": 7, "SlotsOut": 8, "NoSession": 9,
@@ -72,8 +74,8 @@ class Geometry:
 
     def __init__(self, slots, places, window, version=2):
         self.slots, self.places, self.window, self.version = slots, places, window, version
-        self.lines_of_slot = 2 if version == 3 else 1
-        self.most_bytes = 96 if version == 3 else 32
+        self.lines_of_slot, self.most_slots = VERSIONS[version]
+        self.most_bytes = 96 if self.lines_of_slot == 2 else 32
 
     def slot_line(self, slot):
         return 1 + 4 * self.places + self.lines_of_slot * slot
@@ -126,10 +128,10 @@ def geometry_of(words):
     if len(words) < WORDS_OF_A_LINE or words[0] != LETTERS:
         raise Refused("NotFormatted")
     _, version, slots, places, window, length, *rest = words[:WORDS_OF_A_LINE]
-    if version not in (1, 2, 3):
+    if version not in VERSIONS:
         raise Refused("Version", version)
     geometry = Geometry(slots, places, window, version)
-    in_range = 1 <= slots <= 65_536 and 2 <= places <= 64 and 4 <= window <= 1_024
+    in_range = 1 <= slots <= geometry.most_slots and 2 <= places <= 64 and 4 <= window <= 1_024
     if not in_range or any(rest) or length != geometry.words() or length != len(words):
         raise Refused("BadGeometry")
     return geometry

@@ -9,7 +9,7 @@ import struct
 import subprocess
 import sys
 
-from device import CHOICES, Device, Geometry, Refused, checked, sound
+from device import CHOICES, VERSIONS, Device, Geometry, Refused, checked, sound
 from engine import Room, lived, obeyed
 from generator import MOODS, Author, script_of
 from script import shrunk
@@ -84,7 +84,7 @@ def words_in(path):
 def play_images(rng, programs):
     """Lives in Python over an image of any version, stopped anywhere, each word with any of its survivors: each image that is left is
     checked by `wbl check`, and lives on by `wbl run`, and what that leaves is compared word by word."""
-    version = rng.choice([1, 2, 3])
+    version = rng.choice(list(VERSIONS))
     author = Author(rng, rng.choice(list(MOODS)), version)
     words, path, counts = author.geometry.formatted(), programs.path("image"), collections.Counter()
     for number in range(rng.randint(author.most_lives // 2, author.most_lives)):
@@ -213,7 +213,7 @@ def play_file(rng, programs):
     import power
     from store import Transactions, acknowledged, after, may_be_found
 
-    version = rng.choice([1, 2, 3])
+    version = rng.choice(list(VERSIONS))
     path, trace, counts = programs.path("file"), programs.path("trace"), collections.Counter()
     written(path, Geometry(rng.choice([16, 40]), 2, rng.choice([4, 64]), version).formatted())
     source, rows = Transactions(rng, 8, 3), {}
@@ -261,7 +261,7 @@ def rows_left(rng, programs, left, said):
 
 
 def play_room(rng, programs):
-    """Lives of a room over a device of version 1, 2 and 3 by the program of crates/test_lives, which compares them with its own
+    """Lives of a room over a device of each version by the program of crates/test_lives, which compares them with its own
     model of plain tables: stopped anywhere, with any survivor of each word."""
     seed, seeds = rng.randrange(2 ** 62), 3
     ended = subprocess.run([programs.room, str(seed), str(seeds)], capture_output=True, text=True, timeout=SECONDS, check=False)

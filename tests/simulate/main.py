@@ -11,12 +11,12 @@ A seed is a game, and the same seed is the same game. There are five kinds:
 
     lives     a script for `wbl lives`: sessions, committer, collector, long commits, sweeps and closes over the modelled device,
               which is stopped after any number of operations, also within an opening, with the oldest or the newest survivors
-    images    lives over an image of version 1, 2 or 3, stopped anywhere with any survivor of each word: what is left is checked by
+    images    lives over an image of any version, stopped anywhere with any survivor of each word: what is left is checked by
               `wbl check`, and goes on by `wbl run`, and what that leaves is compared word by word
-    room      lives over a device of version 1, 2 and 3, stopped anywhere with any survivor of each word, by the proved program of
+    room      lives over a device of each version, stopped anywhere with any survivor of each word, by the proved program of
               crates/test_lives, which the gate runs on 30 seeds
     memory    a script of lives one of whose requests for memory is refused, where the program takes its memory from the C library
-    file      `bin/kv` over a file of version 1, 2 or 3: its system calls are traced, and the power fails before any of them, with
+    file      `bin/kv` over a file of any version: its system calls are traced, and the power fails before any of them, with
               each word that no sync followed old or new; it needs strace
 
 What each prints is compared with what the engine in Python says, to the letter (`room` with a model of its own). It prints how much was

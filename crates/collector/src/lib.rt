@@ -3,10 +3,12 @@
 #![tactic(auto)]
 
 mod readers;
+mod replaced;
 mod rounds;
 mod sweeping;
 mod visit;
 
 pub use readers::Readers;
+pub use replaced::ReplacedSlots;
 pub use rounds::Collector;
 pub use visit::Visit;

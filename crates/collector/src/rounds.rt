@@ -4,6 +4,7 @@
 ghost use Rattle.std.specs.Prelude.{◌≡◌, OnErr, OnOk, IfErr};
 
 use crate::readers::Readers;
+use crate::replaced::ReplacedSlots;
 use crate::sweeping::sweep_slot;
 use crate::visit::Visit;
 use base::actor::Actor;
@@ -22,7 +23,7 @@ pub struct Collector {
 }
 
 impl Collector {
-    ghost use Rattle.std.specs.Prelude.{◌+◌, ◌<◌, length, true, false, IfOk};
+    ghost use Rattle.std.specs.Prelude.{◌+◌, ◌<◌, ◌≤◌, ◌≢◌, ℕ, length, true, false, Some, slice_get, IfOk};
     ghost use Rattle.base.specs.Layout.{total_words};
     ghost use Rattle.pmem.specs.Words.{value_of};
     ghost use Rattle.pmem.specs.Trace.{Runs, StopsWithin};
@@ -129,6 +130,22 @@ impl Collector {
         }
         self.place += 1;
         Visit::Slot(slot)
+    }
+
+    /// Passes slots that weren't replaced, this many at most, up to the next one that was or the closing place. Returns how many.
+    pub fn pass(&mut self, replaced: &ReplacedSlots, most: u64) -> u64
+        // The place moves on by this number, and nothing else changes. Each place that is passed is a slot that wasn't replaced.
+        ensures moved { self.new ≡ record { place = self.old.place + result; swept = self.old.swept } }
+        ensures passed { (slot : ℕ) → self.old.place ≤ slot → slot < self.old.place + result → slice_get replaced.now slot ≡ Some false }
+
+        // If they are fewer than the most, the next place isn't such a slot.
+        ensures most { result ≤ most }
+        ensures stops { result < most → slice_get replaced.now (self.old.place + result) ≢ Some false }
+    {
+        let next = replaced.next_from(self.place);
+        let count = most.min(next.saturating_sub(self.place));
+        self.place += count;
+        count
     }
 
     // Visits the slot of the place, and sweeps it if that is due.

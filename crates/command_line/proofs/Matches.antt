@@ -1,13 +1,15 @@
 -- What is read of clap's matches is what they give, and if nothing is read, they give nothing.
-use Rattle.std.proofs.Common.{◌≡◌, ◌≢◌, Bool, true, false, Option, Some, None, Result, Ok, Err, refl, ap, subst, ◌∙◌, codes, option_map, arith, Bor}
+use Rattle.std.proofs.Common.{◌≡◌, ◌≢◌, Bool, true, false, List, Option, Some, None, Result, Ok, Err, refl, ap, subst, ◌∙◌, codes, option_map, arith, Bor}
 use Rattle.std.specs.Prelude.{IfNone, IfSome, IsOk, IsTrue, is_err, ◌↔◌, unwrap_or, if◌then◌else◌}
 use Rattle.std.specs.Str.Parse.{ParsesBool}
 use Rattle.base.specs.Layout.{Layout}
 use Rattle.clap.proofs.WalkLemmas.{first_value-rows, one_text-rows}
-use Rattle.clap.specs.Words.{ReadsOne, first_of, first_value, one_text, rows_of}
+use Rattle.clap.specs.Words.{ReadsOne, Row, first_of, first_value, one_text, rows_of}
 use Rattle.clap.specs.declared.parser.matches.Found.{Found}
 use Rattle.command_line.specs.Numbers.{Text}
-use Rattle.command_line.specs.Words.{HasFlag}
+use Rattle.command_line.specs.Words.{HasFlag, HasWidth}
+use Rattle.command_line.specs.declared.orders.Width.{Width}
+use Rattle.command_line.specs.declared.orders.Width.TheVariants.{Plain, Wide, Lines}
 
 -- ---- an option without a value
 
@@ -39,6 +41,12 @@ module _ {E : Type 0} (gives : Text → Result Bool E → Type 0) (parses : (tex
     no-flag-found =
         subst (λ (o : Option Text). IfNone got ((given : Bool) → o ≡ Some (if given then codes "true" else codes "false") → ⊥)) (one_text-rows f id)
         (no-flag-read (one_text f id) got none value)
+
+-- if it isn't known whether wide slots are asked for, no width is
+pub no_width : (found : List Row) → ((given : Bool) → HasFlag found (codes "wide") given → ⊥) → (width : Width) → HasWidth found width → ⊥
+no_width found none Plain has = none false has.0
+no_width found none Wide has = none true has.0
+no_width found none (Lines lines) has = none false has.0
 
 -- ---- a text
 

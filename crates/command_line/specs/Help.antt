@@ -26,6 +26,10 @@ number_rule name default least most = record (new_rule name) {
   parser = Some (parser.Unsigned least most);
 }
 
+-- an option with a number from the least to the most, without a default
+abbrev pub choice_rule : Text → ℕ → ℕ → Rule
+choice_rule name least most = record (new_rule name) { long = Some name; value_names = 1; parser = Some (parser.Unsigned least most) }
+
 -- an option without a value, which may be left out
 abbrev pub flag_rule : Text → Rule
 flag_rule name = record (new_rule name) { long = Some name; action = Some SetTrue }
@@ -40,9 +44,9 @@ app_with name rules = record { top = subcommand_shape name rules; subs = [] }
 
 -- `format`, with its options and their defaults
 abbrev pub format_shape : Shape
-format_shape = subcommand_shape (codes "format") (name_rule (codes "FILE") ∷ number_rule (codes "slots") (codes "1024") 1 65536
+format_shape = subcommand_shape (codes "format") (name_rule (codes "FILE") ∷ number_rule (codes "slots") (codes "1024") 1 16777216
     ∷ number_rule (codes "places") (codes "4") 2 64 ∷ number_rule (codes "window") (codes "64") 4 1024
-    ∷ flag_rule (codes "wide") ∷ [])
+    ∷ flag_rule (codes "wide") ∷ choice_rule (codes "lines") 1 2 ∷ [])
 
 -- `run`
 abbrev pub run_shape : Shape

@@ -1,16 +1,25 @@
 -- What the words of the command line ask for, by what the statements of clap say that it finds in them.
-use Rattle.std.specs.Prelude.{◌≡◌, ℕ, ◌^◌, ◌≤◌, List, [], Bool, true, not, Option, Some, IsSomeAnd, option_and_then, codes, if◌then◌else◌}
+use Rattle.std.specs.Prelude.{◌≡◌, ℕ, ◌^◌, ◌≤◌, List, [], Bool, true, false, nat_le, not, Option, Some, None, IsSomeAnd, option_and_then, codes, if◌then◌else◌}
 use Rattle.std.specs.Str.Parse.{starts_with_minus}
-use Rattle.base.specs.Layout.{Layout, is_in_limits, layout_with, plain_version, wide_version}
+use Rattle.base.specs.Layout.{Layout, is_in_limits, large_version, layout_with, plain_version, wide_version}
 use Rattle.clap.specs.Words.{Row, fault_of, first_of, one_of, subcommand_of}
 use Rattle.command_line.specs.Help.{wbl}
 use Rattle.command_line.specs.Numbers.{Text, number_below}
 use Rattle.command_line.specs.declared.orders.Order.{Order}
 use Rattle.command_line.specs.declared.orders.Order.TheVariants.{Format, Run, Check, Lives, Threads}
+use Rattle.command_line.specs.declared.orders.Width.{Width}
+use Rattle.command_line.specs.declared.orders.Width.TheVariants.{Plain, Wide, Lines}
 
--- the layout that a format asks for: with slots of two lines if it asks for wide ones
-abbrev pub asked_layout : Bool → ℕ → ℕ → ℕ → Layout
-asked_layout wide slots places window = layout_with (if wide then wide_version else plain_version) slots places window
+-- The version that a format asks for: version 4 if it says how many lines a slot has, or has more slots than version 2 may have.
+-- Excluded: wide slots that make a large image.
+abbrev pub asked_version : Width → ℕ → ℕ
+asked_version Plain slots = if nat_le slots 65536 then plain_version else large_version 1
+asked_version Wide slots = wide_version
+asked_version (Lines lines) slots = large_version lines
+
+-- the layout that it asks for
+abbrev pub asked_layout : Width → ℕ → ℕ → ℕ → Layout
+asked_layout width slots places window = layout_with (asked_version width slots) slots places window
 
 -- ---- the values that clap finds for the arguments of a subcommand
 
@@ -30,16 +39,23 @@ number_in found option = option_and_then (number_below (2 ^ 64)) (first_of optio
 abbrev pub HasFlag : List Row → Text → Bool → Type 0
 HasFlag found option given = one_of option found ≡ Some (if given then codes "true" else codes "false")
 
+-- The width of slots that the options ask for: one of `--wide` and `--lines`, or neither.
+-- Excluded: a width for words that have both; the number of `--lines` taken as missing because it is unusual.
+abbrev pub HasWidth : List Row → Width → Type 0
+HasWidth found Plain = HasFlag found (codes "wide") false × (first_of (codes "lines") found ≡ None)
+HasWidth found Wide = HasFlag found (codes "wide") true × (first_of (codes "lines") found ≡ None)
+HasWidth found (Lines lines) = HasFlag found (codes "wide") false × (number_in found (codes "lines") ≡ Some lines)
+
 -- ---- orders
 
 -- the file, the width and the numbers of a format, within the limits of a layout
-pub record FindsFormat (found : List Row) (name : Text) (wide : Bool) (slots places window : ℕ) : Type 0 where
+pub record FindsFormat (found : List Row) (name : Text) (width : Width) (slots places window : ℕ) : Type 0 where
   pub file_named : HasFile found (codes "FILE") name
-  pub wide_asked : HasFlag found (codes "wide") wide
+  pub width_asked : HasWidth found width
   pub slots_given : number_in found (codes "slots") ≡ Some slots
   pub places_given : number_in found (codes "places") ≡ Some places
   pub window_given : number_in found (codes "window") ≡ Some window
-  pub limits : is_in_limits (asked_layout wide slots places window) ≡ true
+  pub limits : is_in_limits (asked_layout width slots places window) ≡ true
 
 -- the file and the numbers of the threads, within their limits
 pub record FindsThreads (found : List Row) (name : Text) (sessions commits : ℕ) : Type 0 where
@@ -51,7 +67,7 @@ pub record FindsThreads (found : List Row) (name : Text) (sessions commits : ℕ
 
 -- the subcommand of an order
 abbrev pub name_of : Order → Text
-name_of (Format name wide slots places window) = codes "format"
+name_of (Format name width slots places window) = codes "format"
 name_of (Run name) = codes "run"
 name_of (Check name) = codes "check"
 name_of (Lives name) = codes "lives"
@@ -59,7 +75,7 @@ name_of (Threads name sessions commits) = codes "threads"
 
 -- the arguments of its subcommand give the rest of this order
 abbrev pub FindsRest : List Row → Order → Type 0
-FindsRest found (Format name wide slots places window) = FindsFormat found name.now wide slots places window
+FindsRest found (Format name width slots places window) = FindsFormat found name.now width slots places window
 FindsRest found (Run name) = HasFile found (codes "FILE") name.now
 FindsRest found (Check name) = HasFile found (codes "FILE") name.now
 FindsRest found (Lives name) = HasFile found (codes "SCRIPT") name.now

@@ -1,11 +1,12 @@
 ghost use Rattle.std.specs.Prelude.{◌≡◌, codes, IfNone, IfSome, Bool, option_map};
 ghost use Rattle.clap.specs.Words.{first_of, found_of, rows_of, subcommand_rows_of};
 ghost use Rattle.command_line.specs.Numbers.{Text};
-ghost use Rattle.command_line.specs.Words.{FindsIn, FindsNothing, FindsOrder, HasFile, HasFlag, is_file_name, number_in};
+ghost use Rattle.command_line.specs.Words.{FindsIn, FindsNothing, FindsOrder, HasFile, HasFlag, HasWidth, is_file_name, number_in};
 ghost use Rattle.command_line.specs.declared.orders.Order.{Order as OrderValue};
+ghost use Rattle.command_line.specs.declared.orders.Width.{Width as WidthValue};
 
 use crate::number::number;
-use crate::orders::{MOST_COMMITS, MOST_SESSIONS, Order, asked_geometry};
+use crate::orders::{MOST_COMMITS, MOST_SESSIONS, Order, Width, asked_geometry};
 use clap::ArgMatches;
 
 /// The order of the subcommand that clap found in the words.
@@ -58,20 +59,38 @@ fn found_format<'a>(found: &ArgMatches<'a>) -> Option<Order<'a>>
     ensures none { IfNone result (FindsNothing (codes "format") (rows_of (found_of found.now))) }
 {
     let file = found_file(found, "FILE")?;
-    let wide = found_flag(found, "wide")?;
+    let width = found_width(found)?;
     let slots = found_number(found, "slots")?;
     let places = found_number(found, "places")?;
     let window = found_number(found, "window")?;
-    if asked_geometry(wide, slots, places, window).is_err() {
+    if asked_geometry(width, slots, places, window).is_err() {
         return None;
     }
     Some(Order::Format {
         file,
-        wide,
+        width,
         slots,
         places,
         window,
     })
+}
+
+// The width that the options ask for.
+#[tactic(auto, using(crate::proofs::Matches::no_width))]
+fn found_width(found: &ArgMatches<'_>) -> Option<Width>
+    ensures is { IfSome result (HasWidth (rows_of (found_of found.now))) }
+    ensures none { IfNone result ((width : WidthValue) → HasWidth (rows_of (found_of found.now)) width → ⊥) }
+{
+    let wide = found_flag(found, "wide")?;
+    match (wide, found_text(found, "lines")) {
+        (false, None) => Some(Width::Plain),
+        (true, None) => Some(Width::Wide),
+        (false, Some(text)) => match number(text.as_bytes()) {
+            Some(lines) => Some(Width::Lines(lines)),
+            None => None,
+        },
+        (true, Some(_)) => None,
+    }
 }
 
 fn found_threads<'a>(found: &ArgMatches<'a>) -> Option<Order<'a>>

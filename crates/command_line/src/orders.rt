@@ -11,10 +11,10 @@ use thiserror::Error;
 /// What the words of the command line ask for.
 #[derive(Clone, Copy)]
 pub enum Order<'a> {
-    /// A new image is written into the file, with slots of two lines if wide ones are asked for.
+    /// A new image is written into the file.
     Format {
         file: &'a str,
-        wide: bool,
+        width: Width,
         slots: u64,
         places: u64,
         window: u64,
@@ -40,25 +40,37 @@ pub enum Order<'a> {
     },
 }
 
+/// The slots that a format asks for.
+#[derive(Clone, Copy)]
+pub enum Width {
+    /// Slots of one line.
+    Plain,
+    /// Slots of two lines, in an image of version 3.
+    Wide,
+    /// Slots of this many lines, in an image of version 4.
+    Lines(u64),
+}
+
 /// How many threads with a session there may be, from 1 on.
 pub const MOST_SESSIONS: u64 = 32;
 
 /// How many commits each of them may make, from 1 on.
 pub const MOST_COMMITS: u64 = 1_000;
 
-/// The layout that a format asks for: of version 3, with slots of two lines, if it asks for wide ones, and otherwise of version
-/// 2.
-pub fn asked_geometry(wide: bool, slots: u64, places: u64, window: u64) -> Result<Geometry, Fault>
-    ensures ok { IfOk result (λ geometry. geometry ≡ asked_layout wide slots places window) }
+/// The layout that a format asks for: of version 3 with wide slots, of version 4 if it says how many lines a slot has or has
+/// more than 65,536 slots, and otherwise of version 2.
+pub fn asked_geometry(width: Width, slots: u64, places: u64, window: u64) -> Result<Geometry, Fault>
+    ensures ok { IfOk result (λ geometry. geometry ≡ asked_layout width slots places window) }
 
     // Ok exactly within the limits, and otherwise BadGeometry.
-    ensures limits { IsOk result ↔ IsTrue (is_in_limits (asked_layout wide slots places window)) }
+    ensures limits { IsOk result ↔ IsTrue (is_in_limits (asked_layout width slots places window)) }
     ensures fault { IfErr result (λ fault. fault ≡ BadGeometry) }
 {
-    if wide {
-        Geometry::wide(slots, places, window)
-    } else {
-        Geometry::new(slots, places, window)
+    match width {
+        Width::Plain if slots <= Geometry::MOST_SLOTS => Geometry::new(slots, places, window),
+        Width::Plain => Geometry::large(1, slots, places, window),
+        Width::Wide => Geometry::wide(slots, places, window),
+        Width::Lines(lines) => Geometry::large(lines, slots, places, window),
     }
 }
 

@@ -1,7 +1,7 @@
 ghost use Rattle.std.specs.Prelude.{◌≡◌, ◌⊎◌, [], ◌∷◌, codes, false, IfErr, IfOk, IsOkAnd};
 ghost use Rattle.clap.specs.Words.{AddsArg, AddsSubcommand, app_of, kind_of, rule_of, shape_of};
 ghost use Rattle.clap.specs.declared.error.kind.ErrorKind.TheVariants.{OutOfMemory as OutOfMemoryKind};
-ghost use Rattle.command_line.specs.Help.{AnswersHelp, ReportsKind, UnlessOutOfMemory, app_with, check_shape, flag_rule, format_shape, lives_shape, name_rule, number_rule, run_shape, threads_shape, wbl, wbl_alone};
+ghost use Rattle.command_line.specs.Help.{AnswersHelp, ReportsKind, UnlessOutOfMemory, app_with, check_shape, choice_rule, flag_rule, format_shape, lives_shape, name_rule, number_rule, run_shape, threads_shape, wbl, wbl_alone};
 ghost use Rattle.command_line.specs.Lines.{texts};
 ghost use Rattle.command_line.specs.Words.{Gives, GivesNothing};
 ghost use Rattle.command_line.specs.declared.orders.WordFault.{WordFault as WordFaultValue};
@@ -17,7 +17,7 @@ use std::alloc::{AllocError, Global};
 /// defaults. Fails with the text for the user.
 pub fn order<'a>(alloc: Global, words: &'a [&'a str]) -> Result<Order<'a>, WordFault>
     // At Ok exactly what the words give by the statements of `clap`: the subcommand, the file, each option's number or its
-    // default, within the limits, and whether `--wide` is there.
+    // default, within the limits, and the width of slots that `--wide` or `--lines` asks for.
     ensures gives { IfOk result (Gives (texts words.now)) }
 
     // At Err the words give no order, unless memory was lacking.
@@ -55,7 +55,7 @@ fn parsed_order<'a>(
 }
 
 const UNUSUAL_WORDS: &str =
-    "a number has 1 to 20 digits and nothing else, and a file whose name begins with '-' is written as ./-NAME";
+    "a number has 1 to 20 digits and nothing else, a file whose name begins with '-' is written as ./-NAME, and --wide goes with at most 65536 slots and without --lines";
 
 fn word_fault(alloc: Global, error: &clap::Error) -> WordFault
     ensures { ReportsKind (kind_of error.now) result }
@@ -144,8 +144,8 @@ fn format_command<'a>(alloc: Global) -> Result<Command<'a>, AllocError>
     );
     let slots = with_argument(
         file,
-        number_option(alloc, "slots", "1024", 1, 65_536).help(
-            "How many row versions there is room for, 1 to 65536",
+        number_option(alloc, "slots", "1024", 1, 16_777_216).help(
+            "How many row versions there is room for, 1 to 16777216: with more than 65536 an image of version 4",
         ),
     );
     let places = with_argument(
@@ -160,7 +160,8 @@ fn format_command<'a>(alloc: Global) -> Result<Command<'a>, AllocError>
             "How many timestamps a commit record leaves for later commits, 4 to 1024",
         ),
     );
-    with_argument(window, wide_option(alloc))
+    let wide = with_argument(window, wide_option(alloc));
+    with_argument(wide, lines_option(alloc))
 }
 
 fn run_command<'a>(alloc: Global) -> Result<Command<'a>, AllocError>
@@ -272,6 +273,17 @@ fn wide_option<'a>(alloc: Global) -> Arg<'a>
         .long("wide")
         .action(ArgAction::SetTrue)
         .help("Slots of two lines, for rows of up to 96 bytes instead of 32")
+}
+
+fn lines_option<'a>(alloc: Global) -> Arg<'a>
+    ensures rule { rule_of result ≡ choice_rule (codes "lines") 1 2 }
+    ensures global { result.global ≡ false }
+{
+    Arg::new(alloc, "lines")
+        .long("lines")
+        .value_name("W")
+        .value_parser(ValueParser::unsigned(1, 2))
+        .help("An image of version 4, with slots of 1 line, or of 2 for rows of up to 96 bytes")
 }
 
 fn number_option<'a>(

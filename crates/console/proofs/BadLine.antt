@@ -83,7 +83,7 @@ told-by : (order : Order) (stop : Stop) (file : List ℕ) (input old mid new : O
     → ReportsLine order file input old new number
 told-by order (Refused fault) file input old mid new number met is told = absurd is
 told-by order (Broken reason) file input old mid new number met is told = absurd is
-told-by (Format name wide slots places window) (NotACommand line) file input old mid new number met is told = absurd met
+told-by (Format name width slots places window) (NotACommand line) file input old mid new number met is told = absurd met
 told-by (Check name) (NotACommand line) file input old mid new number met is told = absurd met
 told-by (Run name) (NotACommand line) file input old mid new number met is told =
     ends-so file input old mid new number (text_of (printed.NotACommand number) ++ 10 ∷ []) (subst (λ (n : ℕ). EndsAtBadLine file input old mid n []) (sym is) met) told

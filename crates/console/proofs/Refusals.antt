@@ -73,7 +73,7 @@ close-said file input old mid new fault ended met line = record {
 
 ends-said : (order : Order) (file : List ℕ) (input old mid new : Option Text) (fault : Fault) (ended : Text) → EndsRefused order file input old mid fault [] → Appends mid new ended
     → EndsRefused order file input old new fault ended
-ends-said (Format name wide slots places window) file input old mid new fault ended met line = (met.0, appends-more old mid new [] ended met.1 line)
+ends-said (Format name width slots places window) file input old mid new fault ended met line = (met.0, appends-more old mid new [] ended met.1 line)
 ends-said (Run name) file input old mid new fault ended (inl met) line = inl (met.0, appends-more old mid new [] ended met.1 line)
 ends-said (Run name) file input old mid new fault ended (inr met) line = inr (close-said file input old mid new fault ended met line)
 ends-said (Check name) file input old mid new fault ended met line = (met.0, appends-more old mid new [] ended met.1 line)

@@ -80,7 +80,7 @@ PrintsBadLine old new number = Appends old new (text_of (printed.NotACommand num
 -- The line of this number is to blame: of a run, a line of the input, which ends it; of lives, a line of the script, and then nothing is
 -- printed before. This is printed at the end
 abbrev pub EndsAtLine : Order → List ℕ → Option Text → Option Text → Option Text → ℕ → Text → Type 0
-EndsAtLine (Format name wide slots places window) file input old new number ended = ⊥
+EndsAtLine (Format name width slots places window) file input old new number ended = ⊥
 EndsAtLine (Run name) file input old new number ended = EndsAtBadLine file input old new number ended
 EndsAtLine (Check name) file input old new number ended = ⊥
 EndsAtLine (Threads name sessions commits) file input old new number ended = ⊥

@@ -52,7 +52,7 @@ pub record KeepsHistories (before after : List ℕ) : Type 0 where
 -- What a subcommand leaves in FILE: a format the fresh image, a run and threads what keeps the histories.
 -- Excluded: a fresh image with more slots than an image may have.
 abbrev pub Leaves : Order → List ℕ → List ℕ → Type 0
-Leaves (Format name wide slots places window) before after = IsFileOf (fresh_image (asked_layout wide slots places window)) after
+Leaves (Format name width slots places window) before after = IsFileOf (fresh_image (asked_layout width slots places window)) after
 Leaves (Run name) before after = KeepsHistories before after
 Leaves (Check name) before after = ⊥
 Leaves (Threads name sessions commits) before after = ∥ KeepsHistories before after ∥₁
@@ -60,7 +60,7 @@ Leaves (Lives name) before after = ⊥
 
 -- a subcommand that ends well writes FILE, except for a check and for lives
 abbrev pub writes_file : Order → Bool
-writes_file (Format name wide slots places window) = true
+writes_file (Format name width slots places window) = true
 writes_file (Run name) = true
 writes_file (Check name) = false
 writes_file (Threads name sessions commits) = true
@@ -68,7 +68,7 @@ writes_file (Lives name) = false
 
 -- this, if the order is a check
 abbrev pub IfCheck : Order → Type 0 → Type 0
-IfCheck (Format name wide slots places window) P = ⊤
+IfCheck (Format name width slots places window) P = ⊤
 IfCheck (Run name) P = ⊤
 IfCheck (Check name) P = P
 IfCheck (Threads name sessions commits) P = ⊤
@@ -76,7 +76,7 @@ IfCheck (Lives name) P = ⊤
 
 -- this, if the order is lives
 abbrev pub IfLives : Order → Type 0 → Type 0
-IfLives (Format name wide slots places window) P = ⊤
+IfLives (Format name width slots places window) P = ⊤
 IfLives (Run name) P = ⊤
 IfLives (Check name) P = ⊤
 IfLives (Threads name sessions commits) P = ⊤
@@ -84,7 +84,7 @@ IfLives (Lives name) P = P
 
 -- this, if the order reads no input: all but a run
 abbrev pub IfReadsNoInput : Order → Type 0 → Type 0
-IfReadsNoInput (Format name wide slots places window) P = P
+IfReadsNoInput (Format name width slots places window) P = P
 IfReadsNoInput (Run name) P = ⊤
 IfReadsNoInput (Check name) P = P
 IfReadsNoInput (Threads name sessions commits) P = P
@@ -92,7 +92,7 @@ IfReadsNoInput (Lives name) P = P
 
 -- the numbers of a format are within their limits
 abbrev pub HasLimits : Order → Type 0
-HasLimits (Format name wide slots places window) = is_in_limits (asked_layout wide slots places window) ≡ true
+HasLimits (Format name width slots places window) = is_in_limits (asked_layout width slots places window) ≡ true
 HasLimits (Run name) = ⊤
 HasLimits (Check name) = ⊤
 HasLimits (Threads name sessions commits) = ⊤

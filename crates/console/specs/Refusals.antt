@@ -13,6 +13,7 @@ use Rattle.command_line.specs.Texts.{refused_text}
 use Rattle.command_line.specs.Words.{asked_layout}
 use Rattle.command_line.specs.declared.orders.Order.{Order}
 use Rattle.command_line.specs.declared.orders.Order.TheVariants.{Format, Run, Check, Threads, Lives}
+use Rattle.command_line.specs.declared.orders.Width.{Width}
 use Rattle.console.specs.Input.{Reads}
 use Rattle.console.specs.Lives.{FileOpensTo, IsBegun}
 use Rattle.console.specs.Threads.{IsThreadsFault}
@@ -29,8 +30,8 @@ refusal_line fault = refused_text fault ++ 10 ∷ []
 -- none, and then that is the fault
 
 -- the numbers of a format are out of their limits
-abbrev pub IsFormatFault : Bool → ℕ → ℕ → ℕ → Fault → Type 0
-IsFormatFault wide slots places window fault = (is_in_limits (asked_layout wide slots places window) ≡ false) × (fault ≡ BadGeometry)
+abbrev pub IsFormatFault : Width → ℕ → ℕ → ℕ → Fault → Type 0
+IsFormatFault width slots places window fault = (is_in_limits (asked_layout width slots places window) ≡ false) × (fault ≡ BadGeometry)
 
 -- the file has the words of an image with this fault
 pub record HasFault (file : List ℕ) (Is : Image → Fault → Type 0) (fault : Fault) : Type 0 where
@@ -69,7 +70,7 @@ pub record EndsAtClose (file : List ℕ) (input old new : Option Text) (fault : 
 
 -- the subcommand has this fault, and no more is printed than it prints before, and this at the end
 abbrev pub EndsRefused : Order → List ℕ → Option Text → Option Text → Option Text → Fault → Text → Type 0
-EndsRefused (Format name wide slots places window) file input old new fault ended = IsFormatFault wide slots places window fault × Appends old new ended
+EndsRefused (Format name width slots places window) file input old new fault ended = IsFormatFault width slots places window fault × Appends old new ended
 EndsRefused (Run name) file input old new fault ended =
     (IsFileFault file IsOpeningFault fault × Appends old new ended) ⊎ EndsAtClose file input old new fault ended
 EndsRefused (Check name) file input old new fault ended = IsFileFault file IsDamage fault × Appends old new ended

@@ -124,13 +124,13 @@ fn obey<T: Threads + Wait + Copy + Drop + Send + Sync + 'static, R: Read, W: Wri
 {
     match *order {
         Order::Format {
-            wide,
+            width,
             slots,
             places,
             window,
             ..
         } => {
-            let geometry = match asked_geometry(wide, slots, places, window) {
+            let geometry = match asked_geometry(width, slots, places, window) {
                 Ok(geometry) => geometry,
                 Err(fault) => return Err(Stop::Refused(fault)),
             };

@@ -1,10 +1,10 @@
 -- What the steps of a commit come to.
-use Rattle.std.proofs.Common.{◌≡◌, ℕ, ◌+◌, Bool, true, false, cond, List, [], ◌∷◌, ◌++◌, Option, Some, None, refl, sym, ◌∙◌, ap, subst, arith}
+use Rattle.std.proofs.Common.{◌≡◌, ℕ, zero, suc, ◌+◌, length, length-append, Bool, true, false, cond, List, [], ◌∷◌, ◌++◌, Option, Some, None, refl, sym, ◌∙◌, ap, subst, arith}
 use Rattle.std.specs.Prelude.{⊤, map, replicate, Result, Ok, Err, IsTrue, is_some}
-use Rattle.std.proofs.lemmas.List.{map_push, replicate_more, length_push}
+use Rattle.std.proofs.lemmas.List.{map_push, map-append, replicate_more, length_push}
 use Rattle.base.specs.declared.fault.Fault.{Fault}
 use Rattle.base.specs.declared.step.Step.{Step}
-use Rattle.base.specs.declared.step.Step.TheVariants.{Draw, Stamp, Poll, End}
+use Rattle.base.specs.declared.step.Step.TheVariants.{Draw, Stamp, Poll, End, Collect}
 use Rattle.base.specs.declared.step.Reply.{Reply}
 use Rattle.base.specs.declared.step.Reply.TheVariants.{Done, More, Drawn as DrewAs}
 use Rattle.base.specs.Commits.{Writes}
@@ -15,7 +15,7 @@ use Rattle.pmem.specs.Device.{Device, IsOrderly}
 use Rattle.pmem.specs.declared.device.Pmem.{Ghosts}
 use Rattle.room.specs.declared.room.Room.{Room}
 use Rattle.room.specs.Room.{Leads}
-use Rattle.room.specs.Runs.{LeadsAlong}
+use Rattle.room.specs.Runs.{LeadsAlong, visited_from}
 use Rattle.room.proofs.Runs.{leads-none, leads-one, leads-join}
 use Rattle.database.specs.Replies.{committed_of, drawn_of, stamped_of}
 use Rattle.database.specs.declared.opened.OpenedRoom.{OpenedRoom}
@@ -71,6 +71,32 @@ pub times-then : {D : Type 0} → {G : Ghosts D} → (state : D → Device) (old
 unfolding repeats-then
 times-then state old mid new step count reply (replies, many, repeats) leads =
     let a = repeats-then state old mid new step reply (replies, repeats) leads in (a.0, length_push replies reply ∙ ap (λ (n : ℕ). n + 1) many, a.1)
+
+-- this many after that many
+pub times-join : {D : Type 0} → {G : Ghosts D} → (state : D → Device) (old mid new : Room D G) (step : Step) (count more : ℕ)
+    → RepeatsTimes state old mid step count → RepeatsTimes state mid new step more → RepeatsTimes state old new step (count + more)
+times-join state old mid new step count more (replies, many, repeats) (others, much, rest) = (
+  replies ++ others,
+  length-append replies others ∙ (λ i. many i + much i),
+  rw (map-append (of_step step) replies others) (leads-join state old mid new (map (of_step step) replies) (map (of_step step) others) repeats rest),
+)
+
+pub repeats-times : {D : Type 0} → {G : Ghosts D} → (state : D → Device) (old new : Room D G) (step : Step) (count : ℕ) → RepeatsTimes state old new step count → Repeats state old new step
+repeats-times state old new step count (replies, many, repeats) = (replies, repeats)
+
+pub repeats-join : {D : Type 0} → {G : Ghosts D} → (state : D → Device) (old mid new : Room D G) (step : Step) (more : ℕ)
+    → Repeats state old mid step → RepeatsTimes state mid new step more → Repeats state old new step
+repeats-join state old mid new step more (replies, repeats) (others, much, rest) =
+    (replies ++ others, rw (map-append (of_step step) replies others) (leads-join state old mid new (map (of_step step) replies) (map (of_step step) others) repeats rest))
+
+-- visits that passed
+pub visits-times : {D : Type 0} → {G : Ghosts D} → (state : D → Device) (old new : Room D G) (slot count : ℕ)
+    → LeadsAlong state old new (map (of_step Collect) (visited_from slot count)) → RepeatsTimes state old new Collect count
+visits-times state old new slot count leads = (visited_from slot count, so_many slot count, leads)
+  where
+    so_many : (slot count : ℕ) → length (visited_from slot count) ≡ count
+    so_many slot zero = refl
+    so_many slot (suc count) = let rest = so_many (slot + 1) count in omega (arith, rest)
 
 -- what is returned may be named otherwise
 pub obeys-as : {D A : Type 0} → {G : Ghosts D} → (state : D → Device) (old new : Room D G) (step : Step) (read : Reply → Result A Fault) (result other : Result A Fault)

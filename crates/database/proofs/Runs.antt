@@ -30,6 +30,10 @@ pub run-led : {D : Type 0} {G : Ghosts D} {ended : Option Fault} (state : D → 
 run-led {D} {G} {ended} state old new step reply run leads =
     taken-led state old new ((step, reply) ∷ []) (EndedAlong ended) (EndedAlong ended) run (leads-one state old new step reply leads) (λ taken along. ended-more ended taken ((step, reply) ∷ []) along)
 
+pub run-led-along : {D : Type 0} {G : Ghosts D} {ended : Option Fault} (state : D → Device) (old new : Room D G) (more : List (Step × Reply))
+    → ∥ HasTaken state old (EndedAlong ended) ∥₁ → LeadsAlong state old new more → ∥ HasTaken state new (EndedAlong ended) ∥₁
+run-led-along {D} {G} {ended} state old new more run leads = taken-led state old new more (EndedAlong ended) (EndedAlong ended) run leads (λ taken along. ended-more ended taken more along)
+
 -- the steps that the room makes end a run in which the committer has ended
 pub ends-once-ended : {D : Type 0} {G : Ghosts D} {ended : Option Fault} (state : D → Device) (old new : Room D G) (fault : Fault) (taken : List (Step × Reply)) (Fact : List (Step × Reply) → Type 0)
     → ∥ HasTaken state old (EndedAlong ended) ∥₁ → ended ≡ Some fault → LeadsAlong state old new taken → Fact taken → EndsOnceEnded fault Fact

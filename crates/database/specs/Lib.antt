@@ -6,3 +6,4 @@ pub mod Committing
 pub mod Ticking
 pub mod Closing
 pub mod Reports
+pub mod Reads

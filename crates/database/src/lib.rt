@@ -22,6 +22,7 @@ mod error;
 mod group;
 mod leading;
 mod opened;
+mod reading;
 mod steps;
 mod transaction;
 mod turns;
@@ -30,4 +31,5 @@ mod workers;
 
 pub use database::{Database, Refused, Report};
 pub use error::CommitError;
+pub use room::Page;
 pub use transaction::Transaction;

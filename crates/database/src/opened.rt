@@ -25,7 +25,7 @@ pub struct OpenedRoom<D: Pmem> {
 }
 
 impl<D: Pmem + Drop> OpenedRoom<D> {
-    ghost use Rattle.std.specs.Prelude.{◌≡◌, ◌≢◌, ◌-◌, None, Some, IsSome, Ok, Err};
+    ghost use Rattle.std.specs.Prelude.{◌≡◌, ◌≢◌, ◌≤◌, ◌-◌, None, Some, IsSome, Ok, Err};
     ghost use Rattle.base.specs.declared.fault.Fault.TheVariants.{OutOfMemory};
     ghost use Rattle.base.specs.declared.step.Step.TheVariants.{Commit, Collect};
     ghost use Rattle.machine.specs.Machine.{State};
@@ -35,6 +35,7 @@ impl<D: Pmem + Drop> OpenedRoom<D> {
     ghost use Rattle.room.specs.Room.{Leads, Shows, ShowsStatus, covered_by};
     ghost use Rattle.room.specs.Runs.{ComesTo};
     ghost use Rattle.room.specs.Usage.{ShowsUsage};
+    ghost use Rattle.database.specs.Obeys.{RepeatsTimes};
     ghost use Rattle.database.specs.Opening.{IsFresh};
     ghost use Rattle.database.specs.Reports.{ShowsReport};
 
@@ -71,6 +72,17 @@ impl<D: Pmem + Drop> OpenedRoom<D> {
         ensures ended { self.new.ended ≡ self.old.ended }
     {
         self.room.collect()
+    }
+
+    /// Visits of the collector that change nothing, made at once, this many at most. Returns how many.
+    pub fn pass(&mut self, most: u64) -> u64
+        // The room makes exactly as many visits as are returned, and no other step.
+        ensures visits { RepeatsTimes D.state self.old.room self.new.room Collect result }
+        ensures most { result ≤ most }
+
+        ensures ended { self.new.ended ≡ self.old.ended }
+    {
+        self.room.pass(most)
     }
 
     /// The layout of the device.

@@ -2,7 +2,7 @@
 //! take an `OpenedRoom`, so that no step is lost from the run that it carries. Whether and why the committer has ended stays as
 //! it was (`ended`).
 
-ghost use Rattle.std.specs.Prelude.{◌≡◌};
+ghost use Rattle.std.specs.Prelude.{◌≡◌, ◌<◌, ◌≤◌};
 ghost use Rattle.base.specs.Steps.{as_reply};
 ghost use Rattle.session_steps.specs.Replies.{polled as polled_reply};
 ghost use Rattle.base.specs.declared.step.Step.TheVariants.{Begin, Get, Scan, Put, Delete, Draw, Stamp, Poll, Abort, End, Collect};
@@ -131,7 +131,24 @@ pub fn collect<D: Pmem + Drop>(room: &mut OpenedRoom<D>, places: u64)
     ensures visits { RepeatsTimes D.state room.old.room room.new.room Collect places }
     ensures ended { room.new.ended ≡ room.old.ended }
 {
-    for _made in 0..places {
-        let _ = room.visit();
+    let mut left = places;
+    while left > 0 {
+        left -= visit_next(room, left);
     }
+}
+
+// Visits this many places at most: those whose visits change nothing, and one more. Returns how many.
+fn visit_next<D: Pmem + Drop>(room: &mut OpenedRoom<D>, most: u64) -> u64
+    requires some { 0 < most }
+    ensures visits { RepeatsTimes D.state room.old.room room.new.room Collect result }
+    ensures some { 0 < result }
+    ensures most { result ≤ most }
+    ensures ended { room.new.ended ≡ room.old.ended }
+{
+    let passed = room.pass(most);
+    if passed == most {
+        return passed;
+    }
+    let _ = room.visit();
+    passed + 1
 }

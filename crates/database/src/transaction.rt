@@ -21,9 +21,9 @@ use sync_ahead::SyncAhead;
 
 /// Reads and writes of one snapshot. A drop aborts it. A commit and an abort take it apart, so no drop aborts it a second time.
 pub struct Transaction<'a, D: Pmem + Drop, R: Wait> {
-    rt: &'a R,
-    shared: &'a Arc<Shared<D>, Global>,
-    session: u8,
+    pub(crate) rt: &'a R,
+    pub(crate) shared: &'a Arc<Shared<D>, Global>,
+    pub(crate) session: u8,
 }
 
 impl<D: Pmem + Drop, R: Wait> Drop for Transaction<'_, D, R> {

@@ -1,5 +1,5 @@
 //! A turn of a worker under the desk's lock. One of the committer has all ticks of its cycle, so a group costs one turn, and it
-//! releases the lock for the sync alone. One of the collector has a fourth of a round's visits, so that sessions get in
+//! releases the lock for the sync alone. One of the collector has a fourth of a round's visits at most, so that sessions get in
 //! between.
 
 ghost use Rattle.std.specs.Prelude.{◌≡◌, ◌-◌, ◌^◌, min, IsTrue, is_some};
@@ -23,8 +23,8 @@ use sync_ahead::SyncAhead;
 // lines.
 const TICKS: u64 = 8_192;
 
-// A turn of the collector makes a fourth of a round's visits, within these limits. So a few turns end a round, however many threads
-// wait for the lock, and sessions get in between.
+// A turn of the collector makes a fourth of a round's visits, within these limits, besides those that change nothing. So a few turns end a
+// round, however many threads wait for the lock, and sessions get in between.
 const LEAST_VISITS: u64 = 64;
 
 const MOST_VISITS: u64 = 1_024;
@@ -91,6 +91,7 @@ fn visit_some<D: Pmem + Drop>(room: &mut OpenedRoom<D>) -> Turn
 {
     let visits = (room.geometry().slots() / 4).clamp(LEAST_VISITS, MOST_VISITS);
     for _ in 0..visits {
+        let _ = room.pass(u64::MAX);
         match room.visit() {
             Ok(Visit::SweepEnd) => return Turn::Finished,
             Ok(Visit::Slot(_)) => {}

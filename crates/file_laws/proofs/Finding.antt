@@ -1,5 +1,5 @@
 -- What may be found of such a device is an image of an earlier moment with the gates of now.
-use Rattle.std.proofs.Common.{◌≡◌, ◌⊎◌, ℕ, ◌+◌, ◌*◌, ◌%◌, ◌<◌, true, false, ◌&&◌, List, [], ◌==◌, subst, arith, nat_lt}
+use Rattle.std.proofs.Common.{◌≡◌, ◌⊎◌, ℕ, ◌+◌, ◌*◌, ◌%◌, ◌<◌, true, false, ◌&&◌, List, [], ◌==◌, sym, ◌∙◌, ap, subst, arith, nat_lt}
 use Rattle.std.specs.Prelude.{slice_index}
 use Rattle.std.proofs.Math.Logic.{∥∥₁_map}
 use Rattle.std.proofs.lemmas.Bool.{and_from, cases_lt, or_left, or_right, eq-eqb, lt-ltb}
@@ -9,24 +9,26 @@ use Rattle.base.specs.Fresh.{fresh_image}
 use Rattle.base.specs.Images.{Image, is_formatted}
 use Rattle.base.specs.declared.step.Step.{Step}
 use Rattle.base.specs.declared.step.Reply.{Reply}
-use Rattle.machine.specs.Machine.{State, final, StandsAt, StandsWithin, StandsClosing, StandsClosed}
-use Rattle.pmem.specs.Device.{Device, MayLeave, MightHaveLeft, IsOrderly}
+use Rattle.machine.specs.Machine.{State, Cover, closed, covers_at, covers_closing, final, StandsAsOne, StandsUnder, StandsAt, StandsWithin, StandsClosing, StandsClosed}
+use Rattle.machine.proofs.openings.States.{whole-of}
+use Rattle.pmem.specs.Device.{Device, LeftAt, MayLeave, MightHaveLeft, IsOrderly}
 use Rattle.machine.specs.Openings.{OpensAs, StandsOpening}
 use Rattle.pmem.specs.Words.{Survives, Continues, LeavesOnly, image_of}
 use Rattle.pmem.specs.declared.device.Pmem as pmem
-use Rattle.pmem.proofs.Images.{continues_refl, grows, left_before, left_still}
+use Rattle.pmem.proofs.Images.{continues_refl, grows, left_before, left_now, left_still}
+use Rattle.device_invariant.proofs.reads.Images.{leaves-image}
 use Rattle.journal.specs.declared.images.Images.{Ghosts}
 use Rattle.pmem_file.specs.Devices.{state_of}
 use Rattle.pmem_file.specs.Journaled.{is_gate}
 use Rattle.pmem_file.specs.Orderly.{orderly_of}
 use Rattle.pmem_file.specs.declared.journaled.JournaledPmem.{JournaledPmem}
+use Rattle.pmem_file.proofs.Named.{names-own}
 use Rattle.room.specs.declared.room.Room.{Room}
 use Rattle.recovery.specs.Fresh.{IsFormatting}
 use Rattle.room.specs.Room.{Shows, StepsTo, device_of}
 use Rattle.room.proofs.Runs.{run-none}
-use Rattle.file_laws.specs.Found.{IsFound, ComesFrom, RunsSince}
+use Rattle.file_laws.specs.Found.{IsFound, ComesFrom, RunsSince, covers_within}
 use Rattle.file_laws.proofs.FoundRuns.{found-now, found-within, found-closing, found-closed, comes-opened, comes-formatted}
-use Rattle.file_laws.specs.Finding.{HasPlaces}
 
 -- the superblock's words, and the first word of each place
 head : (places word : ℕ) → word < 8 → is_gate places word ≡ true
@@ -84,32 +86,57 @@ module _ {I P : Type 0} {H : Ghosts I P} where
       (comes-formatted (state_of unformatted) (state_of device) (device_of state_of room) layout history lost q nothing formats fresh opens leaves.continues
       (comes-opened (state_of device) (device_of state_of room) history next lost q opens leaves))
 
+  -- ---- it has the places of the layout
+
+  -- an image that stands for the state names them
+  named-under : (device : JournaledPmem I P H) (q : State) (cover : Cover) → StandsUnder q cover (image_of (state_of device)) → device.places ≡ q.layout.places
+  named-under device q cover under =
+      sym (names-own device (whole-of (image_of (state_of device)) under.stands.sound).formatted) ∙ ap (λ (l : Layout). l.places) under.laid_out
+
+  named-one : (device : JournaledPmem I P H) (q : State) (covers : List Cover) → StandsAsOne q covers (image_of (state_of device)) → device.places ≡ q.layout.places
+  named-one device q covers (cover, is, under) = named-under device q cover under
+
+  -- what it holds last is left at its moment, also by what it becomes
+  last-left : (device : JournaledPmem I P H) (later : Device) → Continues (state_of device) later → LeftAt later (state_of device).clock (image_of (state_of device))
+  last-left device later continues = left_still {old = state_of device} (state_of device).clock continues (omega arith) (left_now (orderly device) (leaves-image (state_of device) (orderly device)))
+
+  last-meanwhile : (device : JournaledPmem I P H) (before later : Device) → Continues before (state_of device) → Continues (state_of device) later → MightHaveLeft later before.clock (image_of (state_of device))
+  last-meanwhile device before later from to = record { moment = (state_of device).clock; from = from.later; to = to.later; left = last-left device later to }
+
   -- of what the device becomes it is found at that moment
-  found-of : (device : JournaledPmem I P H) (later : Device) (q : State) (since : ℕ) (image : Image) → HasPlaces device q → Continues (state_of device) later → Found device since image
+  found-of : (device : JournaledPmem I P H) (later : Device) (q : State) (since : ℕ) (image : Image) → device.places ≡ q.layout.places → Continues (state_of device) later → Found device since image
       → ∥ IsFound q.layout later 0 (state_of device).clock image ∥₁
   found-of device later q since image places continues found =
       ∥∥₁_map found.left (λ might. is-found q.layout device.places (state_of device) later since image places (orderly device) continues found.gates might)
 
   module _ {G : pmem.Ghosts (JournaledPmem I P H)} (first next last : Room (JournaledPmem I P H) G) (found : JournaledPmem I P H) (since : ℕ) (steps : List Step) (replies : List Reply) (q : State) (states : List State) (image : Image) where
-    pub found-between : RunsSince state_of first last 0 steps replies q states → state_of found ≡ device_of state_of last → HasPlaces found (final q states) → Found found since image → ∥ StandsAt (final q states) image ∥₁
-    found-between runs same places is =
+    pub found-between : RunsSince state_of first last 0 steps replies q states → state_of found ≡ device_of state_of last → Found found since image → ∥ StandsAt (final q states) image ∥₁
+    found-between runs same is =
+        let left = subst (λ (d : Device). MayLeave d (image_of (state_of found))) same (leaves-image (state_of found) (orderly found)) in
+        let one = runs.runs.shows.stands (image_of (state_of found)) left in
+        let places = named-one found (final q states) (covers_at (final q states)) one in
         ∥∥₁_map (found-of found (state_of found) (final q states) since image places (continues_refl (state_of found)) is) (λ one.
         found-now state_of first last 0 steps replies q states image (subst IsOrderly same (orderly found)) runs.shows runs.comes runs.runs
         (subst (λ (d : Device). IsFound (final q states).layout d 0 d.clock image) same one))
 
     pub found-meanwhile : (step : Step) (reply : Reply) (q' : State) → RunsSince state_of first next 0 steps replies q states → StepsTo state_of next last step reply (final q states) q'
-        → Continues (device_of state_of next) (state_of found) → Continues (state_of found) (device_of state_of last) → HasPlaces found (final q states) → Found found since image → ∥ StandsWithin (final q states) q' image ∥₁
-    found-meanwhile step reply q' runs one before after places is =
+        → Continues (device_of state_of next) (state_of found) → Continues (state_of found) (device_of state_of last) → Found found since image → ∥ StandsWithin (final q states) q' image ∥₁
+    found-meanwhile step reply q' runs one before after is =
+        let stands = one.effect.images.each (image_of (state_of found)) (last-meanwhile found (device_of state_of next) (device_of state_of last) before after) in
+        let places = named-one found (final q states) (covers_within (final q states) q') stands in
         ∥∥₁_map (found-of found (device_of state_of last) (final q states) since image places after is) (λ here.
         found-within state_of first next last 0 (state_of found).clock steps replies step reply q states q' image runs.shows runs.comes runs.runs one before.later after.later here)
 
     module _ (device : JournaledPmem I P H) (runs : RunsSince state_of first last 0 steps replies q states) (leaves : LeavesOnly (device_of state_of last) (state_of device) (StandsClosing (final q states))) where
-      pub found-in-close : Continues (device_of state_of last) (state_of found) → Continues (state_of found) (state_of device) → HasPlaces found (final q states) → Found found since image → ∥ StandsClosing (final q states) image ∥₁
-      found-in-close before after places is =
+      pub found-in-close : Continues (device_of state_of last) (state_of found) → Continues (state_of found) (state_of device) → Found found since image → ∥ StandsClosing (final q states) image ∥₁
+      found-in-close before after is =
+          let stands = leaves.each (image_of (state_of found)) (last-meanwhile found (device_of state_of last) (state_of device) before after) in
+          let places = named-one found (final q states) (covers_closing (final q states)) stands in
           ∥∥₁_map (found-of found (state_of device) (final q states) since image places after is) (λ here.
           found-closing state_of first last (state_of device) 0 (state_of found).clock steps replies q states image runs.shows runs.comes runs.runs leaves before.later after.later here)
 
-      pub found-after-close : ((other : Image) → MayLeave (state_of device) other → StandsClosed (final q states) other) → HasPlaces device (final q states) → Found device since image → ∥ StandsClosed (final q states) image ∥₁
-      found-after-close stands places is =
+      pub found-after-close : ((other : Image) → MayLeave (state_of device) other → StandsClosed (final q states) other) → Found device since image → ∥ StandsClosed (final q states) image ∥₁
+      found-after-close stands is =
+          let places = named-under device (final q states) (closed (final q states)) (stands (image_of (state_of device)) (leaves-image (state_of device) (orderly device))) in
           ∥∥₁_map (found-of device (state_of device) (final q states) since image places (continues_refl (state_of device)) is) (λ here.
           found-closed state_of first last (state_of device) 0 steps replies q states image (orderly device) runs.shows runs.comes runs.runs leaves stands here)

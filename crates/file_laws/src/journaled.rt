@@ -5,7 +5,6 @@ ghost use Rattle.base.specs.Images.{Image, is_formatted};
 ghost use Rattle.base.specs.Layout.{Layout};
 ghost use Rattle.base.specs.declared.step.Reply.{Reply};
 ghost use Rattle.base.specs.declared.step.Step.{Step};
-ghost use Rattle.file_laws.specs.Finding.{HasPlaces};
 ghost use Rattle.machine.specs.Machine.{State, StandsAt, StandsClosed, StandsClosing, StandsWithin, final};
 ghost use Rattle.machine.specs.Openings.{OpensAs, StandsOpening};
 ghost use Rattle.pmem.specs.Device.{Device, MayLeave};
@@ -50,12 +49,12 @@ pub fn journaled_images_stand<I: Images>(
     // `found`, as `Room::step` says.
     ensures now { (steps : List Step) (replies : List Reply) (q : State) (states : List State) (image : Image)
         → RunsSince state_of first.now last.now 0 steps replies q states
-        → state_of found.now ≡ device_of state_of last.now → HasPlaces found.now (final q states)
+        → state_of found.now ≡ device_of state_of last.now
         → MayFind I.may_hold found.now image
         → ∥ StandsAt (final q states) image ∥₁ }
     ensures within { (steps : List Step) (replies : List Reply) (step : Step) (reply : Reply) (q q' : State) (states : List State) (image : Image)
         → RunsSince state_of first.now next.now 0 steps replies q states → StepsTo state_of next.now last.now step reply (final q states) q'
-        → Continues (device_of state_of next.now) (state_of found.now) → Continues (state_of found.now) (device_of state_of last.now) → HasPlaces found.now (final q states)
+        → Continues (device_of state_of next.now) (state_of found.now) → Continues (state_of found.now) (device_of state_of last.now)
         → MayFind I.may_hold found.now image
         → ∥ StandsWithin (final q states) q' image ∥₁ }
 {
@@ -73,14 +72,13 @@ pub fn journaled_images_stand_at_a_close<I: Images>(
     ensures meanwhile { (steps : List Step) (replies : List Reply) (q : State) (states : List State) (image : Image)
         → RunsSince state_of first.now last.now 0 steps replies q states
         → LeavesOnly (device_of state_of last.now) (state_of device.now) (StandsClosing (final q states))
-        → Continues (device_of state_of last.now) (state_of found.now) → Continues (state_of found.now) (state_of device.now) → HasPlaces found.now (final q states)
+        → Continues (device_of state_of last.now) (state_of found.now) → Continues (state_of found.now) (state_of device.now)
         → MayFind I.may_hold found.now image
         → ∥ StandsClosing (final q states) image ∥₁ }
     ensures after { (steps : List Step) (replies : List Reply) (q : State) (states : List State) (image : Image)
         → RunsSince state_of first.now last.now 0 steps replies q states
         → LeavesOnly (device_of state_of last.now) (state_of device.now) (StandsClosing (final q states))
         → ((other : Image) → MayLeave (state_of device.now) other → StandsClosed (final q states) other)
-        → HasPlaces device.now (final q states)
         → MayFind I.may_hold device.now image
         → ∥ StandsClosed (final q states) image ∥₁ }
 {

@@ -4,11 +4,13 @@ use Rattle.std.proofs.Common.{inl, inr}
 use Rattle.byteorder.specs.Endian.{little_number}
 
 -- A call. Writing: from a word on, a number of words, which are the first of these bytes; whether it succeeded. Syncing: whether it
--- succeeded. Sizing: how many words the file was to have; whether it succeeded.
+-- succeeded. Sizing: how many words the file was to have; whether it succeeded. Stopping: the process or the machine stopped, and the
+-- file was opened again.
 pub data Call : Type 0 where
   Writing : ℕ → ℕ → List ℕ → Bool → Call
   Syncing : Bool → Call
   Sizing : ℕ → Bool → Call
+  Stopping : Call
 
 -- a word as it was written last, or as it may be found once all has stopped
 pub data View : Type 0 where
@@ -29,8 +31,8 @@ IsOutside start count word = (word < start) ⊎ (start + count ≤ word)
 
 -- What a word may be after these calls, the last one first, if `before` says what it might be when the file was opened. A write that failed
 -- may have written any of its words. After a sync that failed each word may still be as it might be found before, and also when it is read:
--- the system may take for written what the disk does not have. So only writing again narrows what it may be. A change of the length leaves
--- each word before the new end as it was; behind it a word may be anything.
+-- the system may take for written what the disk does not have. So only writing again narrows what it may be. It is the same after a stop. A
+-- change of the length leaves each word before the new end as it was; behind it a word may be anything.
 -- Excluded: a sync that isn't made and counts as one; a write that is left out.
 abbrev pub HasAfter : (ℕ → ℕ → Type 0) → View → List Call → ℕ → ℕ → Type 0
 HasAfter before view [] word x = before word x
@@ -40,6 +42,7 @@ HasAfter before Held (Writing start count bytes ok ∷ calls) word x = HasAfter 
 HasAfter before view (Syncing true ∷ calls) word x = HasAfter before Shown calls word x
 HasAfter before view (Syncing false ∷ calls) word x = HasAfter before Held calls word x
 HasAfter before view (Sizing count ok ∷ calls) word x = (count ≤ word) ⊎ HasAfter before view calls word x
+HasAfter before view (Stopping ∷ calls) word x = HasAfter before Held calls word x
 
 -- what was written last may be found. (A law of an impl may cite lemmas of specs/ alone.)
 pub shown_is_held : (before : ℕ → ℕ → Type 0) (calls : List Call) (word x : ℕ) → HasAfter before Shown calls word x → HasAfter before Held calls word x
@@ -52,3 +55,4 @@ shown_is_held before (Syncing true ∷ calls) word x shown = shown
 shown_is_held before (Syncing false ∷ calls) word x held = held
 shown_is_held before (Sizing count ok ∷ calls) word x (inl behind) = inl behind
 shown_is_held before (Sizing count ok ∷ calls) word x (inr shown) = inr (shown_is_held before calls word x shown)
+shown_is_held before (Stopping ∷ calls) word x held = held

@@ -1,14 +1,16 @@
-ghost use Rattle.std.specs.Prelude.{◌≡◌, [], ◌∷◌};
-ghost use Rattle.file_words.specs.Accounts.{Sizing, Syncing, Writing};
-ghost use Rattle.file_words.specs.Calls.{calls_of};
+ghost use Rattle.std.specs.Prelude.{◌≡◌, ◌↔◌, ℕ, [], ◌∷◌};
+ghost use Rattle.file_words.specs.Accounts.{Sizing, Stopping, Syncing, Writing};
+ghost use Rattle.file_words.specs.Calls.{calls_of, held_by, shown_by};
 
 use std::snapshot::Snapshot;
 
-/// The calls that wrote to a file, synced it or changed its length, since it was opened. It takes one byte, since clauses alone read
-/// the rest.
+/// The calls that wrote to a file, synced it or changed its length, since it was opened, and in each life before of which that is
+/// known. It takes one byte, since clauses alone read the rest.
 #[derive(Drop)]
 pub enum Account {
     Begun,
+    /// The last life of the file stopped with this account.
+    After(Snapshot<Account>),
     /// The first word, how many words were written, the bytes that begin with them, and whether the write succeeded.
     Wrote(Snapshot<Account>, Snapshot<usize>, Snapshot<usize>, Snapshot<Vec<u8>>, Snapshot<bool>),
     /// Whether the sync succeeded.
@@ -18,11 +20,22 @@ pub enum Account {
 }
 
 impl Account {
-    /// Of a file on which no call was made.
+    /// Of a file of which nothing is known.
     pub(crate) fn begun() -> Account
         ensures { calls_of result ≡ [] }
     {
         Account::Begun
+    }
+
+    /// Of a file whose last life stopped with this account.
+    pub fn after(last: &Account) -> Account
+        ensures calls { calls_of result ≡ Stopping ∷ calls_of last.now }
+
+        // Each word may be what it may be by that account, and nothing else.
+        ensures held { (word x : ℕ) → held_by result word x ↔ held_by last.now word x }
+        ensures shown { (word x : ℕ) → shown_by result word x ↔ held_by last.now word x }
+    {
+        Account::After(Snapshot::of(last))
     }
 
     /// Adds a write of `count` words, which are the first of these bytes.

@@ -27,18 +27,31 @@ pub struct WordFile {
 impl WordFile {
     ghost use Rattle.std.specs.Prelude.{◌≡◌, ◌⊎◌, ℕ, ◌+◌, ◌-◌, ◌*◌, ◌<◌, ◌≤◌, [], ◌∷◌, length, slice_index, is_ok, IfOk, OnOk};
     ghost use Rattle.journal.specs.Files.{IsInRun};
-    ghost use Rattle.file_words.specs.Accounts.{Sizing, Syncing, Writing};
+    ghost use Rattle.file_words.specs.Accounts.{Sizing, Stopping, Syncing, Writing};
     ghost use Rattle.file_words.specs.Calls.{IsCutTo, account_of, calls_of, held_by, shown_by};
 
     /// A file on which no call was made yet, and of which nothing is known.
     pub fn new(alloc: Global, file: File) -> io::Result<WordFile>
         ensures { IfOk result (λ made. calls_of (account_of made) ≡ []) }
     {
+        WordFile::with_account(alloc, file, Account::begun())
+    }
+
+    /// A file whose last life stopped with this account. It is trusted of the caller that it is the same file.
+    pub fn after(alloc: Global, file: File, last: &Account) -> io::Result<WordFile>
+        ensures { IfOk result (λ made. calls_of (account_of made) ≡ Stopping ∷ calls_of last.now) }
+    {
+        WordFile::with_account(alloc, file, Account::after(last))
+    }
+
+    fn with_account(alloc: Global, file: File, account: Account) -> io::Result<WordFile>
+        ensures { IfOk result (λ made. made.account ≡ account) }
+    {
         let bytes = Vec::from_elem(alloc, 0, MOST_WORDS * WORD_BYTES)?;
         Ok(WordFile {
             file,
             bytes,
-            account: Account::begun(),
+            account,
         })
     }
 

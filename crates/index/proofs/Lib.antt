@@ -5,3 +5,4 @@ pub mod Lookups
 pub mod Bounds
 pub mod Ways
 pub mod LiveKeys
+pub mod Reaching

@@ -40,6 +40,29 @@ same-key k j x y same = ap (λ (o : Option (Key × Entry)). (unwrap_or o (k, x))
 pub updated-out : (old new : Places) (key : Key) → ((k : Key) → lookup (is_at (key_cmp k)) new ≡ cond (is_at (key_cmp key) k) None (lookup (is_at (key_cmp k)) old)) → (k : Key) → lookup_key new k ≡ cond (key_eq key k) None (lookup_key old k)
 updated-out old new key updates k = looked-up new k ∙ updates k ∙ (λ i. cond (is_at-key key k i) None (sym (looked-up old k) i))
 
+-- the place of the key goes to another one
+pub given : (old left new : Places) (key moved : Key) (place : ℕ) → lookup_key old key ≡ Some place → key_eq moved key ≡ false
+    → ((k : Key) → lookup_key left k ≡ cond (key_eq key k) None (lookup_key old k)) → ((k : Key) → lookup_key new k ≡ cond (key_eq moved k) (Some place) (lookup_key left k))
+    → (k : Key) → lookup_key new k ≡ cond (key_eq key k) None (cond (key_eq moved k) (lookup_key old key) (lookup_key old k))
+given old left new key moved place found apart out more k = by (key_eq key k) refl (key_eq moved k) refl
+  where
+    by : (b : Bool) → key_eq key k ≡ b → (c : Bool) → key_eq moved k ≡ c → lookup_key new k ≡ cond b None (cond c (lookup_key old key) (lookup_key old k))
+    by true is true same = absurd (true≢false (sym (ap (key_eq moved) (key_eq-true key k is) ∙ same) ∙ apart))
+    by true is false other = more k ∙ ap (λ (c : Bool). cond c (Some place) (lookup_key left k)) other ∙ out k ∙ ap (λ (b : Bool). cond b None (lookup_key old k)) is
+    by false off true same = more k ∙ ap (λ (c : Bool). cond c (Some place) (lookup_key left k)) same ∙ sym found
+    by false off false other = more k ∙ ap (λ (c : Bool). cond c (Some place) (lookup_key left k)) other ∙ out k ∙ ap (λ (b : Bool). cond b None (lookup_key old k)) off
+
+-- to none, if it is the key itself that would move there
+pub given-none : (old left : Places) (key moved : Key) → key_eq moved key ≡ true → ((k : Key) → lookup_key left k ≡ cond (key_eq key k) None (lookup_key old k))
+    → (k : Key) → lookup_key left k ≡ cond (key_eq key k) None (cond (key_eq moved k) (lookup_key old key) (lookup_key old k))
+given-none old left key moved one out k = by (key_eq key k) refl
+  where
+    by : (b : Bool) → key_eq key k ≡ b → lookup_key left k ≡ cond b None (cond (key_eq moved k) (lookup_key old key) (lookup_key old k))
+    by true is = out k ∙ ap (λ (b : Bool). cond b None (lookup_key old k)) is
+    by false off =
+        let other : key_eq moved k ≡ false = ap (λ (j : Key). key_eq j k) (key_eq-true moved key one) ∙ off in
+        out k ∙ ap (λ (b : Bool). cond b None (lookup_key old k)) off ∙ sym (ap (λ (c : Bool). cond c (lookup_key old key) (lookup_key old k)) other)
+
 module _ (places : Places) (entries : Entries) (placed : ArePlaced places entries) where
   pub unique : (k : Key) (p r : ℕ) (x y : Entry) → slice_get entries p ≡ Some (k, x) → slice_get entries r ≡ Some (k, y) → p ≡ r
   unique k p r x y a b = let one : Some p ≡ Some r = sym (placed.once k p x a) ∙ placed.once k r y b in cc one

@@ -2,7 +2,7 @@ ghost use Rattle.std.specs.Prelude.{◌<◌};
 
 use crate::entry::KeyedEntry;
 use base::key::Key;
-use std::alloc::AllocError;
+use std::alloc::{AllocError, Global};
 
 // Places at which the entries of keys may be, each under a remainder of its key's numbers. A hint needn't be right: keys that
 // share a remainder only cost a search by the order of keys.
@@ -20,25 +20,45 @@ fn spot(key: Key, count: usize) -> usize
 
 /// The place at which the key's entry may be.
 #[inline(always)]
-pub(crate) fn hint_for(hints: &[usize], key: Key) -> Option<usize> {
+pub(crate) fn hint_for(hints: &[u32], key: Key) -> Option<usize> {
     if hints.is_empty() {
         return None;
     }
-    Some(hints[spot(key, hints.len())])
+    Some(hints[spot(key, hints.len())] as usize)
 }
 
 /// The key's entry is at this place.
 #[inline(always)]
-pub(crate) fn note(hints: &mut [usize], key: Key, place: usize) {
+pub(crate) fn note(hints: &mut [u32], key: Key, place: usize) {
     if !hints.is_empty() {
         let at = spot(key, hints.len());
-        hints[at] = place;
+        // A greater place isn't in its hint, which costs a search.
+        hints[at] = (place % (1 << 32)) as u32;
+    }
+}
+
+/// Hints of where these entries are, half as many again as there may be keys.
+pub(crate) fn hints_of(
+    alloc: Global,
+    keys: usize,
+    entries: &[KeyedEntry],
+) -> Result<Vec<u32>, AllocError> {
+    let count = keys.saturating_add(keys / 2).saturating_add(FEWEST);
+    let mut hints = vec![in alloc; 0; count]?;
+    note_all(hints.as_mut_slice(), entries);
+    Ok(hints)
+}
+
+// The entry of each key is at its place.
+fn note_all(hints: &mut [u32], entries: &[KeyedEntry]) {
+    for place in 0..entries.len() {
+        note(hints, entries[place].key(), place);
     }
 }
 
 /// Renews all hints, with more of them, unless there are more hints than entries.
 #[inline(always)]
-pub(crate) fn widen(hints: &mut Vec<usize>, entries: &[KeyedEntry]) -> Result<(), AllocError> {
+pub(crate) fn widen(hints: &mut Vec<u32>, entries: &[KeyedEntry]) -> Result<(), AllocError> {
     if entries.len() < hints.len() {
         return Ok(());
     }
@@ -48,11 +68,9 @@ pub(crate) fn widen(hints: &mut Vec<usize>, entries: &[KeyedEntry]) -> Result<()
 // Renews all hints, with more of them than there are entries.
 #[cold]
 #[inline(never)]
-fn renew(hints: &mut Vec<usize>, entries: &[KeyedEntry]) -> Result<(), AllocError> {
+fn renew(hints: &mut Vec<u32>, entries: &[KeyedEntry]) -> Result<(), AllocError> {
     let count = entries.len();
     hints.resize(count.saturating_add(count).saturating_add(FEWEST), 0)?;
-    for place in 0..count {
-        note(hints.as_mut_slice(), entries[place].key(), place);
-    }
+    note_all(hints.as_mut_slice(), entries);
     Ok(())
 }

@@ -5,10 +5,12 @@ mod counting;
 mod entry;
 mod hints;
 mod map;
+mod parts;
 mod ranges;
 mod walking;
 
 pub use entry::{Entry, KeyedEntry};
-pub use map::{Index, Known};
+pub use map::{HintedEntries, Index, Known};
+pub use parts::Part;
 pub use ranges::{KeyRange, listed};
 pub use walking::Found;

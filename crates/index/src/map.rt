@@ -1,9 +1,9 @@
 use crate::entry::{Entry, KeyedEntry};
-use crate::hints::{hint_for, note, widen};
+use crate::hints::{hint_for, hints_of, note, widen};
 use base::fault::Fault;
 use base::key::Key;
 use base::{SlotNo, Ts};
-use std::alloc::Global;
+use std::alloc::{AllocError, Global};
 use std::collections::BTreeMap;
 use std::marker::Model;
 
@@ -14,15 +14,49 @@ pub struct Known {
     pub link: Option<SlotNo>,
 }
 
+/// Entries of keys, with hints of where each is, for an index that is made of them.
+#[derive(Drop)]
+pub struct HintedEntries {
+    entries: Vec<KeyedEntry>,
+    hints: Vec<u32>,
+}
+
+impl Model for HintedEntries {
+    ghost use Rattle.std.specs.Prelude.{List};
+    ghost use Rattle.base.specs.declared.key.Key.{Key};
+    ghost use Rattle.index.specs.declared.entry.Entry.{Entry};
+
+    ghost Value = { List (Key × Entry) };
+
+    ghost view = { λ h. h.entries.items };
+}
+
+impl HintedEntries {
+    ghost use Rattle.std.specs.Prelude.{◌≡◌, IfOk};
+
+    /// The same entries. There are hints enough for as many keys as are named, so that an index of them that has no more never
+    /// takes time to renew them.
+    pub fn of(
+        alloc: Global,
+        entries: Vec<KeyedEntry>,
+        keys: usize,
+    ) -> Result<HintedEntries, AllocError>
+        ensures { IfOk result (λ listed. listed ≡ entries.items) }
+    {
+        let hints = hints_of(alloc, keys, entries.as_slice())?;
+        Ok(HintedEntries { entries, hints })
+    }
+}
+
 /// The entry of each key, which says where its versions are. A key that has no entry has a blank one.
 #[derive(Drop)]
 pub struct Index {
     // Each with its key. An entry stays at its place, except that the last one moves to that of an entry that is taken out.
     pub(crate) entries: Vec<KeyedEntry>,
     // The place of each key's entry.
-    pub(crate) places: BTreeMap<Key, usize, Global>,
+    pub(crate) places: BTreeMap<Key, u32, Global>,
     // Places at which entries may be: tried first, with a search if the entry isn't there.
-    hints: Vec<usize>,
+    hints: Vec<u32>,
 }
 
 impl Model for Index {
@@ -57,19 +91,16 @@ impl Index {
         }
     }
 
-    /// An index with exactly these entries, at these places. It takes no memory: the first draws note where entries may be.
-    pub fn of(
-        alloc: Global,
-        entries: Vec<KeyedEntry>,
-        places: BTreeMap<Key, usize, Global>,
-    ) -> Index
-        requires { ArePlaced places.entries entries.items }
-        ensures { result ≡ entries.items }
+    /// An index with exactly these entries, at these places. It takes no memory.
+    pub fn of(listed: HintedEntries, places: BTreeMap<Key, u32, Global>) -> Index
+        requires { ArePlaced places.entries listed }
+        ensures { result ≡ listed }
     {
+        let HintedEntries { entries, hints } = listed;
         Index {
             entries,
             places,
-            hints: Vec::new(alloc),
+            hints,
         }
     }
 
@@ -92,7 +123,7 @@ impl Index {
         ensures none { IfNone result (has_room self.now key ≡ false) }
     {
         match self.places.get(&key) {
-            Some(place) => Some(*place),
+            Some(place) => Some(*place as usize),
             None => None,
         }
     }
@@ -218,10 +249,13 @@ impl Index {
             return Err(Fault::OutOfMemory);
         }
         let place = self.entries.len();
+        let Ok(small) = u32::try_from(place) else {
+            return Err(Fault::OutOfMemory);
+        };
         if widen(&mut self.hints, self.entries.as_slice()).is_err() {
             return Err(Fault::OutOfMemory);
         }
-        let Ok(_) = self.places.insert(key, place) else {
+        let Ok(_) = self.places.insert(key, small) else {
             return Err(Fault::OutOfMemory);
         };
         self.entries.push_reserved(KeyedEntry::new(key, entry));
@@ -287,9 +321,11 @@ impl Index {
     }
 
     /// The commit that was drawn for the key is covered. Its version is in the slot; a deletion has none, and ends the newest.
+    /// Returns the slot of the version that was the newest before.
     #[inline(always)]
-    pub fn cover(&mut self, key: Key, near: Option<usize>, slot: Option<SlotNo>)
+    pub fn cover(&mut self, key: Key, near: Option<usize>, slot: Option<SlotNo>) -> Option<SlotNo>
         requires { IsTrue (has_room self.old key) }
+        ensures newest { result ≡ (entry_at self.old key).newest }
 
         // Every other entry is as it was. It takes no memory.
         ensures entries { Sets self.old self.new key (covered slot (entry_at self.old key)) }
@@ -310,6 +346,7 @@ impl Index {
             ..entry
         };
         self.set_in(place, key, covered);
+        entry.newest
     }
 
     /// The key's version in the slot is freed. If it isn't the newest covered one, nothing changes.
@@ -383,12 +420,29 @@ impl Index {
     {
         let last = self.entries.len() - 1;
         let moved = self.entries[last].key();
-        // The key has a place, so this takes no memory.
-        let Ok(_) = self.places.insert(moved, place) else {
-            unreachable!()
-        };
-        self.places.remove(&key);
+        give_place(&mut self.places, key, moved);
         self.entries.swap_remove(place);
         note(self.hints.as_mut_slice(), moved, place);
     }
+}
+
+ghost use Rattle.std.specs.Prelude.{◌≡◌, IsSome, None, if◌then◌else◌};
+ghost use Rattle.base.specs.Keys.{key_eq, lookup_key};
+ghost use Rattle.base.specs.declared.key.Key.{Key as KeyValue};
+
+// Takes a key out, and gives its place to the key that moves there. That one has a place, so this takes no memory.
+fn give_place(places: &mut BTreeMap<Key, u32, Global>, key: Key, moved: Key)
+    requires key { IsSome (lookup_key places.old.entries key) }
+    requires moved { IsSome (lookup_key places.old.entries moved) }
+    ensures { (k : KeyValue) → lookup_key places.new.entries k ≡ (if key_eq key k then None else (if key_eq moved k then lookup_key places.old.entries key else lookup_key places.old.entries k)) }
+{
+    let Some(place) = places.remove(&key) else {
+        unreachable!()
+    };
+    if moved == key {
+        return;
+    }
+    let Ok(_) = places.insert(moved, place) else {
+        unreachable!()
+    };
 }

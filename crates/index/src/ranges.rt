@@ -1,4 +1,4 @@
-ghost use Rattle.std.specs.Prelude.{◌≡◌, ℕ, Bool, false, IsTrue, IfOk, IfErr};
+ghost use Rattle.std.specs.Prelude.{◌≡◌, ℕ, Bool, false, IsTrue, IfOk, IfErr, length};
 ghost use Rattle.base.specs.Commits.{Lists, Tables};
 ghost use Rattle.base.specs.Layout.{total_words};
 ghost use Rattle.base.specs.declared.fault.Fault.TheVariants.{OutOfMemory};
@@ -24,6 +24,8 @@ pub enum KeyRange {
     All,
     /// Those of a table from `lo` to `hi`, both included.
     Within { table: u16, lo: u64, hi: u64 },
+    /// Those of any table from `first` to `last`, both included.
+    Between { first: Key, last: Key },
 }
 
 impl KeyRange {
@@ -36,22 +38,24 @@ impl KeyRange {
             KeyRange::Within { table, lo, hi } => {
                 key.table == table && lo <= key.key && key.key <= hi
             }
+            KeyRange::Between { first, last } => !key.is_below(&first) && !last.is_below(&key),
         }
     }
 
     // Whether no key is one of them, since the last is before the first.
-    fn is_empty(self) -> bool
+    pub(crate) fn is_empty(self) -> bool
         ensures empty { IsTrue result → (key : KeyValue) → contains self key ≡ false }
         ensures forward { result ≡ false → IsForward self }
     {
         match self {
             KeyRange::All => false,
             KeyRange::Within { table: _, lo, hi } => hi < lo,
+            KeyRange::Between { first, last } => last.is_below(&first),
         }
     }
 
     // The bounds of its keys.
-    fn bounds(self) -> (Bound<Key>, Bound<Key>)
+    pub(crate) fn bounds(self) -> (Bound<Key>, Bound<Key>)
         ensures { result ≡ bounds_of self }
     {
         match self {
@@ -60,6 +64,7 @@ impl KeyRange {
                 Bound::Included(Key { table, key: lo }),
                 Bound::Included(Key { table, key: hi }),
             ),
+            KeyRange::Between { first, last } => (Bound::Included(first), Bound::Included(last)),
         }
     }
 }
@@ -108,7 +113,7 @@ impl Index {
             return Ok(seen);
         }
         for (key, place) in self.places.range(range.bounds()) {
-            let newest = self.entry(*key, Some(*place)).newest;
+            let newest = self.entry(*key, Some(*place as usize)).newest;
             if let Some(found) = follow(device, geometry, snapshot, newest, *key) {
                 let Ok(_) = seen.insert(*key, found.row) else {
                     return Err(AllocError);
@@ -121,7 +126,10 @@ impl Index {
 
 /// The rows of the map, each once, by rising key.
 pub fn listed(alloc: Global, rows: BTreeMap<Key, Row>) -> Result<Vec<(Key, Row)>, AllocError>
-    ensures { IfOk result (λ list. (tables : Tables) → HasRows rows tables → Lists list.items tables) }
+    ensures rows { IfOk result (λ list. (tables : Tables) → HasRows rows tables → Lists list.items tables) }
+
+    // They are as many as the map has.
+    ensures count { IfOk result (λ list. length list.items ≡ length rows.entries) }
 {
     match collected(alloc, rows) {
         Ok(list) => Ok(list),

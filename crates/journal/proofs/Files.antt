@@ -226,7 +226,7 @@ decided-stands_still before now words room file image decides found opens within
     } in
     let behind : (at : ℕ) → words ≤ at → at < words + room + 8 → get_or other at 0 ≡ get_or file at 0 = λ at le below. beside at (λ e. omega (arith, e, le, lt)) in
     let lines : lines_in words room other ≡ lines_in words room file = same_lines words room file other found.size size behind in
-    (λ i. put_over (sym lines i) word (sym here i)) ∙ sym ((decides file other image found is behind opens).each word lt) ∙ opens.each word lt
+    (λ i. put_over (sym lines i) word (sym here i)) ∙ sym ((decides.same file other image found is behind opens).each word lt) ∙ opens.each word lt
 
 -- ---- the journal counts no more, whatever the tail names
 

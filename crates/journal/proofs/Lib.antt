@@ -16,3 +16,4 @@ pub mod Within
 pub mod Turned
 pub mod Tails
 pub mod Places
+pub mod Decides

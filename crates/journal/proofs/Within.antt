@@ -1,5 +1,5 @@
 -- Of a storage of which less may be found no less is known.
-use Rattle.std.proofs.Common.{Result, ℕ, Bool, List, arith}
+use Rattle.std.proofs.Common.{◌≡◌, Result, ℕ, Bool, List, subst, arith}
 use Rattle.std.specs.Prelude.{OnOk}
 use Rattle.std.proofs.Math.Logic.{∥∥₁_map}
 use Rattle.journal.specs.Files.{MayBe}
@@ -31,6 +31,11 @@ rests_within old new words room pass position image within some = ∥∥₁_map 
 
 pub may_be_within : (old new : ℕ → ℕ → Type 0) (room : ℕ) (written image : List ℕ) → IsWithin old new → MayBe new room written image → MayBe old room written image
 may_be_within old new room written image within a = grind (arith)
+
+-- of the same words and the same room
+pub may_be_same : (old new : ℕ → ℕ → Type 0) (room room' : ℕ) (written written' image : List ℕ) → IsWithin old new → room' ≡ room → written' ≡ written → MayBe new room' written' image → MayBe old room written image
+may_be_same old new room room' written written' image within same_room same_written may =
+    may_be_within old new room written image within (subst (λ (r : ℕ). MayBe new r written image) same_room (subst (λ (w : List ℕ). MayBe new room' w image) same_written may))
 
 pub both_ok : {T E P Q R : Type 0} (result : Result T E) → (P → Q → R) → OnOk result P → OnOk result Q → OnOk result R
 both_ok a f p q = grind (arith)

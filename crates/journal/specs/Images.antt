@@ -1,5 +1,5 @@
 -- What a caller may say of images that are kept in a file.
-use Rattle.std.specs.Prelude.{ℕ, List, Option, length}
+use Rattle.std.specs.Prelude.{◌≡◌, ℕ, true, List, Option, length}
 use Rattle.std.specs.declared.io.Error.{Error}
 use Rattle.journal.specs.Files.{MayBe, StandsAmong}
 use Rattle.journal.specs.States.{IsOff}
@@ -33,3 +33,7 @@ IsClosedIn may_hold images storage = IsOff (may_hold storage) (length images.wri
 -- whatever is found in this storage stands for an image that might have been found before
 abbrev pub StandsForOne : {S P : Type 0} → {H : Ghosts S P} → (S → ℕ → ℕ → Type 0) → JournaledImages S P H → S → Type 0
 StandsForOne may_hold images storage = StandsAmong (may_hold images.storage) (may_hold storage) images.room images.written.items
+
+-- an image is begun, and its storage refuses each write and each sync
+abbrev pub Refuses : {S P : Type 0} → {H : Ghosts S P} → (S → Type 0) → JournaledImages S P H → Type 0
+Refuses refuses images = refuses images.storage × (images.is_begun ≡ true)

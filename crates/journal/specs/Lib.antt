@@ -12,5 +12,6 @@ pub mod ReadBack
 pub mod States
 pub mod Tails
 pub mod Places
+pub mod Lives
 pub mod Changes
 pub mod Images

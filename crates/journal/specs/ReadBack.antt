@@ -22,10 +22,10 @@ abbrev pub StandsAsBefore : (ℕ → ℕ → Type 0) → (ℕ → ℕ → Type 0
 StandsAsBefore before now words room file = StandsStill before words room file → StandsAs now words room file
 
 -- two files that may be found stand for the same image, if they have the same journal and the same tail
-abbrev pub JournalDecides : (ℕ → ℕ → Type 0) → ℕ → ℕ → Type 0
-JournalDecides may_hold words room = (file other image : List ℕ) → IsFound may_hold (words + room + 8) file → IsFound may_hold (words + room + 8) other
-    → ((word : ℕ) → words ≤ word → word < words + room + 8 → slice_index other word ≡ slice_index file word)
-    → Opens words room file image → Opens words room other image
+pub record JournalDecides (may_hold : ℕ → ℕ → Type 0) (words room : ℕ) : Type 0 where
+  pub same : (file other image : List ℕ) → IsFound may_hold (words + room + 8) file → IsFound may_hold (words + room + 8) other
+      → ((word : ℕ) → words ≤ word → word < words + room + 8 → slice_index other word ≡ slice_index file word)
+      → Opens words room file image → Opens words room other image
 
 -- one journal is known to be there, and the words in place with it stand for this image, whatever they are found as
 pub record Covers (may_hold : ℕ → ℕ → Type 0) (words room : ℕ) (durable : List ℕ) : Type 0 where

@@ -2,6 +2,7 @@ ghost use Rattle.std.specs.Prelude.{◌≡◌, ℕ, ◌+◌, ◌*◌, ◌/◌, �
 ghost use Rattle.journal.specs.Files.{FoundEither};
 ghost use Rattle.journal.specs.States.{Rests};
 ghost use Rattle.journal.specs.Places.{IsPart, PlacesOnly};
+ghost use Rattle.journal.specs.ReadBack.{JournalDecides};
 ghost use Rattle.journal.specs.Tails.{NamesAsBefore};
 ghost use Rattle.journal.specs.Changes.{AreChanged, AreFound, DiffersIn};
 
@@ -40,6 +41,7 @@ pub(crate) fn begin_words<S: Storage>(
     ensures err { OnErr result (durable.new.items ≡ durable.old.items) }
     ensures tail { NamesAsBefore (S.may_hold storage.old) (S.may_hold storage.new) (length durable.old.items) room }
     ensures place { PlacesOnly (S.may_hold storage.old) (S.may_hold storage.new) durable.old.items }
+    ensures decides { JournalDecides (S.may_hold storage.new) (length durable.old.items) room }
     ensures part { OnOk result (IsPart room words.now) }
 {
     check_part(words, room)?;
@@ -120,6 +122,7 @@ fn write_changed<S: Storage>(
     ensures rests { IfOk result (λ next. ∥ Rests (S.shows storage.new) (length durable.now) room next.pass next.words words.now ∥₁) }
     ensures tail { NamesAsBefore (S.may_hold storage.old) (S.may_hold storage.new) (length durable.now) room }
     ensures place { PlacesOnly (S.may_hold storage.old) (S.may_hold storage.new) durable.now }
+    ensures decides { JournalDecides (S.may_hold storage.new) (length durable.now) room }
 {
     if changed.is_empty() {
         return Ok(position);
@@ -159,6 +162,7 @@ fn append<S: Storage>(
     ensures rests { IfOk result (λ next. ∥ Rests (S.shows storage.new) (length durable.now) room next.pass next.words words.now ∥₁) }
     ensures tail { NamesAsBefore (S.may_hold storage.old) (S.may_hold storage.new) (length durable.now) room }
     ensures place { PlacesOnly (S.may_hold storage.old) (S.may_hold storage.new) durable.now }
+    ensures decides { JournalDecides (S.may_hold storage.new) (length durable.now) room }
 {
     let entry = entry_of(alloc, changed, position.pass)?;
     storage.write(durable.len() + position.words, entry.as_slice())?;

@@ -1,4 +1,4 @@
-ghost use Rattle.std.specs.Prelude.{◌≡◌, ◌⊎◌, ℕ, List, OnErr, OnOk};
+ghost use Rattle.std.specs.Prelude.{◌≡◌, ◌⊎◌, ℕ, Bool, false, List, Option, None, Some, IfSome, IsErr, IsNone, IsSome, OnErr, OnOk};
 ghost use Rattle.journal.specs.Changes.{DiffersIn};
 
 use std::io;
@@ -17,6 +17,12 @@ pub trait Images {
     /// An image wasn't kept, and why is noted.
     ghost has_failed: { Self → Type 0 };
 
+    /// Each image, and each wait for one, is refused: a sync is handed out, or one failed that was made apart.
+    ghost refuses: { Self → Type 0 };
+
+    /// Whether a sync that was handed out succeeded, once it was made.
+    ghost came: { Self.Pending → Option Bool };
+
     /// Writes the image, and doesn't wait until it persists.
     fn begin(&mut self, words: &Vec<u64>, lines: &[usize]) -> io::Result<()>
         // The image that was written last differs from this one in the lines of these numbers alone.
@@ -27,7 +33,11 @@ pub trait Images {
         ensures begun { OnOk result ((image : List ℕ) → shows self.new image → image ≡ words.now.items) }
 
         // At Err an image wasn't kept, and that is noted (`has_failed`). Of `JournaledImages`, `failure` then says why.
-        ensures noted { OnErr result (has_failed self.new) };
+        ensures noted { OnErr result (has_failed self.new) }
+
+        // While all is refused it is an Err, stays so, and changes nothing.
+        ensures refused { refuses self.old → IsErr result × refuses self.new }
+        ensures still { refuses self.old → (image : List ℕ) → (may_hold self.new image → may_hold self.old image) × (shows self.new image → shows self.old image) };
 
     /// Waits until the image persists that was written last.
     fn finish(&mut self) -> io::Result<()>
@@ -36,25 +46,44 @@ pub trait Images {
         ensures kept { OnOk result ((image : List ℕ) → may_hold self.new image → shows self.old image) }
 
         // At Err that is noted.
-        ensures noted { OnErr result (has_failed self.new) };
+        ensures noted { OnErr result (has_failed self.new) }
+
+        // While all is refused it is an Err, stays so, and changes nothing.
+        ensures refused { refuses self.old → IsErr result × refuses self.new }
+        ensures still { refuses self.old → (image : List ℕ) → shows self.new image → shows self.old image };
 
     /// Hands out a sync that another thread may make before `finish`, if there is one: `finish` takes no time then, once it was
-    /// taken back. It changes no image, and until then nothing is written and `finish` doesn't succeed.
+    /// taken back.
     fn hand_out(&mut self) -> Option<Self::Pending>
         // It changes no image, and what was noted stays so.
         ensures found { (image : List ℕ) → may_hold self.new image → may_hold self.old image }
         ensures shown { (image : List ℕ) → shows self.new image → shows self.old image }
-        ensures noted { has_failed self.old → has_failed self.new };
+        ensures noted { has_failed self.old → has_failed self.new }
+
+        // Until it is taken back all is refused, and no other is handed out.
+        ensures out { IsSome result → refuses self.new }
+        ensures once { refuses self.old → IsNone result × refuses self.new }
+
+        // At None nothing is refused that wasn't before.
+        ensures none { IsNone result → refuses self.new → refuses self.old }
+
+        // What is handed out wasn't made yet.
+        ensures fresh { IfSome result (λ pending. came pending ≡ None) };
 
     /// Makes a sync that was handed out, and waits until it ends.
-    fn sync_apart(pending: &mut Self::Pending);
+    fn sync_apart(pending: &mut Self::Pending)
+        // One that failed stays so, also if it is made again.
+        ensures failed { came pending.old ≡ Some false → came pending.new ≡ Some false };
 
-    /// Takes back what was handed out, with what came of it. It changes no image.
+    /// Takes back what was handed out, with what came of it.
     fn take_back(&mut self, pending: Self::Pending)
         // It changes no image, and what was noted stays so.
         ensures found { (image : List ℕ) → may_hold self.new image → may_hold self.old image }
         ensures shown { (image : List ℕ) → shows self.new image → shows self.old image }
-        ensures noted { has_failed self.old → has_failed self.new };
+        ensures noted { has_failed self.old → has_failed self.new }
+
+        // If the sync failed, all is refused as before.
+        ensures failed { came pending ≡ Some false → refuses self.old → refuses self.new };
 
     ghost shown_is_found: { (images : Self) (image : List ℕ) → shows images image → may_hold images image };
 }
@@ -72,6 +101,11 @@ impl Images for Nowhere {
     ghost shows = { λ _ _. ⊥ };
 
     ghost has_failed = { λ _. ⊥ };
+
+    // No sync is handed out.
+    ghost refuses = { λ _. ⊥ };
+
+    ghost came = { λ _. None };
 
     ghost shown_is_found = { λ _ _ shown. shown };
 

@@ -1,8 +1,8 @@
-ghost use Rattle.std.specs.Prelude.{◌≡◌, ℕ, List, ◌+◌, ◌%◌, ◌<◌, ◌^◌, true, false, None, length, is_some, IfErr, IfOk, IsSome, OnErr, OnOk};
+ghost use Rattle.std.specs.Prelude.{◌≡◌, ℕ, List, ◌+◌, ◌%◌, ◌<◌, ◌^◌, true, false, None, length, is_some, IfErr, IfOk, IsErr, IsSome, OnErr, OnOk};
 ghost use Rattle.std.proofs.Common.{inl};
 ghost use Rattle.journal.specs.Files.{Opens};
 ghost use Rattle.journal.specs.Places.{HoldsPart, IsPart, PartAsBefore};
-ghost use Rattle.journal.specs.ReadBack.{IsReadBack, StandsAsBefore};
+ghost use Rattle.journal.specs.ReadBack.{IsReadBack, JournalDecides, StandsAsBefore};
 ghost use Rattle.journal.specs.States.{Rests};
 ghost use Rattle.journal.specs.Tails.{BeginsAsRead, NamesAsRead, NamesBoth};
 
@@ -44,6 +44,7 @@ pub struct JournaledImages<S: Storage> {
     ghost named: { NamesBoth (S.may_hold storage) (length written.items) room },
     ghost part: { IsPart room written.items },
     ghost holds: { HoldsPart (S.may_hold storage) (length written.items) room },
+    ghost decides: { JournalDecides (S.may_hold storage) (length written.items) room },
 }
 
 /// Why a file isn't opened, and the file.
@@ -194,6 +195,7 @@ impl<S: Storage> JournaledImages<S> {
         ensures works { OnOk result (self.new.failed ≡ false) }
         ensures done { OnOk result (self.new.is_begun ≡ false) }
         ensures noted { OnErr result (self.new.failed ≡ true) }
+        ensures refused { S.refuses self.old.storage → self.old.is_begun ≡ true → IsErr result × (S.refuses self.new.storage × (self.new.is_begun ≡ true)) }
     {
         if self.failed {
             return Err(io::Error::from(ErrorKind::InvalidData));
@@ -216,7 +218,7 @@ impl<S: Storage> JournaledImages<S> {
 }
 
 impl<S: Storage> Images for JournaledImages<S> {
-    ghost use Rattle.journal.specs.Images.{MayFind, failure_of, last_image};
+    ghost use Rattle.journal.specs.Images.{MayFind, Refuses, failure_of, last_image};
 
     type Pending = S::Pending;
 
@@ -226,6 +228,11 @@ impl<S: Storage> Images for JournaledImages<S> {
     ghost shows = { λ images image. image ≡ last_image images };
 
     ghost has_failed = { λ images. IsSome (failure_of images) };
+
+    // An image is begun, and where it is kept all is refused.
+    ghost refuses = { λ images. Refuses S.refuses images };
+
+    ghost came = { S.came };
 
     ghost shown_is_found = { λ images image shown. inl shown };
 
@@ -258,6 +265,9 @@ impl<S: Storage> Images for JournaledImages<S> {
     }
 
     fn hand_out(&mut self) -> Option<S::Pending> {
+        if !self.is_begun {
+            return None;
+        }
         self.storage.hand_out()
     }
 

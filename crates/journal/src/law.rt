@@ -1,9 +1,10 @@
-ghost use Rattle.std.specs.Prelude.{◌≡◌, ◌⊎◌, ℕ, ◌+◌, ◌<◌, List, length, IfSome, Some};
+ghost use Rattle.std.specs.Prelude.{◌≡◌, ◌⊎◌, ℕ, ◌+◌, ◌<◌, List, length, IfErr, IfOk, IfSome, Some};
 ghost use Rattle.journal.specs.Entries.{TornIsNone};
-ghost use Rattle.journal.specs.Files.{HasTail, IsFile, Opens};
+ghost use Rattle.journal.specs.Files.{HasTail, IsFile, IsStoodFor, Opens};
 ghost use Rattle.journal.specs.Images.{last_image, room_of, storage_of};
 ghost use Rattle.journal.specs.InPlace.{InPlaceKeeps, InPlaceIsAll};
 ghost use Rattle.journal.specs.Kept.{IsFound};
+ghost use Rattle.journal.specs.Lives.{IsLeft, IsNoMore, StandsForNoOther};
 ghost use Rattle.journal.specs.LinePayloads.{LinesReturn};
 ghost use Rattle.journal.specs.Opened.{FileStates};
 ghost use Rattle.journal.specs.Passes.{FillingIsNothing, NextIsEmpty};
@@ -13,8 +14,9 @@ ghost use Rattle.journal.specs.Several.{AppendIsWhole, NoneIsNothing, ScrubIsNon
 ghost use Rattle.journal.specs.Tails.{BeginsTail, HoldsFirst, NamesBoth};
 
 use crate::file_image::extent_of;
-use crate::journaled::JournaledImages;
-use crate::storage::Storage;
+use crate::journaled::{JournaledImages, Unopened};
+use crate::storage::{Storage, write_back};
+use std::alloc::Global;
 
 /// Of an entry that was being written, either all is found and it is read, or not all is and the reader says that there is none.
 pub fn torn_entries_are_seen()
@@ -123,4 +125,46 @@ pub fn begun_files_name_no_other<S: Storage>(
     let _ = words;
     let _ = room;
     extent_of(file)
+}
+
+/// Whatever stops the life of images, they leave a file whose tail gives their words and room, that isn't taken for an image alone,
+/// and whose journal decides which image is found.
+pub fn images_leave_their_shape<S: Storage>(images: &JournaledImages<S>)
+    ensures { IsLeft (S.may_hold (storage_of images.now)) (length (last_image images.now)) (room_of images.now) }
+{
+    let _ = images;
+}
+
+/// The next life of a file begins with what the last one left. So the same holds after any number of lives.
+pub fn next_begins_with_what_was_left<B: Storage, S: Storage>(
+    alloc: Global,
+    last: &B,
+    next: S,
+    file: &[u64],
+    words: usize,
+    room: usize,
+) -> Result<JournaledImages<S>, Unopened<S>>
+where
+    S: Drop,
+    // This was left, a file was read that might be found then, and of its words nothing else may be found at the beginning.
+    requires left { IsLeft (B.may_hold last.now) words room }
+    requires file { IsFile words room (length file.now) }
+    requires found { IsFound (B.may_hold last.now) (words + room + 8) file.now }
+    requires begins { IsNoMore (B.may_hold last.now) (S.may_hold next) }
+
+    // At Ok the images begin with one that might be found then, and leave the same to a further life.
+    ensures stands { IfOk result (λ images. IsStoodFor (B.may_hold last.now) words room (last_image images)) }
+    ensures leaves { IfOk result (λ images. IsLeft (S.may_hold (storage_of images)) words room) }
+
+    // At Err, whichever write fails, no file is found that stands for another image than before, and the same is left to a further
+    // life.
+    ensures stopped { IfErr result (λ unopened. StandsForNoOther (B.may_hold last.now) (S.may_hold unopened.storage) words room) }
+    ensures left { IfErr result (λ unopened. IsLeft (S.may_hold unopened.storage) words room) }
+{
+    let _ = last;
+    let mut storage = next;
+    match write_back(&mut storage, words, file) {
+        Ok(()) => JournaledImages::open(alloc, storage, file, words, room),
+        Err(error) => Err(Unopened { error, storage }),
+    }
 }

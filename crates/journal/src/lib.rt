@@ -26,8 +26,9 @@ pub use journal::read_journal;
 pub use journaled::{JournaledImages, Unclosed, Unopened};
 pub use law::{
     appends_are_whole, begun_files_name_no_other, decided_files_stand_still, files_are_whole,
-    images_in_place_stay, left_files_name_their_shape, lines_return, passes_follow,
-    scrubbed_entries_stay_torn, stretches_are_by_places, torn_entries_are_seen,
+    images_in_place_stay, images_leave_their_shape, left_files_name_their_shape, lines_return,
+    next_begins_with_what_was_left, passes_follow, scrubbed_entries_stay_torn,
+    stretches_are_by_places, torn_entries_are_seen,
 };
 pub use line::{Line, entry_of, line_of};
 pub use rewriting::rewrite;

@@ -2,12 +2,10 @@ ghost use Rattle.kv.specs.Earned.{Commits, IsEarnedBy};
 ghost use Rattle.kv.specs.declared.command.Request.{Request};
 
 use crate::help::{LARGER, ROWS, TOPICS, Topic, Word};
-use crate::load::MOST_PUTS;
 use crate::refusal::Sentence;
 use crate::rows::Shown;
 use crate::session::Answer;
 use crate::statistics::Statistics;
-use base::key::Key;
 use base::row::Row;
 use std::alloc::Global;
 use std::io;
@@ -56,7 +54,7 @@ impl Manner {
 /// Prints the answers to lines. A few short ones are held, so that they are printed together.
 #[derive(Drop)]
 pub struct Printer<'a, R> {
-    rt: &'a R,
+    pub(crate) rt: &'a R,
     pub manner: Manner,
     // The lines that are held, and how many there are.
     held: Vec<u8>,
@@ -123,10 +121,7 @@ impl<'a, R: Print> Printer<'a, R> {
         match answer {
             Answer::Row(Some(row)) => println!(self.rt; "row {}", self.shown(row)),
             Answer::Row(None) => println!(self.rt; "none"),
-            Answer::Rows(rows) => self.print_rows(rows.as_slice()),
             Answer::Count(count) => println!(self.rt; "count {count}"),
-            Answer::Tables(rows) => self.print_tables(rows.as_slice()),
-            Answer::Dump(rows) => self.print_dump(rows.as_slice()),
             Answer::Status(statistics) => self.print_status(statistics),
             _ => Ok(()),
         }
@@ -156,77 +151,11 @@ impl<'a, R: Print> Printer<'a, R> {
         }
     }
 
-    fn shown<'b>(&self, row: &'b Row) -> Shown<'b> {
+    pub(crate) fn shown<'b>(&self, row: &'b Row) -> Shown<'b> {
         Shown {
             row,
             as_text: self.manner.is_text,
         }
-    }
-
-    fn print_rows(&self, rows: &[(Key, Row)]) -> io::Result<()> {
-        if self.manner.is_table {
-            println!(self.rt; "{:>20} | row", "key")?;
-            println!(self.rt; "---------------------+----")?;
-        }
-        for (key, row) in rows {
-            self.print_row(key.key, row)?;
-        }
-        println!(self.rt; "end {}", rows.len())
-    }
-
-    fn print_row(&self, key: u64, row: &Row) -> io::Result<()> {
-        let shown = self.shown(row);
-        if self.manner.is_table {
-            println!(self.rt; "{key:>20} | {shown}")
-        } else {
-            println!(self.rt; "row {key} {shown}")
-        }
-    }
-
-    // How many rows each table has.
-    fn print_tables(&self, rows: &[(Key, Row)]) -> io::Result<()> {
-        if self.manner.is_table {
-            println!(self.rt; "table | rows")?;
-            println!(self.rt; "------+------")?;
-        }
-        let mut tables: usize = 0;
-        let mut count: u64 = 0;
-        for (place, (key, _)) in rows.iter().enumerate() {
-            count = count.saturating_add(1);
-            if is_last_of_table(rows, place, key.table) {
-                self.print_count(key.table, count)?;
-                tables = tables.saturating_add(1);
-                count = 0;
-            }
-        }
-        println!(self.rt; "end {tables}")
-    }
-
-    fn print_count(&self, table: u16, count: u64) -> io::Result<()> {
-        if self.manner.is_table {
-            println!(self.rt; "{table:>5} | {count:>5}")
-        } else {
-            println!(self.rt; "table {table} {count}")
-        }
-    }
-
-    // Prints lines that put the rows, in transactions.
-    fn print_dump(&self, rows: &[(Key, Row)]) -> io::Result<()> {
-        let mut puts: u64 = 0;
-        for (key, row) in rows {
-            if puts == 0 {
-                println!(self.rt; "begin")?;
-            }
-            println!(self.rt; "put {} {} {}", key.table, key.key, self.shown(row))?;
-            puts = puts.saturating_add(1) % MOST_PUTS;
-            if puts == 0 {
-                println!(self.rt; "commit")?;
-            }
-        }
-        if puts != 0 {
-            println!(self.rt; "commit")?;
-        }
-        println!(self.rt; "end {}", rows.len())
     }
 
     /// Explains a command, or lists them.
@@ -265,13 +194,5 @@ impl<'a, R: Print> Printer<'a, R> {
             println!(self.rt; "    {:<45} {}", topic.form, topic.short)?;
         }
         println!(self.rt; "{LARGER}")
-    }
-}
-
-// Whether the row at this place is the last one of its table.
-fn is_last_of_table(rows: &[(Key, Row)], place: usize, table: u16) -> bool {
-    match rows.get(place.saturating_add(1)) {
-        Some((next, _)) => next.table != table,
-        None => true,
     }
 }

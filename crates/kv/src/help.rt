@@ -42,7 +42,7 @@ two hexadecimal digits for each byte, as 6d696c6b, or - for no bytes. Commands m
 pub const LARGER: &str =
     "help WORD explains one, with an example. A full store accepts no more rows and no updates: delete a row, or copy all into a
 store with more slots,
-    kv old.img dump | kv new.img --slots 65536 load";
+    kv old.img dump | kv new.img --slots 1000000 load";
 
 /// The commands.
 pub const TOPICS: [Topic; 15] = [
@@ -145,7 +145,7 @@ still be made.",
         short: "puts the rows of the lines that follow",
         long: "Puts the rows of all further lines of the input: what dump prints, and lines TABLE KEY ROW, as wbl check prints them. It
 ends at the first line that it can't take, and keeps what it has committed until then.",
-        example: "kv old.img dump | kv new.img --slots 65536 load",
+        example: "kv old.img dump | kv new.img --slots 1000000 load",
     },
     Topic {
         word: Word::Timing,

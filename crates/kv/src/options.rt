@@ -39,6 +39,7 @@ pub struct Layout {
     places: Option<u64>,
     window: Option<u64>,
     is_wide: bool,
+    lines: Option<u64>,
     pub geometry: Geometry,
 }
 
@@ -49,6 +50,7 @@ impl Layout {
             && self.places.unwrap_or(found.places()) == found.places()
             && self.window.unwrap_or(found.window()) == found.window()
             && (found.is_wide() || !self.is_wide)
+            && (self.lines.is_none() || found.version() == self.geometry.version())
     }
 }
 
@@ -67,7 +69,7 @@ commands. Only put, load and lines create FILE. Once \"committed\" is printed, a
 const AFTER: &str =
     "Exit status: 0 success, 3 a line or the command was refused, 1 FILE or the output failed, 2 wrong words.
 For example:         kv shop.img put 1 5 '\"milk\"'
-To change a layout:  kv old.img dump | kv new.img --slots 65536 load";
+To change a layout:  kv old.img dump | kv new.img --slots 1000000 load";
 
 /// The options and arguments of the command line.
 pub fn command_line<'a>(alloc: Global) -> Result<clap::Command<'a>, AllocError> {
@@ -106,8 +108,10 @@ fn with_layout<'a>(
     command: clap::Command<'a>,
 ) -> Result<clap::Command<'a>, AllocError> {
     let slots = number(alloc, "slots")
-        .value_parser(value_parser!(u64).range(1..=65_536))
-        .help("number of row versions that a new store has room for, 1 to 65536 (default 65536)");
+        .value_parser(value_parser!(u64).range(1..=16_777_216))
+        .help(
+            "number of row versions that a new store has room for, 1 to 16777216 (default 65536)",
+        );
     let places = number(alloc, "places")
         .value_parser(value_parser!(u64).range(2..=64))
         .help("number of commit records that a new store keeps, 2 to 64 (default 2)");
@@ -119,7 +123,19 @@ fn with_layout<'a>(
         "wide",
         "creates a store for rows of up to 96 bytes instead of 32",
     );
-    command.arg(slots)?.arg(places)?.arg(window)?.arg(wide)
+    let lines = Arg::new(alloc, "lines")
+        .long("lines")
+        .value_name("W")
+        .value_parser(value_parser!(u64).range(1..=2))
+        .help(
+            "creates a store of version 4, as for more than 65536 slots, with slots of 1 line, or of 2 for rows of up to 96 bytes",
+        );
+    command
+        .arg(slots)?
+        .arg(places)?
+        .arg(window)?
+        .arg(wide)?
+        .arg(lines)
 }
 
 fn flag<'a>(alloc: Global, name: &'a str, help: &'a str) -> Arg<'a> {
@@ -149,35 +165,49 @@ pub fn read_options<'a>(matches: &ArgMatches<'a>) -> Result<Options<'a>, Refusal
     })
 }
 
-fn read_layout(matches: &ArgMatches<'_>) -> Result<Layout, Fault> {
+// What no option sets comes from the standard layout.
+fn read_layout(matches: &ArgMatches<'_>) -> Result<Layout, Refusal> {
+    let standard = standard_layout();
     let slots = matches.get_one::<u64>("slots");
     let places = matches.get_one::<u64>("places");
     let window = matches.get_one::<u64>("window");
+    let lines = matches.get_one::<u64>("lines");
     let is_wide = matches.get_flag("wide");
+    if is_wide && lines.is_some() {
+        return Err(Refusal::Words(anyhow!("--wide and --lines are two ways to ask for a width")));
+    }
+    let geometry = geometry_of(
+        lines,
+        is_wide,
+        slots.unwrap_or(standard.slots()),
+        places.unwrap_or(standard.places()),
+        window.unwrap_or(standard.window()),
+    )?;
     Ok(Layout {
         slots,
         places,
         window,
         is_wide,
-        geometry: geometry_of(slots, places, window, is_wide)?,
+        lines,
+        geometry,
     })
 }
 
-// The layout that is asked for: what no option sets comes from the standard layout.
+// The layout that is asked for: of version 4 if its lines are named or there are more slots than another version has.
 fn geometry_of(
-    slots: Option<u64>,
-    places: Option<u64>,
-    window: Option<u64>,
+    lines: Option<u64>,
     is_wide: bool,
+    slots: u64,
+    places: u64,
+    window: u64,
 ) -> Result<Geometry, Fault> {
-    let standard = standard_layout();
-    let slots = slots.unwrap_or(standard.slots());
-    let places = places.unwrap_or(standard.places());
-    let window = window.unwrap_or(standard.window());
-    if is_wide {
-        Geometry::wide(slots, places, window)
-    } else {
-        Geometry::new(slots, places, window)
+    match lines {
+        Some(lines) => Geometry::large(lines, slots, places, window),
+        None if slots > Geometry::MOST_SLOTS => {
+            Geometry::large(if is_wide { 2 } else { 1 }, slots, places, window)
+        }
+        None if is_wide => Geometry::wide(slots, places, window),
+        None => Geometry::new(slots, places, window),
     }
 }
 

@@ -96,7 +96,7 @@ fn write_full<W: fmt::Write>(f: &mut fmt::Formatter<W>, slots: u64) -> fmt::Resu
         f,
         "no slot is free, and an update needs one too: delete a row"
     )?;
-    if slots < Geometry::MOST_SLOTS {
+    if slots < Geometry::MOST_LARGE_SLOTS {
         write!(
             f,
             ", or copy all rows into a store with more slots, as help shows"

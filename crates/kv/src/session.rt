@@ -5,6 +5,7 @@ ghost use Rattle.kv.specs.declared.session.Answer.TheVariants.{Begun, Aborted, R
 ghost use Rattle.kv.specs.declared.statistics.Statistics.{Statistics};
 
 use crate::command::{Range, Request};
+use crate::pages::{RangePages, count_rows};
 use crate::refusal::{Refusal, Stop};
 use crate::statistics::Statistics;
 use base::Ts;
@@ -27,13 +28,21 @@ pub enum Answer {
     /// Nothing was written.
     Done,
     Row(Option<Row>),
-    Rows(Vec<(Key, Row)>),
     Count(usize),
-    /// The rows of all tables, to be counted for each table.
-    Tables(Vec<(Key, Row)>),
-    /// The rows of all tables, to be printed as lines that put them.
-    Dump(Vec<(Key, Row)>),
     Status(Statistics),
+    /// Rows, which are read and printed some at a time.
+    Listing(Listing),
+}
+
+/// What is made of rows that are read some at a time.
+#[derive(Clone, Copy, Drop)]
+pub enum Listing {
+    /// Those of a range are printed.
+    Rows(RangePages),
+    /// Those of all tables are counted for each table.
+    Tables,
+    /// Those of all tables are printed as lines that put them.
+    Dump,
 }
 
 /// Why a line isn't run: it is refused, or no more lines can be run at all.
@@ -41,6 +50,22 @@ pub enum Answer {
 pub enum Failed {
     Refused(Refusal),
     Stopped(Stop),
+}
+
+/// A transaction to read from.
+#[derive(Drop)]
+pub enum Reads<'b, 'a, R: Wait + Drop> {
+    Open(&'b Transaction<'a, Device, R>),
+    Own(Transaction<'a, Device, R>),
+}
+
+impl<'a, R: Wait + Drop> Reads<'_, 'a, R> {
+    pub fn transaction(&self) -> &Transaction<'a, Device, R> {
+        match self {
+            Reads::Open(transaction) => transaction,
+            Reads::Own(transaction) => transaction,
+        }
+    }
 }
 
 impl From<Refusal> for Failed {
@@ -110,10 +135,10 @@ impl<'a, R: Wait + Drop> Session<'a, R> {
             Request::Put { key, row } => self.write(*key, Some(*row)),
             Request::Delete { key } => self.write(*key, None),
             Request::Get { key } => self.get(*key),
-            Request::Scan(range) => Ok(Answer::Rows(self.scan(*range)?)),
+            Request::Scan(range) => Ok(Answer::Listing(Listing::Rows(RangePages::new(*range)))),
             Request::Count { table } => self.count(*table),
-            Request::Tables => Ok(Answer::Tables(self.all()?)),
-            Request::Dump => Ok(Answer::Dump(self.all()?)),
+            Request::Tables => Ok(Answer::Listing(Listing::Tables)),
+            Request::Dump => Ok(Answer::Listing(Listing::Dump)),
             Request::Status => self.status(),
         }
     }
@@ -178,49 +203,32 @@ impl<'a, R: Wait + Drop> Session<'a, R> {
         Ok(Answer::Row(transaction.get(key)?))
     }
 
-    fn scan(&mut self, range: Range) -> Result<Vec<(Key, Row)>, Failed> {
-        self.test_whole()?;
-        let mut rows = match &self.open {
-            Some(transaction) => transaction.scan(range.table, range.lo, range.hi)?,
-            None => {
-                let transaction = self.database.begin()?;
-                transaction.scan(range.table, range.lo, range.hi)?
-            }
-        };
-        if range.is_reverse {
-            rows.as_mut_slice().reverse();
-        }
-        if range.limit < rows.len() as u64 {
-            rows.truncate(range.limit as usize);
-        }
-        Ok(rows)
-    }
-
     fn count(&mut self, table: u16) -> Result<Answer, Failed>
         ensures { IfOk result (λ answer. (count : ℕ) × (answer ≡ Counted count)) }
     {
-        let rows = self.scan(Range::whole(table))?;
-        Ok(Answer::Count(rows.len()))
+        self.test_whole()?;
+        if let Some(transaction) = &self.open {
+            return Ok(Answer::Count(count_rows(self.alloc, transaction, table)?));
+        }
+        let transaction = self.database.begin()?;
+        Ok(Answer::Count(count_rows(self.alloc, &transaction, table)?))
+    }
+
+    /// What rows are read from: the transaction that is open, or one of its own.
+    pub fn reads(&self) -> Result<Reads<'_, 'a, R>, Failed> {
+        self.test_whole()?;
+        match &self.open {
+            Some(transaction) => Ok(Reads::Open(transaction)),
+            None => Ok(Reads::Own(self.database.begin()?)),
+        }
     }
 
     fn status(&mut self) -> Result<Answer, Failed>
         ensures { IfOk result (λ answer. (statistics : Statistics) × (answer ≡ StatusRead statistics)) }
     {
         self.test_whole()?;
-        let geometry = self.database.geometry();
-        let status = self.database.status();
-        let statistics = Statistics::of(&geometry, &status, &self.database.usage());
+        let statistics = Statistics::of(&self.database.report());
         Ok(Answer::Status(statistics))
-    }
-
-    // The rows of all tables in one snapshot.
-    fn all(&mut self) -> Result<Vec<(Key, Row)>, Failed> {
-        self.test_whole()?;
-        if let Some(transaction) = &self.open {
-            return Ok(all_rows(self.alloc, transaction)?);
-        }
-        let transaction = self.database.begin()?;
-        Ok(all_rows(self.alloc, &transaction)?)
     }
 
     fn test_whole(&self) -> Result<(), Failed> {
@@ -229,20 +237,6 @@ impl<'a, R: Wait + Drop> Session<'a, R> {
             None => Ok(()),
         }
     }
-}
-
-fn all_rows<R: Wait + Drop>(
-    alloc: Global,
-    transaction: &Transaction<'_, Device, R>,
-) -> Result<Vec<(Key, Row)>, Fault> {
-    let mut rows = Vec::new(alloc);
-    for table in 0..=u16::MAX {
-        let found = transaction.scan(table, 0, u64::MAX)?;
-        if rows.extend_from_slice(found.as_slice()).is_err() {
-            return Err(Fault::OutOfMemory);
-        }
-    }
-    Ok(rows)
 }
 
 fn write<R: Wait + Drop>(

@@ -1,13 +1,15 @@
 use crate::answers::{Manner, Printer};
 use crate::command::{Command, Request};
 use crate::input::Lines;
+use crate::listing::{Dumped, TableCounts};
 use crate::load::Loader;
+use crate::pages::{AllPages, RangePages};
 use crate::progress::Progress;
 use crate::refusal::{Refusal, Sentence, Stop};
-use crate::session::{Failed, Session};
+use crate::session::{Answer, Failed, Listing, Session};
 use crate::words::parse_line;
 use base::fault::Fault;
-use database::Database;
+use database::{Database, Transaction};
 use std::alloc::Global;
 use std::io;
 use std::io::BufRead;
@@ -70,6 +72,62 @@ pub fn answer_command<'a, R: Input + Print + Eprint + Clock + Wait + Drop>(
     ran?;
     flushed?;
     Ok(shell.outcome)
+}
+
+// Rows that are read from a transaction and printed.
+#[derive(Clone, Copy)]
+struct List<'b, 'a, R: Wait + Drop> {
+    alloc: Global,
+    printer: &'b Printer<'a, R>,
+    transaction: &'b Transaction<'a, Device, R>,
+}
+
+impl<R: Print + Wait + Drop> List<'_, '_, R> {
+    fn rows(&self, pages: RangePages) -> Result<(), Failed> {
+        let mut pages = pages;
+        let mut rows = pages.next(self.alloc, self.transaction)?;
+        self.printer.begin_rows().map_err(Stop::Output)?;
+        let mut count: u64 = 0;
+        for _ in 0..u64::MAX {
+            if rows.is_empty() {
+                break;
+            }
+            let printed = self.printer.print_rows(rows.as_slice());
+            printed.map_err(Stop::Output)?;
+            count = count.saturating_add(rows.len() as u64);
+            rows = pages.next(self.alloc, self.transaction)?;
+        }
+        Ok(self.printer.end_rows(count).map_err(Stop::Output)?)
+    }
+
+    fn tables(&self) -> Result<(), Failed> {
+        let mut pages = AllPages::new();
+        let mut page = pages.next(self.transaction)?;
+        self.printer.begin_tables().map_err(Stop::Output)?;
+        let mut counts = TableCounts::new();
+        for _ in 0..u64::MAX {
+            let Some(rows) = page else {
+                break;
+            };
+            let printed = self.printer.count_rows(&mut counts, rows.as_slice());
+            printed.map_err(Stop::Output)?;
+            page = pages.next(self.transaction)?;
+        }
+        Ok(self.printer.end_tables(counts).map_err(Stop::Output)?)
+    }
+
+    fn dump(&self) -> Result<(), Failed> {
+        let mut pages = AllPages::new();
+        let mut dumped = Dumped::new();
+        for _ in 0..u64::MAX {
+            let Some(rows) = pages.next(self.transaction)? else {
+                break;
+            };
+            let printed = self.printer.dump_rows(&mut dumped, rows.as_slice());
+            printed.map_err(Stop::Output)?;
+        }
+        Ok(self.printer.end_dump(dumped).map_err(Stop::Output)?)
+    }
 }
 
 // The conversation between a store and a person or a program.
@@ -181,8 +239,27 @@ impl<'a, R: Print + Eprint + Clock + Wait + Drop> Shell<'a, R> {
 
     fn ask(&mut self, request: &Request) -> Result<(), Failed> {
         let answer = self.session.answer(request)?;
+        if let Answer::Listing(listing) = &answer {
+            return self.list(*listing);
+        }
         self.printer.print(&answer).map_err(Stop::Output)?;
         Ok(())
+    }
+
+    // Reads rows some at a time, and prints what is made of them.
+    fn list(&mut self, listing: Listing) -> Result<(), Failed> {
+        self.flush()?;
+        let reads = self.session.reads()?;
+        let list = List {
+            alloc: self.alloc,
+            printer: &self.printer,
+            transaction: reads.transaction(),
+        };
+        match listing {
+            Listing::Rows(pages) => list.rows(pages),
+            Listing::Tables => list.tables(),
+            Listing::Dump => list.dump(),
+        }
     }
 
     fn set_timing(&mut self, is_timed: bool) -> Result<(), Failed> {

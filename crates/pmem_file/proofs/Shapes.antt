@@ -1,17 +1,19 @@
 -- Which shape the words of a file have.
-use Rattle.std.proofs.Common.{◌≡◌, ◌≢◌, ◌⊎◌, inl, inr, ℕ, ◌+◌, ◌-◌, ◌*◌, ◌^◌, ◌<◌, ◌≤◌, ◌&&◌, true, nat_eq, nat_le, List, Option, Result, Ok, Err, None, Some, IfOk, IfNone, IfSome, IsTrue, OnSome, length, take, drop, replicate, get_or, refl, sym, ◌∙◌, ap, subst, arith}
+use Rattle.std.proofs.Common.{◌≡◌, ◌≢◌, ◌⊎◌, inl, inr, ℕ, ◌+◌, ◌-◌, ◌*◌, ◌^◌, ◌<◌, ◌≤◌, ◌&&◌, true, nat_le, List, Option, Result, Ok, Err, None, Some, IfOk, IfNone, IfSome, IsTrue, OnSome, length, take, drop, replicate, get_or, refl, sym, ◌∙◌, ap, subst, arith}
 use Rattle.std.proofs.lemmas.Bool.{and_parts, eqb-true, leb-true}
 use Rattle.std.proofs.lemmas.List.{append-nil, length-drop, length-take, length-replicate, get_or-drop, get_or-take, get_or-replicate, get_or_append_left, get_or-append_right, take_all}
 use Rattle.std.specs.Option.{option_or}
 use Rattle.std.specs.declared.io.Error.{Error}
 use Rattle.base.specs.Images.{layout_of, has_good_geometry}
-use Rattle.base.specs.Layout.{Layout, is_between, is_in_limits, is_known_version, slot_start, slot_words, total_words}
-use Rattle.base.proofs.Layouts.{line-words}
+use Rattle.base.specs.Layout.{Layout, is_in_limits, slot_start, slot_words, total_words}
+use Rattle.base.proofs.Layouts.{in-limits, line-words}
 use Rattle.journal.specs.Files.{magic, HasTail, IsFile, Opens}
 use Rattle.journal.proofs.Files.{lines-off, opens-off, opens-one}
 use Rattle.journal.proofs.Tails.{named_one}
 use Rattle.log_area.specs.Rulings.{IsLaidOut}
 use Rattle.pmem_file.specs.declared.shape.Shape.{Shape}
+use Rattle.pmem_file.specs.Journaled.{places_named}
+use Rattle.pmem_file.proofs.Named.{named-of}
 use Rattle.pmem_file.specs.Shapes.{IsBlank, IsImageOf, HasItsPlaces, HasShape, IsMadeFor, IsGrown, IsGrowing, IsNothingBehind, IsOurs, KeepsNames, least_room, room_made, room_older, whole, padded}
 
 zero-magic : 0 ≢ magic
@@ -252,9 +254,7 @@ names-alone asked own file shape is size room sized tail not_alone = absurd (not
 -- the last eight words of an image alone are a slot's
 slot-words : (a : Layout) → is_in_limits a ≡ true → slot_start a 0 + 8 ≤ total_words a
 slot-words a limits =
-    let all = and_parts (is_known_version a.version) (is_between 1 65536 a.slots && (is_between 2 64 a.places && is_between 4 1024 a.window)) limits in
-    let slots = and_parts (is_between 1 65536 a.slots) (is_between 2 64 a.places && is_between 4 1024 a.window) all.1 in
-    let some : 1 ≤ a.slots = leb-true 1 a.slots (and_parts (nat_le 1 a.slots) (nat_le a.slots 65536) slots.0).0 in
+    let some : 1 ≤ a.slots = (in-limits a limits).slots.0 in
     omega (arith, times (slot_words a.version) a.slots (line-words a.version) some)
   where
     times : (n count : ℕ) → 8 ≤ n → 1 ≤ count → 8 ≤ n * count
@@ -293,6 +293,9 @@ no-ours-empty asked words is none (inr (inr g)) = omega (arith, none, g.size)
 
 -- ---- a device that begins with such words
 
-pub begun : (asked : Option Layout) (words : List ℕ) (shape : Shape) (image : List ℕ) (places : ℕ) → HasShape asked words shape → Opens shape.words shape.room (padded shape words) image → places ≡ shape.places
+pub begun : (asked : Option Layout) (words : List ℕ) (shape : Shape) (image : List ℕ) (places : ℕ) → HasShape asked words shape → Opens shape.words shape.room (padded shape words) image → places ≡ places_named image shape.places
     → HasItsPlaces asked image places
-begun asked words shape image places has opens is = grind (arith, opens-one shape.words shape.room (padded shape words) has.image image has.opens opens)
+begun asked words shape image places has opens is =
+    let named = has.has_places in
+    let image_is : IsImageOf asked named.layout image = subst (λ (l : List ℕ). IsImageOf asked named.layout l) (opens-one shape.words shape.room (padded shape words) has.image image has.opens opens) named.image in
+    record { layout = named.layout; image = image_is; places_are = is ∙ named-of asked named.layout image shape.places image_is named.places_are }

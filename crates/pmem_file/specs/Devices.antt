@@ -43,6 +43,10 @@ failure_of device = journal.failure_of device.images
 abbrev pub last_image : {S P Q : Type 0} → {G : StorageGhosts S P} → {H : Ghosts (JournaledImages S P G) Q} → JournaledPmem (JournaledImages S P G) Q H → List ℕ
 last_image device = journal.last_image device.images
 
+-- how many words its journal has
+abbrev pub room_in : {S P Q : Type 0} → {G : StorageGhosts S P} → {H : Ghosts (JournaledImages S P G) Q} → JournaledPmem (JournaledImages S P G) Q H → ℕ
+room_in device = journal.room_of device.images
+
 -- the image may be found, once all has stopped, if this is what is found of the words
 abbrev pub MayFindIn : {S P Q : Type 0} → {G : StorageGhosts S P} → {H : Ghosts (JournaledImages S P G) Q} → (S → ℕ → ℕ → Type 0) → JournaledPmem (JournaledImages S P G) Q H → List ℕ → Type 0
 MayFindIn may_hold device image = journal.MayFind may_hold device.images image

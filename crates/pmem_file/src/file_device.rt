@@ -6,6 +6,7 @@ ghost use Rattle.pmem_file.specs.Devices.{MayFindIn, failure_of, last_image, pla
 ghost use Rattle.file_words.specs.Calls.{IsCutTo, held_by};
 ghost use Rattle.journal.specs.Kept.{HoldsOnly};
 ghost use Rattle.pmem_file.specs.Files.{held_in};
+ghost use Rattle.pmem_file.specs.Journaled.{places_named};
 ghost use Rattle.pmem_file.specs.Shapes.{HasItsPlaces, padded, whole};
 
 use crate::journaled::JournaledPmem;
@@ -130,7 +131,7 @@ fn open_found(
     ensures works { IfOk result (λ device. failure_of device ≡ None) }
     ensures found { IfOk result (λ device. (image : List ℕ) → MayFindIn held_in device image → image ≡ image_of (state_of device)) }
     ensures stands { IfOk result (λ device. Opens shape.words shape.room (padded shape found.words.items) (image_of (state_of device))) }
-    ensures places { IfOk result (λ device. places_of device ≡ shape.places) }
+    ensures places { IfOk result (λ device. places_of device ≡ places_named (image_of (state_of device)) shape.places) }
 {
     let mut storage = FileStorage::new(alloc, file, held)?;
     storage.grow(alloc, found.count(), shape.whole())?;

@@ -4,12 +4,12 @@ ghost use Rattle.pmem.specs.Device.{Device, stored, fenced, failed, MightHaveLef
 ghost use Rattle.journal.specs.Kept.{HoldsOnly};
 ghost use Rattle.pmem_file.specs.Shown.{IsShown};
 ghost use Rattle.pmem_file.specs.Mirrored.{IsMirrored};
-ghost use Rattle.pmem_file.specs.Journaled.{HoldsGate, IsSince, is_gate, is_gate_line, is_gate_flushed};
+ghost use Rattle.pmem_file.specs.Journaled.{HoldsGate, IsSince, NamesPlaces, is_gate, is_gate_line, is_gate_flushed, places_named};
 ghost use Rattle.pmem_file.specs.Traces.{device_of};
 
 use crate::changed::ChangedLines;
 use crate::flushed::{Flushed, MOST_ACTORS, forget};
-use crate::gates::{is_gate, is_gate_line};
+use crate::gates::{is_gate, is_gate_line, keeps_places, places_named};
 use crate::trace::{Operation, Trace};
 use base::actor::Actor;
 use base::fault::Fault;
@@ -34,7 +34,7 @@ pub struct JournaledPmem<I: Images> {
     changed: ChangedLines,
     images: I,
 
-    // The places for records.
+    // The places for records: those of the image, once it is formatted.
     places: usize,
 
     // A gate was stored since the image was kept.
@@ -53,6 +53,7 @@ pub struct JournaledPmem<I: Images> {
     // What was done up to the last image that was written, while it isn't kept.
     written: Snapshot<Trace>,
     ghost marked: { (length words.items ≤ 8 * changed.count) × (changed.places ≡ places) },
+    ghost named: { NamesPlaces places words.items },
     ghost shown: { IsShown (device_of trace) words.items },
     ghost mirrored: { IsMirrored (device_of trace) words.items flushed.items (HoldsGate places (I.may_hold images)) },
     ghost since: { IsSince (device_of trace) (device_of kept.value).clock (I.may_hold images) },
@@ -65,7 +66,7 @@ pub struct JournaledPmem<I: Images> {
 
 impl<I: Images> JournaledPmem<I> {
     ghost use Rattle.pmem.specs.Device.{restarted};
-    ghost use Rattle.pmem.specs.Words.{IsAtRest, Survives};
+    ghost use Rattle.pmem.specs.Words.{IsAtRest, Survives, image_of};
     ghost use Rattle.pmem_file.specs.Devices.{MayFind, images_of, kept_at, places_of, state_of};
 
     /// A device over a place in which images are kept.
@@ -78,20 +79,22 @@ impl<I: Images> JournaledPmem<I> {
         // No other image is found there than these words.
         requires holds { (image : List ℕ) → I.may_hold images image → image ≡ words.items }
 
-        // It is at rest with these words and has this number of places for records. Its image is kept there (`images_of`).
+        // It is at rest with these words. It has the places for records that they name, and if they aren't formatted, this number
+        // (`places_named`). Its image is kept there (`images_of`).
         ensures rest { IfOk result (λ made. IsAtRest (state_of made)) }
         ensures device { IfOk result (λ made. state_of made ≡ restarted words.items) }
-        ensures places { IfOk result (λ made. places_of made ≡ places) }
+        ensures places { IfOk result (λ made. places_of made ≡ places_named words.items places) }
         ensures keeps { IfOk result (λ made. images_of made ≡ images) }
 
         // At Err memory was refused, and these images are returned.
         ensures images { IfErr result (λ back. back ≡ images) }
     {
+        let named = places_named(&words, places);
         let lines = words.len() / 8;
         let Ok(flushed) = Vec::with_capacity(alloc, lines.saturating_add(MOST_ACTORS)) else {
             return Err(images);
         };
-        let Ok(changed) = ChangedLines::new(alloc, lines.saturating_add(1), places) else {
+        let Ok(changed) = ChangedLines::new(alloc, lines.saturating_add(1), named) else {
             return Err(images);
         };
         let trace = Trace::begun(&words);
@@ -102,7 +105,7 @@ impl<I: Images> JournaledPmem<I> {
             flushed,
             changed,
             images,
-            places,
+            places: named,
             is_gate_stored: false,
             is_gate_unwritten: false,
             failed: false,
@@ -112,9 +115,12 @@ impl<I: Images> JournaledPmem<I> {
         })
     }
 
-    /// How many places for records it was made with.
+    /// How many places for records it has, for its whole life.
     pub fn places(&self) -> usize
-        ensures { result ≡ places_of self.now }
+        ensures places { result ≡ places_of self.now }
+
+        // Once its image is formatted, the image has as many.
+        ensures named { NamesPlaces result (image_of (state_of self.now)) }
     {
         self.places
     }
@@ -140,8 +146,8 @@ impl<I: Images> JournaledPmem<I> {
         Fault::Device
     }
 
-    // A store that may be the first to its line since an image was written, or of a gate. Returns whether there was memory for it:
-    // a result would need a place in memory at each store.
+    // A store that may be the first to its line since an image was written, or of a gate. It is refused if there is no memory, and if
+    // a formatted image would name other places. Returns whether it was made: a result would need a place in memory at each store.
     #[cold]
     #[inline(never)]
     fn store_first(&mut self, word: usize, value: u64) -> bool
@@ -149,6 +155,10 @@ impl<I: Images> JournaledPmem<I> {
         ensures stored { result ≡ true → device_of self.new.trace ≡ stored word value (device_of self.old.trace) }
         ensures refused { result ≡ false → device_of self.new.trace ≡ failed (device_of self.old.trace) }
     {
+        if !keeps_places(&self.words, self.places, word, value) {
+            let _ = self.refuse();
+            return false;
+        }
         match self.changed.add(word / 8) {
             Ok(()) => {
                 self.words[word] = value;
@@ -286,7 +296,7 @@ impl<S: Storage> JournaledPmem<JournaledImages<S>> {
     ghost use Rattle.pmem_file.specs.Devices.{IsClosedIn, MayFindIn, StandsForOne, failure_of, last_image, places_of, state_of, storage_of};
 
     /// A device at rest with the image that a file of these words stands for: an image of `words`, a journal of `room`, and a
-    /// tail. It has this number of places for records.
+    /// tail. It has the places for records that the image names, and if it isn't formatted, this number.
     pub fn over(
         alloc: Global,
         storage: S,
@@ -300,12 +310,12 @@ impl<S: Storage> JournaledPmem<JournaledImages<S>> {
         // As for `JournaledImages::open`: the journal and the tail are found only as they were read.
         requires back { length file.now ≡ words + room + 8 → IsReadBack (S.may_hold storage) words room file.now }
 
-        // It is at rest with the image that the file stands for, and has these places. Nothing was done to it yet, and no failure
-        // to keep an image is noted.
+        // It is at rest with the image that the file stands for, and has its places (`places_named`). Nothing was done to it yet,
+        // and no failure to keep an image is noted.
         ensures rest { IfOk result (λ device. IsAtRest (state_of device)) }
         ensures device { IfOk result (λ device. state_of device ≡ restarted (image_of (state_of device))) }
         ensures stands { IfOk result (λ device. Opens words room file.now (image_of (state_of device))) }
-        ensures places { IfOk result (λ device. places_of device ≡ places) }
+        ensures places { IfOk result (λ device. places_of device ≡ places_named (image_of (state_of device)) places) }
         ensures works { IfOk result (λ device. failure_of device ≡ None) }
 
         // No image but the device's may be found there (`MayFindIn`).
@@ -411,7 +421,8 @@ impl<I: Images> Pmem for JournaledPmem<I> {
         self.words[word]
     }
 
-    // It fails only if there is no memory. Most stores are to a line that was stored to before, and holds no gate.
+    // It fails only if there is no memory, or if a formatted image would name other places than the device has. Most stores are to a
+    // line that was stored to before, and holds no gate.
     fn store(&mut self, word: usize, value: u64) -> Result<(), Fault> {
         if self.changed.has_plain(word / 8) {
             self.words[word] = value;

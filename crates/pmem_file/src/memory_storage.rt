@@ -1,7 +1,7 @@
 ghost use Rattle.std.specs.Prelude.{◌≡◌, ◌⊎◌, ℕ, ◌+◌, ◌-◌, ◌%◌, ◌<◌, ◌≤◌, length, slice_index, false, true, None, IfNone, IsBitSet, OnSome, Some};
 ghost use Rattle.journal.specs.Files.{IsInRun};
 ghost use Rattle.journal.specs.Kept.{HoldsOnly, IsFound};
-ghost use Rattle.pmem_file.specs.Memory.{calls_left_in, stored_in, torn_in, IsStored};
+ghost use Rattle.pmem_file.specs.Memory.{IsOut, IsStored, calls_left_in, stored_in, torn_in};
 ghost use Rattle.pmem_file.specs.declared.part.Part.TheVariants.{All as AllWords, Words};
 
 use crate::journaled::JournaledPmem;
@@ -20,6 +20,9 @@ pub struct MemoryStorage {
     // How many writes and syncs succeed until each further one fails.
     left: Option<usize>,
     torn: Part,
+
+    // A sync is handed out.
+    is_out: bool,
 }
 
 impl MemoryStorage {
@@ -32,6 +35,7 @@ impl MemoryStorage {
             words,
             left: None,
             torn: Part::All,
+            is_out: false,
         }
     }
 
@@ -46,6 +50,7 @@ impl MemoryStorage {
             words: self.words,
             left: Some(calls),
             torn,
+            is_out: self.is_out,
         }
     }
 
@@ -84,6 +89,7 @@ impl JournaledPmem<JournaledImages<MemoryStorage>> {
     ghost use Rattle.pmem.specs.Device.{restarted};
     ghost use Rattle.pmem.specs.Words.{IsAtRest, image_of};
     ghost use Rattle.pmem_file.specs.Devices.{failure_of, places_of, state_of};
+    ghost use Rattle.pmem_file.specs.Journaled.{places_named};
 
     /// A device at rest with the image that the storage's words stand for, as those of a file. Fails as `over` does.
     pub fn of_storage(
@@ -97,7 +103,7 @@ impl JournaledPmem<JournaledImages<MemoryStorage>> {
         ensures rest { IfOk result (λ device. IsAtRest (state_of device)) }
         ensures device { IfOk result (λ device. state_of device ≡ restarted (image_of (state_of device))) }
         ensures stands { IfOk result (λ device. Opens words room (stored_in storage) (image_of (state_of device))) }
-        ensures places { IfOk result (λ device. places_of device ≡ places) }
+        ensures places { IfOk result (λ device. places_of device ≡ places_named (image_of (state_of device)) places) }
         ensures works { IfOk result (λ device. failure_of device ≡ None) }
         ensures unopened { IfErr result (λ unopened. StandsAs (IsStored unopened.storage) words room (stored_in storage)) }
     {
@@ -119,9 +125,16 @@ impl Storage for MemoryStorage {
 
     ghost shows = { IsStored };
 
+    ghost refuses = { IsOut };
+
+    ghost came = { λ _. None };
+
     ghost shown_is_found = { λ _ _ _ shown. shown };
 
     fn write(&mut self, start: usize, words: &[u64]) -> io::Result<()> {
+        if self.is_out {
+            return Err(io::Error::from(ErrorKind::ResourceBusy));
+        }
         if !self.take_call() {
             let _ = write_words(&mut self.words, start, words, self.torn);
             return Err(io::Error::from(ErrorKind::StorageFull));
@@ -133,6 +146,9 @@ impl Storage for MemoryStorage {
     }
 
     fn sync(&mut self) -> io::Result<()> {
+        if self.is_out {
+            return Err(io::Error::from(ErrorKind::ResourceBusy));
+        }
         if self.take_call() {
             return Ok(());
         }
@@ -140,6 +156,10 @@ impl Storage for MemoryStorage {
     }
 
     fn hand_out(&mut self) -> Option<()> {
+        if self.is_out {
+            return None;
+        }
+        self.is_out = true;
         Some(())
     }
 
@@ -149,6 +169,7 @@ impl Storage for MemoryStorage {
 
     fn take_back(&mut self, pending: ()) {
         let _ = pending;
+        self.is_out = false;
     }
 }
 

@@ -24,8 +24,8 @@ use std::fs::File;
 use std::io;
 use std::io::{ErrorKind, Read};
 
-// The longest file that is read: an image of 8,405,056 bytes, and a journal that an entry of all its lines fits into.
-const MOST_BYTES: u64 = 17_860_992;
+// The longest file that is read: an image of 2,147,500,096 bytes, and a journal that an entry of all its lines fits into.
+const MOST_BYTES: u64 = 4_563_437_952;
 
 // A journal of 1 MiB has room for two thousand commits of a row each, and only then the image is written in place.
 const LEAST_ROOM: usize = 131_072;
@@ -47,6 +47,7 @@ impl Shape {
     ghost use Rattle.pmem_file.specs.Shapes.{IsMadeFor, room_made, room_older, whole};
 
     // Of an image of this geometry, with a journal as it is made.
+    #[tactic(auto, unfolding(base::specs::Layout::most_slots))]
     fn new(geometry: Geometry) -> Shape
         ensures made { IsMadeFor geometry result }
         ensures room { result.room ≡ room_made result.words }

@@ -41,14 +41,38 @@ pub struct FileSync {
 }
 
 impl FileStorage {
-    ghost use Rattle.std.specs.Prelude.{ℕ, ◌<◌, IfOk};
-    ghost use Rattle.file_words.specs.Calls.{IsCutTo, held_by};
-    ghost use Rattle.pmem_file.specs.Files.{held_in};
+    ghost use Rattle.std.specs.Prelude.{◌≡◌, ℕ, ◌<◌, [], ◌∷◌, IfOk};
+    ghost use Rattle.file_words.specs.Accounts.{Stopping};
+    ghost use Rattle.file_words.specs.Calls.{IsCutTo, calls_of, held_by};
+    ghost use Rattle.journal.specs.Lives.{IsNoMore};
+    ghost use Rattle.pmem_file.specs.Files.{calls_in, held_in};
 
-    pub(crate) fn new(alloc: Global, file: File, held: Vec<File>) -> io::Result<FileStorage> {
+    /// A file of which nothing is known.
+    pub(crate) fn new(alloc: Global, file: File, held: Vec<File>) -> io::Result<FileStorage>
+        ensures { IfOk result (λ storage. calls_in storage ≡ []) }
+    {
         Ok(FileStorage {
             other: Some(file.try_clone()?),
             file: WordFile::new(alloc, file)?,
+            held,
+            apart: Apart::None,
+        })
+    }
+
+    /// A file whose last life stopped with this account. It is trusted of the caller that it is the same file.
+    pub fn after(
+        alloc: Global,
+        file: File,
+        held: Vec<File>,
+        last: &Account,
+    ) -> io::Result<FileStorage>
+        // Each word may be what it may be by that account, and nothing else.
+        ensures calls { IfOk result (λ storage. calls_in storage ≡ Stopping ∷ calls_of last.now) }
+        ensures begins { IfOk result (λ storage. IsNoMore (held_by last.now) (held_in storage)) }
+    {
+        Ok(FileStorage {
+            other: Some(file.try_clone()?),
+            file: WordFile::after(alloc, file, last)?,
             held,
             apart: Apart::None,
         })
@@ -83,11 +107,15 @@ fn busy() -> io::Error {
 impl Storage for FileStorage {
     type Pending = FileSync;
 
-    ghost use Rattle.pmem_file.specs.Files.{held_in, shown_in, shown_in_is_held};
+    ghost use Rattle.pmem_file.specs.Files.{Refuses, came_of, held_in, shown_in, shown_in_is_held};
 
     ghost may_hold = { held_in };
 
     ghost shows = { shown_in };
+
+    ghost refuses = { Refuses };
+
+    ghost came = { came_of };
 
     ghost shown_is_found = { shown_in_is_held };
 

@@ -13,7 +13,7 @@ use Rattle.program.specs.declared.running.Diagnostic.TheVariants.{Nothing, BadWo
 
 -- the file that an order names
 abbrev pub file_of : Order → Text
-file_of (Format name wide slots places window) = name.now
+file_of (Format name width slots places window) = name.now
 file_of (Run name) = name.now
 file_of (Check name) = name.now
 file_of (Lives name) = name.now
@@ -33,7 +33,7 @@ WriteNoFile words = GivesNothing words ⊎ ((order : Order) × Gives words order
 
 -- the order runs lines: a run those of the input, and lives those of a script
 abbrev pub obeys_lines : Order → Bool
-obeys_lines (Format name wide slots places window) = false
+obeys_lines (Format name width slots places window) = false
 obeys_lines (Run name) = true
 obeys_lines (Check name) = false
 obeys_lines (Lives name) = true
@@ -45,7 +45,7 @@ ObeyLines words = (words ≡ []) ⊎ ((order : Order) × Gives words order × (o
 
 -- the order is a run, whose lines are those of the input
 abbrev pub reads_input : Order → Bool
-reads_input (Format name wide slots places window) = false
+reads_input (Format name width slots places window) = false
 reads_input (Run name) = true
 reads_input (Check name) = false
 reads_input (Lives name) = false

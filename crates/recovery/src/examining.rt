@@ -36,7 +36,7 @@ pub struct Examined {
     pub free: Vec<bool>,
     pub live: Vec<LiveSlot>,
     /// For each key, the place of its slot in `live`.
-    pub places: BTreeMap<Key, usize, Global>,
+    pub places: BTreeMap<Key, u32, Global>,
     /// Whether the begin or the end of each slot is in a gap; empty if there are at most eight.
     pub hits: Vec<bool>,
 }

@@ -1,7 +1,7 @@
 //! Two live slots with one key are damage, which is found by counting the keys: one look at each slot is enough for an image
 //! that is sound. Only if the image isn't sound, the slots are gone through in order, to find the lowest bad one.
 
-ghost use Rattle.std.specs.Prelude.{◌≡◌, ◌<◌, ◌+◌, ℕ, None, false, length, All, IfOk, IfErr, OnOk, IsTrue, ◌↔◌};
+ghost use Rattle.std.specs.Prelude.{◌≡◌, ◌<◌, ◌+◌, ◌^◌, ℕ, None, false, length, All, IfOk, IfErr, OnOk, IsTrue, ◌↔◌};
 ghost use Rattle.std.specs.BTreeMap.{IsFromIterResult};
 ghost use Rattle.std.specs.BTreeSet.{contains};
 ghost use Rattle.base.specs.Images.{Image};
@@ -26,7 +26,7 @@ pub struct Held {
     /// The others, in their order.
     pub live: Vec<LiveSlot>,
     /// For each key, the place of its slot in `live`.
-    pub places: BTreeMap<Key, usize, Global>,
+    pub places: BTreeMap<Key, u32, Global>,
 }
 
 // This is decided by what was read of the slots. The lowest bad slot is reported. A slot is bad by itself, or if a lower one has its key:
@@ -61,8 +61,10 @@ pub fn held_slots<R: Threads + Sync>(
     })
 }
 
-// Fewer slots are not worth a thread.
+// Fewer slots are not worth a thread. For more than `MANY` one is made after the other, which takes less memory at a time.
 const FEW: usize = 1024;
+
+const MANY: usize = 1 << 17;
 
 // What the readings show without regard to keys.
 #[derive(Drop)]
@@ -89,15 +91,17 @@ fn side_by_side<R: Threads + Sync>(
     rt: &R,
     alloc: Global,
     readings: &[SlotReading],
-) -> Result<(BTreeMap<Key, usize, Global>, Findings), AllocError>
+) -> Result<(BTreeMap<Key, u32, Global>, Findings), AllocError>
+    requires { length readings.now < 2 ^ 32 }
     ensures places { IfOk result (λ made. IsFromIterResult key_cmp (numbered 0 (held_keys readings.now)) made.0) }
     ensures findings { IfOk result (λ made. AreFindings readings.now made.1) }
 {
-    if readings.len() < FEW {
+    if readings.len() < FEW || MANY < readings.len() {
         let places = places_of(alloc, readings)?;
         return Ok((places, findings_of(alloc, readings)?));
     }
-    let keyed = move || -> Result<BTreeMap<Key, usize, Global>, AllocError>
+    let keyed = move || -> Result<BTreeMap<Key, u32, Global>, AllocError>
+        requires { length readings.now < 2 ^ 32 }
         ensures { IfOk result (λ places. IsFromIterResult key_cmp (numbered 0 (held_keys readings.entry.now)) places) }
     { places_of(alloc, readings) };
     let listed = move || -> Result<Findings, AllocError>
@@ -123,7 +127,8 @@ fn findings_of(alloc: Global, readings: &[SlotReading]) -> Result<Findings, Allo
 fn places_of(
     alloc: Global,
     readings: &[SlotReading],
-) -> Result<BTreeMap<Key, usize, Global>, AllocError>
+) -> Result<BTreeMap<Key, u32, Global>, AllocError>
+    requires { length readings.now < 2 ^ 32 }
     ensures { IfOk result (λ places. IsFromIterResult key_cmp (numbered 0 (held_keys readings.now)) places) }
 {
     readings
@@ -133,8 +138,7 @@ fn places_of(
                 ensures { result ≡ held_key reading.now.found }
             { reading.found.key() },
         )
-        .enumerate()
-        .map(|(place, key)| (key, place))
+        .zip(0..readings.len() as u32)
         .collect(alloc)
 }
 
@@ -173,6 +177,7 @@ fn find_bad(alloc: Global, geometry: Geometry, readings: &[SlotReading]) -> Resu
 }
 
 // Fails if the slot that holds this is bad. Its key joins those of the slots before.
+#[tactic(auto, using(base::proofs::Layouts::few_slots))]
 fn visit(
     geometry: Geometry,
     slot: u64,

@@ -116,7 +116,7 @@ pub struct OpenedImage {
     pub free: Vec<bool>,
     pub live: Vec<LiveSlot>,
     /// For each key, the place of its slot in `live`.
-    pub places: BTreeMap<Key, usize, Global>,
+    pub places: BTreeMap<Key, u32, Global>,
 }
 
 /// The same, for a device that stays where it is.

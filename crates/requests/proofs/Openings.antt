@@ -1,5 +1,5 @@
 -- The parts of a request to open a store.
-use Rattle.std.proofs.Common.{◌≡◌, ℕ, ◌+◌, ◌<◌, ◌≤◌, List, [], ◌++◌, length, drop, Some, None, inl, inr, refl, sym, ap, ◌∙◌, subst, arith, length-append}
+use Rattle.std.proofs.Common.{◌≡◌, ℕ, ◌+◌, List, ◌++◌, length, drop, Some, None, inl, inr, refl, sym, ap, ◌∙◌, subst, arith}
 use Rattle.std.specs.Prelude.{Option, Result, Ok, Err, IfOk, IsUtf8}
 use Rattle.std.specs.String.{string_bytes}
 use Rattle.std.specs.Io.KnownBytes.{Consumes}
@@ -11,7 +11,7 @@ use Rattle.requests.specs.declared.head.Head.{Head}
 use Rattle.requests.specs.declared.opening.AskedLayout.{AskedLayout}
 use Rattle.requests.specs.declared.opening.AskedLayout.TheVariants.{Existing, Narrow, Wide}
 use Rattle.requests.specs.declared.opening.Opening.{Opening}
-use Rattle.requests.specs.Frames.{head_bytes}
+use Rattle.requests.specs.Frames.{head_bytes, IsHead}
 use Rattle.requests.specs.Openings.{asked_bytes, asked_head, opening_bytes, opening_head, opening_payload, IsOpeningOf, ReceivesName, ReceivesOpening}
 
 -- behind the numbers of one layout and of another there is the same name
@@ -50,22 +50,22 @@ no-text head payload layout name is made none opening same whole =
     none (subst IsUtf8 text (IsUtf8-string_bytes opening.name))
 
 -- what was read behind a head makes a frame with it
-pub receives-opening : (head : Head) (old mid new : Option (List ℕ)) (received : Option Opening) → Consumes old mid (head_bytes head) → ReceivesName head mid new received
+pub receives-opening : (head : Head) (old mid new : Option (List ℕ)) (received : Option Opening) → IsHead head → Consumes old mid (head_bytes head) → ReceivesName head mid new received
     → ReceivesOpening old new received
-receives-opening head old mid new (Some opening) first after =
+receives-opening head old mid new (Some opening) is first after =
     let frame : head_bytes head ++ after.0 ≡ opening_bytes opening =
     ap (λ (h : Head). head_bytes h ++ after.0) (sym after.3.0) ∙ ap (λ (l : List ℕ). head_bytes (opening_head opening) ++ l) (sym after.3.1) in
     subst (Consumes old new) frame (Consumes-trans old mid new (head_bytes head) after.0 first after.1)
-receives-opening head old mid new None first (inl after) =
-    inl (head, after.0, Consumes-trans old mid new (head_bytes head) after.0 first after.1, after.2, after.3)
-receives-opening head old mid new None first (inr after) =
-    inr (head_bytes head ++ after.0, Consumes-trans old mid new (head_bytes head) after.0 first after.1, omega (arith, after.2, length-append (head_bytes head) after.0), after.3)
+receives-opening head old mid new None is first (inl after) =
+    inl (head_bytes head ++ after.0, Consumes-trans old mid new (head_bytes head) after.0 first after.1, (head, after.0, is, refl, after.2, after.3))
+receives-opening head old mid new None is first (inr after) =
+    inr (head_bytes head ++ after.0, Consumes-trans old mid new (head_bytes head) after.0 first after.1, inr (head, after.0, is, refl, after.2, after.3), after.4)
 
 -- the same of what a function returned
-pub receives-opening-ok : {E : Type 0} (head : Head) (old mid new : Option (List ℕ)) (told : Result (Option Opening) E) → Consumes old mid (head_bytes head)
+pub receives-opening-ok : {E : Type 0} (head : Head) (old mid new : Option (List ℕ)) (told : Result (Option Opening) E) → IsHead head → Consumes old mid (head_bytes head)
     → IfOk told (ReceivesName head mid new) → IfOk told (ReceivesOpening old new)
-receives-opening-ok head old mid new (Ok received) first after = receives-opening head old mid new received first after
-receives-opening-ok head old mid new (Err error) first after = tt
+receives-opening-ok head old mid new (Ok received) is first after = receives-opening head old mid new received is first after
+receives-opening-ok head old mid new (Err error) is first after = tt
 
 -- a whole payload was read
 pub receives-whole : (head : Head) (old new : Option (List ℕ)) (payload : List ℕ) (received : Option Opening) → Consumes old new payload → length payload ≡ head.length

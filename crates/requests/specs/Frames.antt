@@ -1,5 +1,5 @@
 -- The bytes of heads, requests and replies.
-use Rattle.std.specs.Prelude.{◌≡◌, ◌≢◌, ◌⊎◌, ◌<◌, ℕ, List, [], ◌∷◌, ◌++◌, length, flat_map, Bool, true, false, Option, Some, None}
+use Rattle.std.specs.Prelude.{◌≡◌, ◌≢◌, ◌⊎◌, ◌<◌, ◌≤◌, ◌^◌, ℕ, List, [], ◌∷◌, ◌++◌, length, flat_map, Bool, true, false, Option, Some, None}
 use Rattle.std.specs.Io.KnownBytes.{Appends, Consumes, IsAtEnd}
 use Rattle.std.specs.String.{string_bytes}
 use Rattle.base.specs.declared.key.Key.{Key}
@@ -19,6 +19,15 @@ use Rattle.requests.specs.Statuses.{status_code}
 -- each number, the lowest byte first
 abbrev pub head_bytes : Head → List ℕ
 head_bytes head = ((little_bytes 4 head.length ++ little_bytes 2 head.code) ++ little_bytes 2 head.table) ++ little_bytes 8 head.number
+
+-- each number is one of the bytes that it has in a frame
+abbrev pub IsHead : Head → Type 0
+IsHead head = (head.length < 2 ^ 32) × (head.code < 2 ^ 16) × (head.table < 2 ^ 16) × (head.number < 2 ^ 64)
+
+-- Less than a frame: less than a head, or a head and less than what it announces, which is at most this much.
+-- Excluded: a whole frame that is the last one.
+abbrev pub IsCutOff : ℕ → List ℕ → Type 0
+IsCutOff most rest = (length rest < 16) ⊎ ((head : Head) × (part : List ℕ) × IsHead head × (rest ≡ head_bytes head ++ part) × (length part < head.length) × (head.length ≤ most))
 
 -- the input began with these bytes, and has lost them; or it has ended, with fewer
 abbrev pub Fills : Bool → Option (List ℕ) → Option (List ℕ) → List ℕ → Type 0
@@ -55,6 +64,11 @@ abbrev pub IsRequestOf : Head → List ℕ → Option Request → Type 0
 IsRequestOf head payload (Some request) = (request_head request ≡ head) × (request_payload request ≡ payload)
 IsRequestOf head payload None = (request : Request) → request_head request ≡ head → request_payload request ≢ payload
 
+-- a whole frame that isn't that of a request
+-- Excluded: a request's frame, whose head is read as one of greater numbers that have the same bytes.
+abbrev pub IsOtherFrame : List ℕ → Type 0
+IsOtherFrame frame = (head : Head) × (payload : List ℕ) × IsHead head × (frame ≡ head_bytes head ++ payload) × (length payload ≡ head.length) × IsRequestOf head payload None
+
 -- the codes of requests of a range
 abbrev pub IsRangeCode : ℕ → Type 0
 IsRangeCode code = (code ≡ 7) ⊎ (code ≡ 8)
@@ -72,13 +86,13 @@ IsPlainRequest code None = (code ≢ 1) × (code ≢ 5) × (code ≢ 6) × (code
 abbrev pub ReceivesAfter : Head → Option (List ℕ) → Option (List ℕ) → Received → Type 0
 ReceivesAfter head old new (received.Request request) = (payload : List ℕ) × Consumes old new payload × (length payload ≡ head.length) × IsRequestOf head payload (Some request)
 ReceivesAfter head old new received.Other = (payload : List ℕ) × Consumes old new payload × (length payload ≡ head.length) × IsRequestOf head payload None
-ReceivesAfter head old new received.End = (rest : List ℕ) × Consumes old new rest × (length rest < 96) × IsAtEnd new
+ReceivesAfter head old new received.End = (rest : List ℕ) × Consumes old new rest × (length rest < head.length) × (head.length ≤ 96) × IsAtEnd new
 
 -- what was taken off the input: the frame of a request, one that isn't a request's, or less than a frame
 abbrev pub Receives : Option (List ℕ) → Option (List ℕ) → Received → Type 0
 Receives old new (received.Request request) = Consumes old new (request_bytes request)
-Receives old new received.Other = (head : Head) × (payload : List ℕ) × Consumes old new (head_bytes head ++ payload) × (length payload ≡ head.length) × IsRequestOf head payload None
-Receives old new received.End = (rest : List ℕ) × Consumes old new rest × (length rest < 112) × IsAtEnd new
+Receives old new received.Other = (frame : List ℕ) × Consumes old new frame × IsOtherFrame frame
+Receives old new received.End = (rest : List ℕ) × Consumes old new rest × IsCutOff 96 rest × IsAtEnd new
 
 -- ---- replies
 
@@ -108,6 +122,13 @@ IsLong (answer.Rows rows) = Unit {0}
 IsLong (answer.Numbers numbers) = Unit {0}
 IsLong _ = ⊥
 
+-- A head can say how many bytes of the reply follow it: fewer than 4 GiB.
+-- Excluded: a head that says less than follows.
+abbrev pub HasLength : Answer → Type 0
+HasLength (answer.Rows rows) = length (flat_map row_bytes rows.items) < 2 ^ 32
+HasLength (answer.Refused reason text) = length (string_bytes text) < 2 ^ 32
+HasLength _ = Unit {0}
+
 -- the reply was sent, and nothing else; or it takes memory, and what was sent says that there is none
 abbrev pub Sends : Option (List ℕ) → Option (List ℕ) → Answer → Type 0
-Sends old new answer = Appends old new (answer_bytes answer) ⊎ (IsLong answer × Appends old new (frame_bytes status.OutOfMemory 0 []))
+Sends old new answer = (HasLength answer × Appends old new (answer_bytes answer)) ⊎ (IsLong answer × Appends old new (frame_bytes status.OutOfMemory 0 []))

@@ -1,5 +1,5 @@
 -- The request that opens a store: the first frame of channel 0.
-use Rattle.std.specs.Prelude.{◌≡◌, ◌≢◌, ◌⊎◌, ◌+◌, ◌<◌, ℕ, List, [], ◌++◌, length, Option, Some, None}
+use Rattle.std.specs.Prelude.{◌≡◌, ◌≢◌, ◌⊎◌, ◌+◌, ◌<◌, ◌≤◌, ℕ, List, [], ◌++◌, length, Option, Some, None}
 use Rattle.std.specs.Io.KnownBytes.{Consumes, IsAtEnd}
 use Rattle.std.specs.String.{string_bytes}
 use Rattle.byteorder.specs.Endian.{little_bytes}
@@ -8,7 +8,7 @@ use Rattle.requests.specs.declared.opening.AskedLayout.{AskedLayout}
 use Rattle.requests.specs.declared.opening.AskedLayout.TheVariants as layout
 use Rattle.requests.specs.declared.opening.Numbers.{Numbers}
 use Rattle.requests.specs.declared.opening.Opening.{Opening}
-use Rattle.requests.specs.Frames.{head_bytes}
+use Rattle.requests.specs.Frames.{head_bytes, IsHead, IsCutOff}
 
 -- what is in the head, for a name of this many bytes
 abbrev pub asked_head : AskedLayout → ℕ → ℕ → Head
@@ -49,16 +49,19 @@ abbrev pub IsOpeningOf : Head → List ℕ → Option Opening → Type 0
 IsOpeningOf head payload (Some opening) = (opening_head opening ≡ head) × (opening_payload opening ≡ payload)
 IsOpeningOf head payload None = (opening : Opening) → opening_head opening ≡ head → opening_payload opening ≢ payload
 
--- the input has ended, in fewer bytes than that
-abbrev pub EndsWithin : ℕ → Option (List ℕ) → Option (List ℕ) → Type 0
-EndsWithin most old new = (rest : List ℕ) × Consumes old new rest × (length rest < most) × IsAtEnd new
-
--- What follows a head was taken off the input, and with it makes this request; or makes none; or the input has ended
+-- What follows a head was taken off the input, and with it makes this request; or makes none; or the input has ended before it does
 abbrev pub ReceivesName : Head → Option (List ℕ) → Option (List ℕ) → Option Opening → Type 0
 ReceivesName head old new (Some opening) = (payload : List ℕ) × Consumes old new payload × (length payload ≡ head.length) × IsOpeningOf head payload (Some opening)
-ReceivesName head old new None = ((payload : List ℕ) × Consumes old new payload × (length payload ≡ head.length) × IsOpeningOf head payload None) ⊎ EndsWithin 4112 old new
+ReceivesName head old new None =
+    ((payload : List ℕ) × Consumes old new payload × (length payload ≡ head.length) × IsOpeningOf head payload None)
+    ⊎ ((rest : List ℕ) × Consumes old new rest × (length rest < head.length) × (head.length ≤ 4112) × IsAtEnd new)
+
+-- a whole frame that isn't that of a request to open a store
+abbrev pub IsNoOpening : List ℕ → Type 0
+IsNoOpening frame = (head : Head) × (payload : List ℕ) × IsHead head × (frame ≡ head_bytes head ++ payload) × (length payload ≡ head.length) × IsOpeningOf head payload None
 
 -- The frame of this request was taken off the input; or that of none; or the input has ended, in less than a frame
 abbrev pub ReceivesOpening : Option (List ℕ) → Option (List ℕ) → Option Opening → Type 0
 ReceivesOpening old new (Some opening) = Consumes old new (opening_bytes opening)
-ReceivesOpening old new None = ((head : Head) × (payload : List ℕ) × Consumes old new (head_bytes head ++ payload) × (length payload ≡ head.length) × IsOpeningOf head payload None) ⊎ EndsWithin 4128 old new
+ReceivesOpening old new None =
+    ((frame : List ℕ) × Consumes old new frame × IsNoOpening frame) ⊎ ((rest : List ℕ) × Consumes old new rest × IsCutOff 4112 rest × IsAtEnd new)

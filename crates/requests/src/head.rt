@@ -16,14 +16,15 @@ pub struct Head {
 
 impl Head {
     ghost use Rattle.std.specs.Prelude.{◌≡◌};
-    ghost use Rattle.requests.specs.Frames.{head_bytes};
+    ghost use Rattle.requests.specs.Frames.{head_bytes, IsHead};
 
     /// How many bytes a head has.
     pub const SIZE: usize = 16;
 
     /// The head in these bytes: its numbers are those of the 16 bytes.
     pub fn of(bytes: &[u8; 16]) -> Head
-        ensures { head_bytes result ≡ bytes.now }
+        ensures bytes { head_bytes result ≡ bytes.now }
+        ensures head { IsHead result }
     {
         Head {
             length: LittleEndian::read_u32(bytes),

@@ -1,4 +1,4 @@
-ghost use Rattle.std.specs.Prelude.{◌≡◌, flat_map, IfOk, OnOk};
+ghost use Rattle.std.specs.Prelude.{◌≡◌, ◌<◌, ◌^◌, flat_map, length, IfOk, OnOk};
 ghost use Rattle.std.specs.Io.KnownBytes.{Appends};
 ghost use Rattle.byteorder.specs.Endian.{little_bytes};
 ghost use Rattle.requests.specs.Frames.{frame_bytes, row_bytes, Sends};
@@ -14,8 +14,8 @@ use std::io::{ErrorKind, Write};
 
 /// Writes the frame of the reply.
 pub fn send<W: Write>(alloc: Global, output: &mut W, answer: &Answer) -> io::Result<()>
-    // At Ok the frame of the reply was added to the output. For rows or a status it may also be the frame which says that memory
-    // was refused.
+    // At Ok the frame of the reply was added to the output, and its head says how much follows. For rows or a status it may also be
+    // the frame which says that memory was refused.
     ensures { OnOk result (Sends (W.contents output.old) (W.contents output.new) answer.now) }
 {
     match answer {
@@ -47,7 +47,8 @@ fn send_frame<W: Write>(
     number: u64,
     payload: &[u8],
 ) -> io::Result<()>
-    ensures { OnOk result (Appends (W.contents output.old) (W.contents output.new) (frame_bytes status number payload.now)) }
+    ensures frame { OnOk result (Appends (W.contents output.old) (W.contents output.new) (frame_bytes status number payload.now)) }
+    ensures length { OnOk result (length payload.now < 2 ^ 32) }
 {
     let Ok(length) = u32::try_from(payload.len()) else {
         return Err(io::Error::from(ErrorKind::InvalidData));

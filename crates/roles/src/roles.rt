@@ -33,7 +33,7 @@ impl Roles {
     ghost use Rattle.roles.specs.declared.roles.Lead.TheVariants.{Free, Watched, Led};
     ghost use Rattle.roles.specs.declared.turn.Turn.TheVariants.{Idle, Busy, LacksMemory, Stopped};
     ghost use Rattle.roles.specs.declared.turn.Next.TheVariants.{Again, Yield, Sleep};
-    ghost use Rattle.roles.specs.Moves.{LeavesLead, LeavesWakes, LeavesWorkers};
+    ghost use Rattle.roles.specs.Moves.{HasNoTurn, LeavesLead, LeavesWakes, LeavesWorkers};
 
     /// Nobody acts, nobody has to be woken, and there are no workers.
     pub fn new() -> Roles
@@ -168,9 +168,13 @@ impl Roles {
     /// woken later. If it was refused memory, it tries again only for commits that nobody else acts for.
     pub fn next_of_worker(&mut self, turn: Turn, has_group: bool) -> Next
         ensures ends { self.old.is_closing ≡ true → result ≡ Again }
-        ensures wanted { self.old.is_closing ≡ false → turn ≡ Busy → self.new.is_wanted ≡ true }
-        ensures sleeps { self.old.is_closing ≡ false → (turn ≡ Idle) ⊎ (turn ≡ Busy) ⊎ (turn ≡ Stopped) → result ≡ Sleep }
-        ensures retries { self.old.is_closing ≡ false → turn ≡ LacksMemory → (result ≡ Yield) ⊎ (result ≡ Sleep) }
+        // It sleeps after a turn with nothing to do, one that another thread takes, one that was refused for good, and one without
+        // memory if no commits wait or another thread leads.
+        ensures sleeps { self.old.is_closing ≡ false → (result ≡ Sleep) ↔ (HasNoTurn turn ⊎ ((turn ≡ LacksMemory) × ((has_group ≡ false) ⊎ (self.old.lead ≡ Led)))) }
+        // It lets others run after a turn without memory if commits wait and nobody leads.
+        ensures yields { self.old.is_closing ≡ false → (result ≡ Yield) ↔ ((turn ≡ LacksMemory) × (has_group ≡ true) × (self.old.lead ≢ Led)) }
+        // It has to be woken later exactly if it had to before, or if another thread takes the turn.
+        ensures wanted { (self.new.is_wanted ≡ true) ↔ ((self.old.is_wanted ≡ true) ⊎ ((self.old.is_closing ≡ false) × (turn ≡ Busy))) }
         ensures replied { self.new.has_replied ≡ self.old.has_replied }
         ensures lead { LeavesLead self.old self.new }
         ensures workers { LeavesWorkers self.old self.new }

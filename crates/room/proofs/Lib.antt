@@ -5,3 +5,4 @@ pub mod Runs
 pub mod closes
 pub mod Untouched
 pub mod Calls
+pub mod Passing

@@ -41,7 +41,7 @@ Run-join q [] (r1 ∷ replies) states more others later one two = absurd one
 Run-join q (s1 ∷ steps) [] states more others later one two = absurd one
 Run-join q (s1 ∷ steps) (r1 ∷ replies) [] more others later one two = absurd one
 
-along-at : (q : State) (states : List State) (image : Image) → StandsAt q image → StandsAlong q states image
+pub along-at : (q : State) (states : List State) (image : Image) → StandsAt q image → StandsAlong q states image
 along-at q [] image s = s
 along-at q (q' ∷ states) image s = inl (StandsAt-within q q' image s)
 

@@ -1,15 +1,12 @@
 -- What opening makes of a device and its volatile state.
-use Rattle.std.specs.Prelude.{◌≡◌, ℕ, Bool, List, length, map, Some, None}
+use Rattle.std.specs.Prelude.{◌≡◌, ℕ, Bool, List, map, Some, None}
 use Rattle.base.specs.declared.key.Key.{Key}
 use Rattle.base.specs.Images.{Image}
 use Rattle.base.specs.Layout.{Layout}
 use Rattle.base.specs.Records.{Record}
 use Rattle.pmem.specs.Device.{Device}
-use Rattle.recovery.specs.Live.{live_below}
 use Rattle.recovery.specs.Opened.{HasExamined, HasOpened}
-use Rattle.recovery.specs.Slots.{AreReadings}
 use Rattle.recovery.specs.declared.rows.LiveSlot.{LiveSlot}
-use Rattle.recovery.specs.declared.slots.SlotReading.{SlotReading}
 use Rattle.index.specs.declared.entry.Entry.{Entry}
 use Rattle.index.specs.Entries.{blank}
 use Rattle.session_steps.specs.Opening.{ShowsOpened}
@@ -20,14 +17,10 @@ use Rattle.room.specs.declared.volatile.VolatileState.{VolatileState}
 abbrev pub entry_of : LiveSlot → Key × Entry
 entry_of s = (s.key, record blank { newest = Some s.slot })
 
--- these are the entries of the live versions that were read, if no slot is bad
-abbrev pub HasEntries : List SlotReading → List (Key × Entry) → Type 0
-HasEntries readings entries = (image : Image) → AreReadings image readings → entries ≡ map entry_of (live_below image (length readings))
-
 -- what opening needs of an image, and the entries of the versions that it found live
 pub record HasLearnt (image : Image) (learnt : Learnt) : Type 0 where
   pub found : HasExamined image learnt.found
-  pub entries_are : learnt.entries.items ≡ map entry_of learnt.found.live.items
+  pub entries_are : learnt.entries ≡ map entry_of learnt.found.live.items
 
 -- the device was opened, the sessions show each state in which a life begins on it so, no batch is pending, and none waits to
 -- be handed out

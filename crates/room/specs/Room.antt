@@ -26,6 +26,10 @@ device_of state room = state room.device
 abbrev pub covered_by : {D : Type 0} → {G : Ghosts D} → Room D G → Option Batch
 covered_by room = room.volatile.covered
 
+-- the collector's place in each state that the room shows
+abbrev pub place_of : {D : Type 0} → {G : Ghosts D} → Room D G → ℕ
+place_of room = room.volatile.sessions.collector.place
+
 -- what waits to be handed out after a reply, if this waited before: nothing once a batch is handed out
 abbrev pub left_after : Option Batch → Reply → Option Batch
 left_after waiting (Covered batch) = None

@@ -1,8 +1,9 @@
 -- Runs from the opening of an image, and of a device: the words in which every crate above speaks of them.
-use Rattle.std.specs.Prelude.{◌≡◌, ◌⊎◌, ℕ, List, ◌++◌, map, ⊤, None}
+use Rattle.std.specs.Prelude.{◌≡◌, ◌⊎◌, ℕ, zero, suc, ◌+◌, List, [], ◌∷◌, ◌++◌, map, ⊤, None}
 use Rattle.base.specs.declared.step.Step.{Step}
 use Rattle.base.specs.declared.step.Note.{Note}
 use Rattle.base.specs.declared.step.Reply.{Reply}
+use Rattle.base.specs.declared.step.Reply.TheVariants.{Visited}
 use Rattle.base.specs.Commits.{Commit}
 use Rattle.base.specs.Images.{Image, opening_fault}
 use Rattle.base.specs.Stands.{Stands}
@@ -65,6 +66,13 @@ EndsRun Fact = EndsRunIn Fact (λ q. ⊤)
 -- such a run comes to a state of which this holds
 abbrev pub ComesTo : (State → Type 0) → Type 0
 ComesTo Is = EndsRunIn (λ taken. ⊤) Is
+
+-- ---- visits
+
+-- the replies to visits of this many slots, from this one on
+abbrev pub visited_from : ℕ → ℕ → List Reply
+visited_from slot zero = []
+visited_from slot (suc count) = Visited slot ∷ visited_from (slot + 1) count
 
 -- ---- of a room
 

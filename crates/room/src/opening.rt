@@ -1,27 +1,28 @@
 //! Opening takes all its memory before it changes the device, so that lack of memory leaves the image as it was: the index and the
 //! slots are made from what was read, the table of lines from the device's length, and the record is written last.
 
-ghost use Rattle.std.specs.Prelude.{◌≡◌, ℕ, List, IfOk, IfErr};
+ghost use Rattle.std.specs.Prelude.{◌≡◌, ℕ, List, map, IfOk, IfErr};
 ghost use Rattle.base.specs.Commits.{Commit};
-ghost use Rattle.base.specs.Images.{Image, opening_fault};
+ghost use Rattle.base.specs.Images.{opening_fault};
 ghost use Rattle.base.specs.Stands.{Stands};
 ghost use Rattle.machine.specs.Openings.{StandsOpening};
 ghost use Rattle.pmem.specs.Words.{LeavesOnly, IsAtRest, image_of};
-ghost use Rattle.recovery.specs.Opened.{HasExamined, IsRefusal, IsUpdatedFirst, MakesOpening, Refuses};
-ghost use Rattle.recovery.specs.Read.{AreOf, ReportsLogFault};
-ghost use Rattle.room.specs.Opening.{HasBegun, HasEntries, HasLearnt};
+ghost use Rattle.recovery.specs.Opened.{IsRefusal, IsUpdatedFirst, MakesOpening, Refuses};
+ghost use Rattle.recovery.specs.Read.{ReportsLogFault};
+ghost use Rattle.room.specs.Opening.{HasBegun, HasLearnt, entry_of};
 
 use crate::room::Room;
 use crate::volatile::VolatileState;
 use base::fault::Fault;
+use collector::ReplacedSlots;
 use dirty_table::DirtyTable;
-use index::{Index, KeyedEntry};
+use index::{HintedEntries, Index, KeyedEntry};
 use pmem::Pmem;
-use recovery::{Examined, Readings, SlotContent, SlotReading, read};
+use recovery::{Examined, LiveSlot, examine};
 use session_steps::Sessions;
 use slot_alloc::SlotAlloc;
 use std::alloc::{AllocError, Global};
-use std::thread::{Threads, join};
+use std::thread::Threads;
 
 impl<D: Pmem + Drop + Send + Sync> Room<D> {
     ghost use Rattle.std.specs.Prelude.{◌+◌, ◌*◌, ◌<◌, ◌≤◌, true, false, None, slice_index, MatchResult};
@@ -120,15 +121,20 @@ fn begin<R: Threads + Sync, D: Pmem + Sync>(
         Ok(dirty) => dirty,
         Err(_) => return Err(Fault::OutOfMemory),
     };
+    let replaced = match ReplacedSlots::none(alloc, found.free.len() as u64) {
+        Ok(replaced) => replaced,
+        Err(_) => return Err(Fault::OutOfMemory),
+    };
     let life = match found.open(device) {
         Ok(life) => life,
         Err(fault) => return Err(fault),
     };
-    let index = Index::of(alloc, entries, life.places);
+    let index = Index::of(entries, life.places);
     let sessions = Sessions::open(
         alloc,
         index,
         slots,
+        replaced,
         dirty,
         life.geometry,
         life.ruling,
@@ -141,10 +147,10 @@ fn begin<R: Threads + Sync, D: Pmem + Sync>(
 #[derive(Drop)]
 struct Learnt {
     found: Examined,
-    entries: Vec<KeyedEntry>,
+    entries: HintedEntries,
 }
 
-// Tests all that opening needs of an image, and makes the index's entries as well.
+// Tests all that opening needs of an image, and then makes the index's entries: what was read of the slots is freed by then.
 fn learn<R: Threads + Sync, D: Pmem + Sync>(
     rt: &R,
     alloc: Global,
@@ -154,62 +160,38 @@ fn learn<R: Threads + Sync, D: Pmem + Sync>(
     ensures fault { IfErr result (Refuses (image_of (D.state device.now))) }
     ensures log { IfErr result (ReportsLogFault (image_of (D.state device.now))) }
 {
-    let readings = match read(rt, alloc, device) {
-        Ok(readings) => readings,
-        Err(fault) => return Err(fault),
-    };
-    let (entries, found) = side_by_side(rt, alloc, &readings);
-    let found = match found {
+    let found = match examine(rt, alloc, device) {
         Ok(found) => found,
         Err(fault) => return Err(fault),
     };
-    match entries {
+    match hinted_entries(alloc, found.live.as_slice(), found.free.len()) {
         Ok(entries) => Ok(Learnt { found, entries }),
         Err(_) => Err(Fault::OutOfMemory),
     }
 }
 
-// Fewer slots are not worth a thread.
-const FEW: usize = 1024;
-
-// The entries of the index, and what opening needs: if there are many slots, in two threads.
-fn side_by_side<R: Threads + Sync>(
-    rt: &R,
+// The entries of the keys whose versions are live, with hints for as many keys as there are slots: there are seldom more.
+fn hinted_entries(
     alloc: Global,
-    readings: &Readings,
-) -> (Result<Vec<KeyedEntry>, AllocError>, Result<Examined, Fault>)
-    requires read { (image : Image) × AreOf image readings.now }
-    ensures entries { IfOk result.0 (λ entries. HasEntries readings.now.slots.items entries.items) }
-    ensures found { IfOk result.1 (λ found. (image : Image) → AreOf image readings.now → HasExamined image found) }
-    ensures fault { IfErr result.1 (λ fault. (image : Image) → AreOf image readings.now → Refuses image fault) }
+    live: &[LiveSlot],
+    slots: usize,
+) -> Result<HintedEntries, AllocError>
+    ensures { IfOk result (λ entries. entries ≡ map entry_of live.now) }
 {
-    let slots = readings.slots.as_slice();
-    if slots.len() < FEW {
-        let found = readings.examine(rt, alloc);
-        return (entries_of(alloc, slots), found);
-    }
-    let listed = move || -> Result<Vec<KeyedEntry>, AllocError>
-        ensures { IfOk result (λ entries. HasEntries slots.entry.now entries.items) }
-    { entries_of(alloc, slots) };
-    let examined = move || -> Result<Examined, Fault>
-        requires { (image : Image) × AreOf image readings.now }
-        ensures found { IfOk result (λ found. (image : Image) → AreOf image readings.entry.now → HasExamined image found) }
-        ensures fault { IfErr result (λ fault. (image : Image) → AreOf image readings.entry.now → Refuses image fault) }
-    { readings.examine(rt, alloc) };
-    join(rt, listed, examined)
+    let entries = entries_of(alloc, live)?;
+    HintedEntries::of(alloc, entries, slots)
 }
 
-// The entries of the keys whose versions are live. It reads no slot.
 /// The entries of the keys whose versions are live, in the order of their slots: each with its key, and its slot as the key's
 /// newest version. It reads no slot.
-fn entries_of(alloc: Global, readings: &[SlotReading]) -> Result<Vec<KeyedEntry>, AllocError>
-    ensures { IfOk result (λ entries. HasEntries readings.now entries.items) }
+fn entries_of(alloc: Global, live: &[LiveSlot]) -> Result<Vec<KeyedEntry>, AllocError>
+    ensures { IfOk result (λ entries. entries.items ≡ map entry_of live.now) }
 {
-    let mut entries = Vec::new(alloc);
-    for slot in 0..readings.len() {
-        if let SlotContent::Live(key) = &readings[slot].found {
-            entries.push(KeyedEntry::live(*key, slot as u64))?;
-        }
-    }
-    Ok(entries)
+    live.iter()
+        .map(
+            |found: &LiveSlot| -> KeyedEntry
+                ensures { result ≡ entry_of found.now }
+            { KeyedEntry::live(found.key, found.slot) },
+        )
+        .collect(alloc)
 }

@@ -12,11 +12,12 @@ use collector::Visit;
 use pmem::Pmem;
 
 impl<D: Pmem + Drop> Room<D> {
-    ghost use Rattle.std.specs.Prelude.{◌≡◌, option_copied};
+    ghost use Rattle.std.specs.Prelude.{◌≡◌, ◌⊎◌, ◌<◌, ◌≤◌, true, map, option_copied};
     ghost use Rattle.base.specs.declared.step.Step.TheVariants.{Commit, Collect};
-    ghost use Rattle.session_steps.specs.Collecting.{as_reply as visited};
+    ghost use Rattle.session_steps.specs.Collecting.{as_reply as visited, StopsAfter};
     ghost use Rattle.room.specs.Ticks.{Waits, as_reply as ticked};
-    ghost use Rattle.room.specs.Room.{Leads, covered_by, left_after};
+    ghost use Rattle.room.specs.Room.{Leads, covered_by, left_after, place_of};
+    ghost use Rattle.room.specs.Runs.{LeadsAlong, visited_from};
 
     /// A tick of the committer.
     #[inline(always)]
@@ -58,6 +59,27 @@ impl<D: Pmem + Drop> Room<D> {
         let returned = self.volatile.collect(&mut self.device);
         self.failed = reports_failure(&returned);
         returned
+    }
+
+    /// Visits at once slots whose visits change nothing, this many at most, and returns how many. It takes no memory, and looks at no
+    /// slot.
+    pub fn pass(&mut self, most: u64) -> u64
+        // What `Room::step` does with as many `Collect` as are returned: each replies the slot of its place, and the next is at the place
+        // after it.
+        ensures steps { LeadsAlong D.state self.old self.new (map (λ reply. (Collect, reply)) (visited_from (place_of self.old) result)) }
+
+        // It makes the most, unless the device has failed, gaps are to be swept, or it comes to a slot whose version was replaced, or to
+        // the closing place.
+        ensures most { result ≤ most }
+        ensures stops { result < most → (self.old.failed ≡ true) ⊎ StopsAfter self.old.volatile.sessions result }
+
+        // It leaves what waited.
+        ensures waits { covered_by self.new ≡ covered_by self.old }
+    {
+        if self.failed {
+            return 0;
+        }
+        self.volatile.sessions.pass(most)
     }
 
     /// A tick of the committer: `step` of `Step::Commit`, without moving a step.

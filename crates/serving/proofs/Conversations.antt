@@ -1,10 +1,11 @@
 -- A conversation grows by one exchange, and ends with the input.
-use Rattle.std.proofs.Common.{◌≡◌, ℕ, ◌<◌, List, [], ◌∷◌, ◌++◌, length, None, sym, subst, append-nil}
+use Rattle.std.proofs.Common.{◌≡◌, ℕ, List, [], ◌∷◌, ◌++◌, None, sym, subst, append-nil}
 use Rattle.std.specs.Prelude.{Option}
 use Rattle.std.specs.List.{flat_map}
 use Rattle.std.specs.Io.KnownBytes.{Appends, Consumes, IsAtEnd}
 use Rattle.std.proofs.KnownBytes.{Appends-trans, Consumes-trans}
 use Rattle.std.proofs.lemmas.List.{flat_map_more}
+use Rattle.requests.specs.Frames.{IsCutOff}
 use Rattle.serving.specs.declared.channel.Progress.{Progress}
 use Rattle.serving.specs.declared.channel.Progress.TheVariants as progress
 use Rattle.serving.specs.Conversations.{Exchange, IsExchange, Exchanges, Follows, Converses, ServesAll}
@@ -26,7 +27,7 @@ converses-more input mid left output told sent from after next e before is came 
 
 -- the input has ended, and nothing more was sent
 pub converses-ended : (input mid left output told sent : Option (List ℕ)) (after : Option ℕ) (rest : List ℕ) → Converses input mid output told None after
-    → Consumes mid left rest → length rest < 112 → IsAtEnd left → Appends told sent [] → ServesAll input left output sent
+    → Consumes mid left rest → IsCutOff 96 rest → IsAtEnd left → Appends told sent [] → ServesAll input left output sent
 converses-ended input mid left output told sent after rest before came short ended nothing =
     let bytes = flat_map (λ (x : Exchange). x.went) before.exchanges in record {
       before = mid;

@@ -1,9 +1,9 @@
 -- What one exchange comes to.
-use Rattle.std.proofs.Common.{◌≡◌, ℕ, List, [], ◌++◌, None, Some, refl, sym, subst, inl, inr}
+use Rattle.std.proofs.Common.{◌≡◌, ℕ, List, [], None, Some, refl, subst, inl, inr}
 use Rattle.std.specs.Prelude.{Option, Result, Ok, Err, IfOk}
 use Rattle.std.specs.Io.KnownBytes.{Appends, Consumes}
 use Rattle.std.proofs.KnownBytes.{Appends-nil}
-use Rattle.requests.specs.Frames.{request_bytes, head_bytes, answer_bytes, frame_bytes, Receives, Sends}
+use Rattle.requests.specs.Frames.{request_bytes, answer_bytes, frame_bytes, Receives, Sends}
 use Rattle.requests.specs.declared.answer.Answer.{Answer}
 use Rattle.requests.specs.declared.answer.Answer.TheVariants as answers
 use Rattle.requests.specs.declared.request.Received.{Received}
@@ -19,9 +19,9 @@ made : (input left output sent : Option (List ℕ)) (from after : Option ℕ) (f
     → ServesFrame from asked told after → Sends output sent told → Exchanges input left output sent from after progress.Answered
 made input left output sent from after frame asked told came is served (inl went) = (
   record { came = frame; request = asked; answer = told; went = answer_bytes told; after = after },
-  record { frame = is; served = served; sent = inl refl },
+  record { frame = is; served = served; sent = inl (went.0, refl) },
   came,
-  went,
+  went.1,
   refl,
 )
 made input left output sent from after frame asked told came is served (inr went) = (
@@ -43,7 +43,7 @@ pub other-answered : (input left output sent : Option (List ℕ)) (from : Option
     → Receives input left got → Sends output sent answers.Misuse → Exchanges input left output sent from from progress.Answered
 other-answered input left output sent from got is came went =
     let frame = subst (λ (r : Received). Receives input left r) is came in
-    made input left output sent from from (head_bytes frame.0 ++ frame.1) None answers.Misuse frame.2 (frame.0, frame.1, refl, frame.3, frame.4) (refl, refl) went
+    made input left output sent from from frame.0 None answers.Misuse frame.1 frame.2 (refl, refl) went
 
 -- the same of what a function returned
 pub request-replied : {E : Type 0} (input left output sent : Option (List ℕ)) (from after : Option ℕ) (got : Received) (request : Request) (told : Answer) (result : Result Progress E)

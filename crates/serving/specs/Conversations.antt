@@ -1,10 +1,9 @@
 -- What is said over a channel: each request and its reply, one after the other.
-use Rattle.std.specs.Prelude.{◌≡◌, ◌⊎◌, ◌<◌, ℕ, List, [], ◌∷◌, ◌++◌, length, flat_map, Option, Some, None}
+use Rattle.std.specs.Prelude.{◌≡◌, ◌⊎◌, ℕ, List, [], ◌∷◌, flat_map, Option, Some, None}
 use Rattle.std.specs.Io.KnownBytes.{Appends, Consumes, IsAtEnd}
-use Rattle.requests.specs.Frames.{request_bytes, head_bytes, answer_bytes, frame_bytes, IsLong, IsRequestOf, Sends}
+use Rattle.requests.specs.Frames.{request_bytes, answer_bytes, frame_bytes, HasLength, IsCutOff, IsLong, IsOtherFrame, Sends}
 use Rattle.requests.specs.declared.answer.Answer.{Answer}
 use Rattle.requests.specs.declared.answer.Answer.TheVariants as answer
-use Rattle.requests.specs.declared.head.Head.{Head}
 use Rattle.requests.specs.declared.request.Request.{Request}
 use Rattle.requests.specs.declared.status.Status.TheVariants as status
 use Rattle.serving.specs.declared.channel.Progress.{Progress}
@@ -22,7 +21,7 @@ pub record Exchange : Type 0 where
 -- the frame is that of the request, or of none
 abbrev pub IsFrameOf : List ℕ → Option Request → Type 0
 IsFrameOf frame (Some request) = frame ≡ request_bytes request
-IsFrameOf frame None = (head : Head) × (payload : List ℕ) × (frame ≡ head_bytes head ++ payload) × (length payload ≡ head.length) × IsRequestOf head payload None
+IsFrameOf frame None = IsOtherFrame frame
 
 -- a frame that isn't a request is misuse, and changes nothing
 abbrev pub ServesFrame : Option ℕ → Option Request → Answer → Option ℕ → Type 0
@@ -31,7 +30,7 @@ ServesFrame prior None told after = (told ≡ answer.Misuse) × (after ≡ prior
 
 -- the bytes are those of the reply; or it takes memory, and they say that there is none
 abbrev pub IsFrameSent : Answer → List ℕ → Type 0
-IsFrameSent answer frame = (frame ≡ answer_bytes answer) ⊎ (IsLong answer × (frame ≡ frame_bytes status.OutOfMemory 0 []))
+IsFrameSent answer frame = (HasLength answer × (frame ≡ answer_bytes answer)) ⊎ (IsLong answer × (frame ≡ frame_bytes status.OutOfMemory 0 []))
 
 -- the frame is that of the request, the reply is what it has to be, and its bytes were sent
 pub record IsExchange (prior : Option ℕ) (e : Exchange) : Type 0 where
@@ -58,13 +57,13 @@ pub record ServesAll (input left output sent : Option (List ℕ)) : Type 0 where
   pub converses : Converses input before output sent None after
   pub rest : List ℕ
   pub came : Consumes before left rest
-  pub short : length rest < 112
+  pub short : IsCutOff 96 rest
   pub ended : IsAtEnd left
 
 -- one exchange was made; or the input has ended, in less than a frame, and nothing was sent
 abbrev pub Exchanges : Option (List ℕ) → Option (List ℕ) → Option (List ℕ) → Option (List ℕ) → Option ℕ → Option ℕ → Progress → Type 0
 Exchanges input left output sent prior after progress.Answered = (e : Exchange) × IsExchange prior e × Consumes input left e.came × Appends output sent e.went × (after ≡ e.after)
-Exchanges input left output sent prior after progress.Ended = (rest : List ℕ) × Consumes input left rest × (length rest < 112) × IsAtEnd left × Appends output sent [] × (after ≡ prior)
+Exchanges input left output sent prior after progress.Ended = (rest : List ℕ) × Consumes input left rest × IsCutOff 96 rest × IsAtEnd left × Appends output sent [] × (after ≡ prior)
 
 -- the reply was sent
 abbrev pub Replies : Option (List ℕ) → Option (List ℕ) → Answer → Progress → Type 0

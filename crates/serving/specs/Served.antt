@@ -14,7 +14,8 @@ use Rattle.requests.specs.declared.request.Request.TheVariants as request
 use Rattle.requests.specs.declared.status.Status.{Status}
 use Rattle.store.specs.declared.error.StoreError.{StoreError}
 use Rattle.store.specs.declared.status.Status as usage
-use Rattle.store.specs.Answers.{Answers, Puts, OfScanned, ScanRefused, IsCommitRefusal}
+use Rattle.store.specs.Answers.{Answers, Puts, IsCommitRefusal}
+use Rattle.store.specs.Reads.{ReadsRange, RangeRefused}
 use Rattle.store.specs.Status.{ShowsStore}
 use Rattle.serving.specs.Refusals.{status_of}
 
@@ -63,15 +64,15 @@ Aborts session answer.Done = Answers (Abort session) done_of (Ok tt)
 Aborts session (answer.Refused status text) = IsRefusedWith (λ error. Answers {A = ⊤} (Abort session) done_of (Err error)) status
 Aborts session _ = ⊥
 
--- rows of the range that the session scanned, of which this is the part
+-- this part of the rows of the range, as the session reads it
 abbrev pub ScansPart : (List (Key × List ℕ) → List (Key × List ℕ)) → KeyRange → ℕ → Answer → Type 0
-ScansPart part range session (answer.Rows rows) = OfScanned session range.table range.least (range.greatest + 1) (λ all. rows.items ≡ part all)
-ScansPart part range session (answer.Refused status text) = IsRefusedWith (ScanRefused session range.table range.least (range.greatest + 1)) status
+ScansPart part range session (answer.Rows rows) = ReadsRange part session range.table range.least (range.greatest + 1) rows.items
+ScansPart part range session (answer.Refused status text) = IsRefusedWith (RangeRefused part session range.table range.least (range.greatest + 1)) status
 ScansPart part range session _ = ⊥
 
 -- the first of them, at most this many
 abbrev pub ScansFirst : KeyRange → ℕ → ℕ → Answer → Type 0
-ScansFirst range limit session answer = ScansPart (take limit) range session answer
+ScansFirst range limit session answer = ScansPart (λ all. take limit all) range session answer
 
 -- the last of them, at most this many, the last one first
 abbrev pub ScansLast : KeyRange → ℕ → ℕ → Answer → Type 0

@@ -43,6 +43,7 @@ module _ (s : Sessions) (h : Hidden) (hand : Option Hand) (failed : Bool) (a : A
     drawn = λ k e lt. drawn-with (slice_index_or s.drawn.commits k e) (a.drawn k e lt);
     free = a.free;
     counted = a.counted;
+    unreplaced = a.unreplaced;
     index = λ key. record {
       live = slot-with (newest_of was key) (live_of (entry_at s.index key)) (a.index key).live;
       last = (a.index key).last;

@@ -15,6 +15,7 @@ failed-agrees s h agrees = record {
   drawn = λ k d lt. let has = agrees.drawn k d lt in record { session = has.session; writes = λ j w below. record { slot = (has.writes j w below).slot; row = (has.writes j w below).row }; room = has.room };
   free = agrees.free;
   counted = agrees.counted;
+  unreplaced = agrees.unreplaced;
   index = λ key. let e = agrees.index key in record { live = e.live; last = e.last; newest = e.newest; only = λ slot at. let has = e.only slot at in record { within = has.within; timestamp = has.timestamp; held = has.held }; drawn = e.drawn };
   lines = record { own = agrees.lines.own; none = agrees.lines.none };
   sized = agrees.sized;

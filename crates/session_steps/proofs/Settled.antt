@@ -169,6 +169,7 @@ module _ (s : Sessions) (o : Origin) (h : Hidden) (keeps : Keeps o (plain_of s h
       };
       free = agrees.free;
       counted = agrees.counted;
+      unreplaced = agrees.unreplaced;
       index = entry-tidied;
       lines = agrees.lines;
       sized = agrees.sized;
@@ -195,7 +196,7 @@ module _ (covered : ℕ → Bool) (place : ℕ) (old new : List (Key × Entry)) 
 tidies-not : (s : Sessions) (place : ℕ) → Tidies s (record s { next_entry = place })
 tidies-not s place = record {
   same = refl;
-  agrees = λ o h keeps agrees. record { sessions = agrees.sessions; drawn = λ k d lt. record { session = (agrees.drawn k d lt).session; writes = (agrees.drawn k d lt).writes; room = (agrees.drawn k d lt).room }; free = agrees.free; counted = agrees.counted; index = agrees.index; lines = agrees.lines; sized = agrees.sized };
+  agrees = λ o h keeps agrees. record { sessions = agrees.sessions; drawn = λ k d lt. record { session = (agrees.drawn k d lt).session; writes = (agrees.drawn k d lt).writes; room = (agrees.drawn k d lt).room }; free = agrees.free; counted = agrees.counted; unreplaced = agrees.unreplaced; index = agrees.index; lines = agrees.lines; sized = agrees.sized };
 }
 
 -- what is done at a place, if another one is looked at next

@@ -2,3 +2,5 @@
 pub mod Rows
 pub mod Scans
 pub mod Tables
+pub mod Beginnings
+pub mod Pages

@@ -1,5 +1,5 @@
 -- What a visit of the collector leads to, and who may still read a version.
-use Rattle.std.specs.Prelude.{◌≡◌, ℕ, Bool, true, false, ◌&&◌, List, Option, Some, None, Result, Ok, Err}
+use Rattle.std.specs.Prelude.{◌≡◌, ◌≢◌, ◌⊎◌, ℕ, ◌+◌, ◌<◌, Bool, true, false, ◌&&◌, List, slice_get, Option, Some, None, Result, Ok, Err}
 use Rattle.std.specs.List.{list_all}
 use Rattle.base.specs.Actors.{collector}
 use Rattle.base.specs.Layout.{Layout}
@@ -9,7 +9,7 @@ use Rattle.base.specs.declared.step.Step.TheVariants.{Collect}
 use Rattle.base.specs.declared.step.Reply.{Reply}
 use Rattle.base.specs.declared.step.Reply.TheVariants.{Visited, SweepEnd as SweepEnded, Refused}
 use Rattle.machine.specs.Machine.{State, Stepped, session_numbers, most_operations, StandsWithin}
-use Rattle.pmem.specs.Device.{Device}
+use Rattle.pmem.specs.Device.{Device, IsOrderly}
 use Rattle.snapshot.specs.Snapshots.{Seen, covers}
 use Rattle.txn.specs.declared.transaction.Transaction.{Transaction}
 use Rattle.txn.specs.declared.transaction.Transaction.TheVariants.{Active, Drawn, ReadOnly}
@@ -18,6 +18,7 @@ use Rattle.version_slot.specs.Words.{key_in, slot_at}
 use Rattle.slot_alloc.specs.Free.{is_free}
 use Rattle.index.specs.declared.entry.Entry.{Entry}
 use Rattle.index.specs.Entries.{entry_at, forgotten, Sets}
+use Rattle.collector.specs.Sweeping.{is_due}
 use Rattle.collector.specs.declared.visit.Visit.{Visit}
 use Rattle.collector.specs.declared.visit.Visit.TheVariants.{Slot, SweepEnd}
 use Rattle.session_steps.specs.declared.sessions.Sessions.{Sessions}
@@ -59,6 +60,26 @@ pub record CollectsTo (old new : Sessions) (before now : Device) (result : Resul
 -- so it does from every state that the sessions showed and that hadn't failed
 abbrev pub Collects : Sessions → Sessions → Device → Device → Result Visit Fault → Type 0
 Collects old new before now result = (q : State) → Shows old before q → q.failed ≡ false → (q' : State) × CollectsTo old new before now result q q'
+
+-- ---- visits that pass
+
+-- the state once the collector has passed this many places
+abbrev pub passed : ℕ → State → State
+passed count q = record q { place = q.place + count }
+
+-- as many visits are the machine's steps, each of which moves the place on and changes nothing else, and the sessions show the state after
+-- them
+pub record PassesTo (new : Sessions) (device : Device) (count : ℕ) (q : State) : Type 0 where
+  pub stepped : (k : ℕ) → k < count → Stepped (passed k q) Collect (Visited (q.place + k)) (passed (k + 1) q)
+  pub shows : Shows new device (passed count q)
+
+-- so they are from every state that the sessions showed and that hadn't failed; nothing is done to the device
+abbrev pub Passes : Sessions → Sessions → ℕ → Type 0
+Passes old new count = (device : Device) (q : State) → IsOrderly device → Shows old device q → q.failed ≡ false → PassesTo new device count q
+
+-- after passing this many there is no more to pass: gaps are swept first, or the next place isn't a slot whose version stays
+abbrev pub StopsAfter : Sessions → ℕ → Type 0
+StopsAfter s count = (is_due s.collector.swept s.numbers.record.gaps ≡ true) ⊎ (slice_get s.replaced (s.collector.place + count) ≢ Some false)
 
 -- ---- the index
 

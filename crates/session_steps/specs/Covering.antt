@@ -1,5 +1,5 @@
 -- What covers the drawn commits that a record commits.
-use Rattle.std.specs.Prelude.{◌≡◌, true, not, List, filter, ◌++◌, fold, if◌then◌else◌, None, Some, All}
+use Rattle.std.specs.Prelude.{◌≡◌, ℕ, Bool, true, false, not, List, filter, ◌++◌, fold, slice_get, if◌then◌else◌, None, Some, All}
 use Rattle.base.specs.declared.key.Key.{Key}
 use Rattle.base.specs.Keys.{key_eq}
 use Rattle.base.specs.Records.{Record, is_committed}
@@ -41,6 +41,13 @@ pub record CoversWrites (writes : List Write) (old new : List (Key × Entry)) : 
 pub record CoversCommits (commits : List DrawnCommit) (old new : List (Key × Entry)) : Type 0 where
   pub entries : (key : Key) → entry_at new key ≡ covered_by_commits key (entry_at old key) commits
   pub room : KeepsRoom old new
+
+-- ---- what it replaces
+
+-- No slot is left out that was in, and none whose version was the newest of its key, unless the key's entry is the same
+pub record MarksReplaced (before now : List Bool) (old new : List (Key × Entry)) : Type 0 where
+  pub others : (slot : ℕ) → slice_get now slot ≡ Some false → slice_get before slot ≡ Some false
+  pub entries : (key : Key) (slot : ℕ) → (entry_at old key).newest ≡ Some slot → slice_get now slot ≡ Some false → entry_at new key ≡ entry_at old key
 
 -- ---- a batch
 

@@ -10,3 +10,4 @@ pub mod Covering
 pub mod Opening
 pub mod Laws
 pub mod Usage
+pub mod Reads

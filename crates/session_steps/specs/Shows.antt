@@ -6,6 +6,7 @@ use Rattle.base.specs.declared.key.Key.{Key}
 use Rattle.base.specs.Commits.{Commit, writes_key}
 use Rattle.base.specs.Layout.{total_words}
 use Rattle.machine.specs.Machine.{State, Session, Active as Reads, Drew, WroteNothing, Drawn as PlainDrawn, Hand, Version, Writer, BySession, ByCommit, drawn_at, drawn_of}
+use Rattle.machine.specs.Collecting.{replace}
 use Rattle.pmem.specs.Device.{Device}
 use Rattle.txn.specs.declared.drawn.DrawnCommit.{DrawnCommit}
 use Rattle.txn.specs.declared.transaction.Transaction.{Transaction}
@@ -123,12 +124,18 @@ pub record HoldsDrawn (s : Sessions) (q : State) (d : DrawnCommit) : Type 0 wher
   pub writes : All (HasItsSlot q (ByCommit d.timestamp)) d.writes
   pub room : All (λ write. has_room s.index write.key ≡ true) d.writes
 
--- the fields agree with the state, if the snapshots see this many commits
+-- there is such a slot, and the history replaces no version in it: a visit of it changes nothing
+abbrev pub IsUnreplaced : State → ℕ → Type 0
+IsUnreplaced q slot = (slot < q.layout.slots) × (replace q.history (q.held slot) ≡ false)
+
+-- The fields agree with the state, if the snapshots see this many commits.
+-- Excluded: a slot that isn't among the replaced ones, and that a visit frees.
 pub record Agrees (s : Sessions) (o : Origin) (seen : ℕ → ℕ) (q : State) : Type 0 where
   pub sessions : (n : ℕ) → HoldsSession o q n (seen n) (transaction_at s.transactions n)
   pub drawn : All (HoldsDrawn s q) s.drawn.commits
   pub free : (slot : ℕ) → slot < q.layout.slots → slice_get s.slots slot ≡ Some (is_none (q.held slot))
   pub counted : length s.slots ≡ q.layout.slots
+  pub unreplaced : (slot : ℕ) → slice_get s.replaced slot ≡ Some false → IsUnreplaced q slot
   pub index : (key : Key) → HoldsEntry o q key (entry_at s.index key)
   pub lines : HoldsLines q s.drawn.commits s.dirty
   pub sized : total_words q.layout ≤ 8 * length s.dirty

@@ -96,9 +96,10 @@ fn forget<D: Pmem>(index: &mut Index, device: &D, geometry: Geometry, slot: Slot
 }
 
 impl Sessions {
-    ghost use Rattle.std.specs.Prelude.{true, Ok, IfErr};
+    ghost use Rattle.std.specs.Prelude.{◌≤◌, ◌+◌, true, Ok, IfErr};
+    ghost use Rattle.collector.specs.Sweeping.{is_due};
     ghost use Rattle.session_steps.specs.Steps.{ShowsSome};
-    ghost use Rattle.session_steps.specs.Collecting.{Collects};
+    ghost use Rattle.session_steps.specs.Collecting.{Collects, Passes, StopsAfter};
 
     /// Whether the gaps with which the life began are swept.
     pub fn has_swept(&self) -> bool
@@ -128,6 +129,31 @@ impl Sessions {
         }
     }
 
+    // Whether a visit sweeps.
+    fn is_sweeping(&self) -> bool
+        ensures { result ≡ is_due self.now.collector.swept self.now.numbers.record.gaps }
+    {
+        !self.collector.has_swept() && !self.numbers.record.gaps().as_slice().is_empty()
+    }
+
+    /// Visits at once places whose visits change nothing, this many at most, and returns how many. It takes no memory, and looks at
+    /// no slot.
+    pub fn pass(&mut self, most: u64) -> u64
+        // As many visits as are returned: each is the machine's own step, for every plain state that the sessions show on a device and
+        // that hasn't failed, and moves the place on by one (`Passes`).
+        ensures passes { Passes self.old self.new result }
+        ensures moved { self.new ≡ record self.old { collector = record self.old.collector { place = self.old.collector.place + result } } }
+
+        // It makes the most, unless gaps are to be swept, or it comes to a slot among the replaced ones, or to the closing place.
+        ensures most { result ≤ most }
+        ensures stops { result < most → StopsAfter self.old result }
+    {
+        if self.is_sweeping() {
+            return 0;
+        }
+        self.collector.pass(&self.replaced, most)
+    }
+
     // One visit, once the gaps are swept.
     #[inline(always)]
     fn visit<D: Pmem>(&mut self, device: &D) -> Visit
@@ -154,6 +180,7 @@ impl Sessions {
                     geometry,
                     slot,
                 );
+                self.replaced.leave_free(&self.slots, slot);
                 self.settle(place);
                 Visit::Slot(slot)
             }
@@ -188,6 +215,7 @@ impl Sessions {
                     geometry,
                     slot,
                 );
+                self.replaced.leave_free(&self.slots, slot);
                 self.settle(place);
                 Ok(Visit::Slot(slot))
             }

@@ -5,36 +5,46 @@ ghost use Rattle.std.specs.Prelude.{◌≡◌, ◌<◌, ℕ, IsTrue, All};
 ghost use Rattle.txn.specs.DrawnCommits.{are_numbered};
 ghost use Rattle.dirty_table.specs.Touches.{has};
 ghost use Rattle.session_steps.specs.Shows.{has_drawn_by};
-ghost use Rattle.session_steps.specs.Covering.{HasRoom, CoversWrites, CoversCommits, committed_by};
+ghost use Rattle.session_steps.specs.Covering.{HasRoom, CoversWrites, CoversCommits, MarksReplaced, committed_by};
 
 use crate::sessions::Sessions;
+use collector::ReplacedSlots;
 use dirty_table::SessionSet;
 use index::Index;
 use log_area::Record;
 use txn::{DrawnCommit, WriteSet};
 
-// Covers the versions of these writes.
-fn cover_writes(index: &mut Index, writes: &WriteSet)
+// Covers the versions of these writes, and marks the slots of those that they replace.
+fn cover_writes(index: &mut Index, replaced: &mut ReplacedSlots, writes: &WriteSet)
     requires { HasRoom index.old writes.now }
-    ensures { CoversWrites writes.now index.old index.new }
+    ensures covers { CoversWrites writes.now index.old index.new }
+    ensures marks { MarksReplaced replaced.old replaced.new index.old index.new }
 {
     for write in writes.as_slice() {
-        index.cover(write.key, write.place, write.slot);
+        let newest = index.cover(write.key, write.place, write.slot);
+        replaced.mark(newest);
     }
 }
 
-// Covers the versions of the commits that the record commits. Returns the numbers of the sessions that drew them.
-fn cover_commits(index: &mut Index, commits: &[DrawnCommit], ruling: &Record) -> SessionSet
+// Covers the versions of the commits that the record commits, and marks the slots of those that they replace. Returns the numbers of
+// the sessions that drew them.
+fn cover_commits(
+    index: &mut Index,
+    replaced: &mut ReplacedSlots,
+    commits: &[DrawnCommit],
+    ruling: &Record,
+) -> SessionSet
     requires room { All (λ d. HasRoom index.old d.writes) commits.now }
     requires numbered { IsTrue (are_numbered commits.now) }
     ensures index { CoversCommits (committed_by ruling.now commits.now) index.old index.new }
+    ensures marks { MarksReplaced replaced.old replaced.new index.old index.new }
     ensures sessions { (n : ℕ) → has result n ≡ has_drawn_by (committed_by ruling.now commits.now) n }
 {
     let mut sessions = SessionSet::none();
     for commit in commits {
         if ruling.commits(commit.timestamp) {
             sessions.insert(commit.session);
-            cover_writes(index, &commit.writes);
+            cover_writes(index, replaced, &commit.writes);
         }
     }
     sessions
@@ -55,7 +65,7 @@ impl Sessions {
         ensures shows { ShowsCovered self.old self.new ruling }
     {
         let commits = self.drawn.as_slice();
-        let sessions = cover_commits(&mut self.index, commits, &ruling);
+        let sessions = cover_commits(&mut self.index, &mut self.replaced, commits, &ruling);
         self.dirty.forget(&sessions);
         self.numbers.record = ruling;
         self.drawn

@@ -22,6 +22,7 @@ mod giving;
 mod law;
 mod lending;
 mod opening;
+mod parts;
 mod poll;
 mod put;
 mod scan;
@@ -33,5 +34,6 @@ mod touching;
 mod usage;
 
 pub use law::{sessions_show_any_hand, table_has_the_lines_of_a_batch};
+pub use parts::Page;
 pub use poll::CommitStatus;
 pub use sessions::Sessions;

@@ -1,4 +1,4 @@
-ghost use Rattle.std.specs.Prelude.{ℕ, ◌≡◌, ◌*◌, ◌≤◌, false, length};
+ghost use Rattle.std.specs.Prelude.{ℕ, ◌≡◌, ◌*◌, ◌≤◌, false, length, replicate};
 ghost use Rattle.base.specs.Layout.{total_words};
 ghost use Rattle.dirty_table.specs.Touches.{is_touched};
 ghost use Rattle.pmem.specs.Words.{image_of};
@@ -7,7 +7,7 @@ ghost use Rattle.session_steps.specs.Opening.{HasFound};
 use crate::sessions::Sessions;
 use base::Ts;
 use base::geometry::Geometry;
-use collector::Collector;
+use collector::{Collector, ReplacedSlots};
 use dirty_table::DirtyTable;
 use index::Index;
 use log_area::Record;
@@ -26,12 +26,16 @@ impl Sessions {
         alloc: Global,
         index: Index,
         slots: SlotAlloc,
+        replaced: ReplacedSlots,
         dirty: DirtyTable,
         geometry: Geometry,
         ruling: Record,
         next: Ts,
     ) -> Sessions
         requires slots { length slots ≡ geometry.slots }
+
+        // No slot is among the replaced ones: what replaces a version has freed its slot.
+        requires replaced { replaced ≡ replicate geometry.slots false }
 
         // The dirty table has a place for each line of the layout, and none is touched.
         requires untouched { (n line : ℕ) → is_touched dirty n line ≡ false }
@@ -52,6 +56,7 @@ impl Sessions {
             dirty,
             slots,
             collector: Collector::new(),
+            replaced,
             next_entry: 0,
             alloc,
         }

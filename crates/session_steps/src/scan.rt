@@ -1,4 +1,4 @@
-ghost use Rattle.std.specs.Prelude.{◌≡◌, ℕ, Bool, IfOk, if◌then◌else◌};
+ghost use Rattle.std.specs.Prelude.{◌≡◌, ◌≤◌, ◌+◌, ℕ, Bool, true, false, length, IfOk, if◌then◌else◌};
 ghost use Rattle.std.specs.Result.{OnOk};
 ghost use Rattle.std.specs.BTreeMap.{get};
 ghost use Rattle.base.specs.declared.key.Key.{Key as KeyValue};
@@ -9,7 +9,7 @@ ghost use Rattle.pmem.specs.Words.{image_of};
 ghost use Rattle.txn.specs.WriteSets.{plain_writes};
 ghost use Rattle.index.specs.Entries.{key_cmp};
 ghost use Rattle.index.specs.Walking.{AreLinked};
-ghost use Rattle.index.specs.Reading.{CountsAs, ShowsTables, HasRows, ranged};
+ghost use Rattle.index.specs.Reading.{CountsAs, ShowsTables, HasRows, contains, ranged};
 
 use crate::active::active_in;
 use crate::sessions::Sessions;
@@ -22,7 +22,7 @@ use pmem::Pmem;
 use snapshot::Snapshot;
 use std::alloc::AllocError;
 use std::collections::BTreeMap;
-use txn::WriteSet;
+use txn::{Write, WriteSet};
 
 impl Sessions {
     ghost use Rattle.base.specs.declared.step.SessionStep.TheVariants.{Scan};
@@ -84,28 +84,45 @@ impl Sessions {
     }
 }
 
-// Lays the writes in the range over the rows.
-fn lay_over(
+// Lays the writes in the range over the rows. Each takes at most one row away.
+pub(crate) fn lay_over(
     rows: &mut BTreeMap<Key, Row>,
     writes: &WriteSet,
     range: KeyRange,
 ) -> Result<(), AllocError>
-    ensures { OnOk result ((tables : Tables) → HasRows rows.old (ranged range tables) → HasRows rows.new (ranged range (overlaid (plain_writes writes.now) tables))) }
+    ensures rows { OnOk result ((tables : Tables) → HasRows rows.old (ranged range tables) → HasRows rows.new (ranged range (overlaid (plain_writes writes.now) tables))) }
+    ensures count { OnOk result (length rows.old.entries ≤ length rows.new.entries + length writes.now) }
 {
     for write in writes.as_slice() {
-        if range.contains(write.key) {
-            match lay(rows, write.key, write.row) {
-                Ok(()) => {}
-                Err(fault) => return Err(fault),
-            }
+        match lay_within(rows, write, range) {
+            Ok(()) => {}
+            Err(fault) => return Err(fault),
         }
     }
     Ok(())
 }
 
+// Lays the write over the rows, if its key is in the range.
+fn lay_within(
+    rows: &mut BTreeMap<Key, Row>,
+    write: &Write,
+    range: KeyRange,
+) -> Result<(), AllocError>
+    ensures inside { contains range write.now.key ≡ true → OnOk result ((k : KeyValue) → get key_cmp rows.new k ≡ (if key_eq write.now.key k then write.now.row else get key_cmp rows.old k)) }
+    ensures outside { contains range write.now.key ≡ false → OnOk result (rows.new ≡ rows.old) }
+    ensures count { OnOk result (length rows.old.entries ≤ length rows.new.entries + 1) }
+{
+    if range.contains(write.key) {
+        lay(rows, write.key, write.row)
+    } else {
+        Ok(())
+    }
+}
+
 // Puts the row in at the key, or takes out what is there.
 fn lay(rows: &mut BTreeMap<Key, Row>, key: Key, row: Option<Row>) -> Result<(), AllocError>
-    ensures { OnOk result ((k : KeyValue) → get key_cmp rows.new k ≡ (if key_eq key k then row else get key_cmp rows.old k)) }
+    ensures row { OnOk result ((k : KeyValue) → get key_cmp rows.new k ≡ (if key_eq key k then row else get key_cmp rows.old k)) }
+    ensures count { OnOk result (length rows.old.entries ≤ length rows.new.entries + 1) }
 {
     match row {
         Some(row) => match rows.insert(key, row) {

@@ -1,4 +1,4 @@
-use collector::Collector;
+use collector::{Collector, ReplacedSlots};
 use dirty_table::DirtyTable;
 use index::Index;
 use slot_alloc::SlotAlloc;
@@ -16,6 +16,8 @@ pub struct Sessions {
     pub(crate) dirty: DirtyTable,
     pub(crate) slots: SlotAlloc,
     pub(crate) collector: Collector,
+    // The slots whose versions a covered commit has replaced, or more.
+    pub(crate) replaced: ReplacedSlots,
     // The place of the index's entry to look at next, so that none stays that says nothing.
     pub(crate) next_entry: usize,
     pub(crate) alloc: Global,

@@ -1,7 +1,6 @@
 -- What a store's calls return for the replies to their steps.
-use Rattle.std.specs.Prelude.{◌≡◌, ◌≢◌, ◌⊎◌, ◌≤◌, ◌<◌, ◌-◌, ℕ, List, [], length, slice_get, ⊤, Option, Some, None, Result, Ok, Err}
+use Rattle.std.specs.Prelude.{◌≡◌, ◌≢◌, ◌⊎◌, ◌≤◌, ◌<◌, ◌-◌, ℕ, List, [], length, ⊤, Option, Some, None, Result, Ok, Err}
 use Rattle.std.specs.Int.{w64, from_le_bytes}
-use Rattle.std.specs.Option.{option_map}
 use Rattle.base.specs.declared.fault.Fault.{Fault}
 use Rattle.base.specs.declared.fault.Fault.TheVariants.{TooLong, Conflict}
 use Rattle.base.specs.declared.key.Key.{Key}
@@ -37,10 +36,6 @@ ScanRefused session table start end error =
 -- the session scanned such rows, and this is true of them
 abbrev pub OfScanned : ℕ → ℕ → ℕ → ℕ → (List (Key × List ℕ) → Type 0) → Type 0
 OfScanned session table start end Fact = (all : List (Key × List ℕ)) × Scans session table start end all × Fact all
-
--- the number of the last key
-abbrev pub last_key_of : List (Key × List ℕ) → Option ℕ
-last_key_of rows = option_map (λ row. row.0.key) (slice_get rows (length rows - 1))
 
 -- ---- a put
 

@@ -4,3 +4,4 @@ pub mod Status
 pub mod Trying
 pub mod Opening
 pub mod Files
+pub mod Reads

@@ -71,7 +71,7 @@ pub enum StoreError {
     },
     /// A put found no free slot. Each row takes a slot, and so does each older version that an open transaction may still read.
     /// The transaction stays open, as after each of the refusals below, with what it wrote before.
-    #[error("no slot is free, since rows fill the store or an open transaction keeps old ones: end that transaction, or delete rows; one of fewer than 65,536 slots can be copied into a larger one")]
+    #[error("no slot is free, since rows fill the store or an open transaction keeps old ones: end that transaction, or delete rows; one of fewer than 16,777,216 slots can be copied into a larger one")]
     Full,
     /// The row isn't a number as `put_number` writes it.
     #[error("the row under table and key {0} isn't a number, which has 8 bytes: read it as a row")]

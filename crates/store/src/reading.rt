@@ -1,14 +1,12 @@
-//! Transactions read through a snapshot of their own, so each read is written only here. A scan has no limit, so the calls that
-//! return only a part of a range, or its length, read all of it.
+//! Transactions read through a snapshot of their own, so each read is written only here.
 
 use crate::error::StoreError;
 use crate::files::Device;
 use crate::ranges::ends_of;
 use crate::row::RowExt;
-use crate::rows::{first_rows, last_rows};
 use base::key::Key;
 use base::row::Row;
-use database::Transaction;
+use database::{Page, Transaction};
 use std::alloc::Global;
 use std::ops::RangeBounds;
 use std::sync::Wait;
@@ -27,7 +25,15 @@ impl<R: Wait + Drop> Snapshot<'_, R> {
     ghost use Rattle.std.specs.Range.Bound.{start_index, end_index};
     ghost use Rattle.base.specs.declared.step.Step.TheVariants.{Get, Scan};
     ghost use Rattle.database.specs.Replies.{row_of, rows_of};
-    ghost use Rattle.store.specs.Answers.{Answers, Scans, ScanRefused, OfScanned, AnswersNumber, last_key_of};
+    ghost use Rattle.std.specs.Prelude.{ℕ, ◌-◌, List};
+    ghost use Rattle.base.specs.declared.key.Key.{Key as KeyValue};
+    ghost use Rattle.base.specs.declared.fault.Fault.{Fault as FaultValue};
+    ghost use Rattle.session_steps.specs.Reads.{ReadsPage, first_of, last_of};
+    ghost use Rattle.room.specs.Runs.{ComesTo};
+    ghost use Rattle.database.specs.Reads.{ReadsReply};
+    ghost use Rattle.store.specs.Errors.{error_of};
+    ghost use Rattle.store.specs.Answers.{Answers, Scans, ScanRefused, OfScanned, AnswersNumber};
+    ghost use Rattle.store.specs.Reads.{Reads, ReadsRange, RangeRefused, first_key_of};
 
     /// The row under the key, or `None` if there is none.
     pub fn get(&self, key: Key) -> Result<Option<Row>, StoreError>
@@ -84,46 +90,87 @@ impl<R: Wait + Drop> Snapshot<'_, R> {
         Ok(self.reads.scan(table, least, greatest)?)
     }
 
-    /// The first rows of the range in ascending order, at most `limit` of them. All rows of the range are read, as by `scan`.
+    /// The first rows of the range in ascending order, at most `limit` of them. No others are read.
     pub fn first<B: RangeBounds<u64>>(
         &self,
         table: u16,
         range: B,
         limit: usize,
     ) -> Result<Vec<(Key, Row)>, StoreError>
-        // At Ok the first rows of such a scan. At Err the scan was refused.
-        ensures ok { B.has_bounds range → IfOk result (λ rows. OfScanned self.now.reads.session table (start_index (B.start_bound range)) (end_index (B.end_bound range) (2 ^ 64)) (λ all. rows.items ≡ take limit all)) }
-        ensures err { B.has_bounds range → IfErr result (λ error. ScanRefused self.now.reads.session table (start_index (B.start_bound range)) (end_index (B.end_bound range) (2 ^ 64)) error) }
+        // At Ok the first rows of the reply to a scan of the range, in a state that a run comes to. If the range has no key, it is Ok
+        // without a row. At Err the refusal of such a scan.
+        ensures ok { B.has_bounds range → IfOk result (λ rows. ReadsRange (λ all. take limit all) self.now.reads.session table (start_index (B.start_bound range)) (end_index (B.end_bound range) (2 ^ 64)) rows.items) }
+        ensures err { B.has_bounds range → IfErr result (λ error. RangeRefused (λ all. take limit all) self.now.reads.session table (start_index (B.start_bound range)) (end_index (B.end_bound range) (2 ^ 64)) error) }
     {
-        let mut rows = self.scan(table, range)?;
-        first_rows(&mut rows, limit);
-        Ok(rows)
+        match ends_of(&range) {
+            Some((least, greatest)) => self.first_between(table, least, greatest, limit),
+            None => Ok(Vec::new(self.alloc)),
+        }
     }
 
-    /// The last rows of the range in descending order, at most `limit` of them. All rows of the range are read, as by `scan`.
+    // The first rows of the table whose keys are between these two, or are one of them.
+    fn first_between(
+        &self,
+        table: u16,
+        least: u64,
+        greatest: u64,
+        limit: usize,
+    ) -> Result<Vec<(Key, Row)>, StoreError>
+        ensures { MatchResult result (λ rows. Reads (Scan self.now.reads.session table least greatest) (first_of limit) (Ok rows.items)) (λ error. Reads (Scan self.now.reads.session table least greatest) (first_of limit) (Err error)) }
+    {
+        Ok(self.reads.first_rows(table, least, greatest, limit)?)
+    }
+
+    /// The last rows of the range in descending order, at most `limit` of them. No others are read.
     pub fn last<B: RangeBounds<u64>>(
         &self,
         table: u16,
         range: B,
         limit: usize,
     ) -> Result<Vec<(Key, Row)>, StoreError>
-        // At Ok the last rows of such a scan, the last first. At Err the scan was refused.
-        ensures ok { B.has_bounds range → IfOk result (λ rows. OfScanned self.now.reads.session table (start_index (B.start_bound range)) (end_index (B.end_bound range) (2 ^ 64)) (λ all. rows.items ≡ take limit (reverse all))) }
-        ensures err { B.has_bounds range → IfErr result (λ error. ScanRefused self.now.reads.session table (start_index (B.start_bound range)) (end_index (B.end_bound range) (2 ^ 64)) error) }
+        // At Ok the last rows of the reply to a scan of the range, the last first, in a state that a run comes to. If the range has no
+        // key, it is Ok without a row. At Err the refusal of such a scan.
+        ensures ok { B.has_bounds range → IfOk result (λ rows. ReadsRange (λ all. take limit (reverse all)) self.now.reads.session table (start_index (B.start_bound range)) (end_index (B.end_bound range) (2 ^ 64)) rows.items) }
+        ensures err { B.has_bounds range → IfErr result (λ error. RangeRefused (λ all. take limit (reverse all)) self.now.reads.session table (start_index (B.start_bound range)) (end_index (B.end_bound range) (2 ^ 64)) error) }
     {
-        let mut rows = self.scan(table, range)?;
-        last_rows(&mut rows, limit);
-        Ok(rows)
+        match ends_of(&range) {
+            Some((least, greatest)) => self.last_between(table, least, greatest, limit),
+            None => Ok(Vec::new(self.alloc)),
+        }
     }
 
-    /// The greatest key in the table, or `None` if the table has no rows. All its rows are read, as by `scan`.
-    pub fn last_key(&self, table: u16) -> Result<Option<u64>, StoreError>
-        // At Ok the number of the last key of such a scan. At Err the scan was refused.
-        ensures ok { IfOk result (λ number. OfScanned self.now.reads.session table 0 (2 ^ 64) (λ all. number ≡ last_key_of all)) }
-        ensures err { IfErr result (λ error. ScanRefused self.now.reads.session table 0 (2 ^ 64) error) }
+    // The last rows of the table whose keys are between these two, or are one of them, the last first.
+    fn last_between(
+        &self,
+        table: u16,
+        least: u64,
+        greatest: u64,
+        limit: usize,
+    ) -> Result<Vec<(Key, Row)>, StoreError>
+        ensures { MatchResult result (λ rows. Reads (Scan self.now.reads.session table least greatest) (last_of limit) (Ok rows.items)) (λ error. Reads (Scan self.now.reads.session table least greatest) (last_of limit) (Err error)) }
     {
-        let rows = self.scan(table, ..)?;
-        Ok(rows.last().map(|(key, _)| key.key))
+        Ok(self.reads.last_rows(table, least, greatest, limit)?)
+    }
+
+    /// The greatest key in the table, or `None` if the table has no rows. No other row is read.
+    pub fn last_key(&self, table: u16) -> Result<Option<u64>, StoreError>
+        // At Ok the number of the key of the last row of the reply to a scan of the table, in a state that a run comes to. At Err the refusal
+        // of such a scan.
+        ensures ok { IfOk result (λ number. (rows : List (KeyValue × List ℕ)) × ReadsReply (Scan self.now.reads.session table 0 (2 ^ 64 - 1)) (last_of 1) (Ok rows) × (number ≡ first_key_of rows)) }
+        ensures err { IfErr result (λ error. Reads (Scan self.now.reads.session table 0 (2 ^ 64 - 1)) (last_of 1) (Err error)) }
+    {
+        let rows = self.last_between(table, 0, u64::MAX, 1)?;
+        Ok(rows.first().map(|(key, _)| key.key))
+    }
+
+    /// The rows of all tables from the key `first` on, by rising key, up to `last` or to a key at which there are `limit`. A read
+    /// goes on behind the key that was reached.
+    pub fn page(&self, first: Key, last: Key, limit: usize) -> Result<Page, StoreError>
+        // As `Transaction::page` of `database` says.
+        ensures ok { IfOk result (λ page. ComesTo (λ q. ReadsPage q self.now.reads.session first last limit (Ok page))) }
+        ensures err { IfErr result (λ error. (fault : FaultValue) × (error ≡ error_of fault) × ComesTo (λ q. ReadsPage q self.now.reads.session first last limit (Err fault))) }
+    {
+        Ok(self.reads.page(first, last, limit)?)
     }
 
     /// How many rows of the table have keys in the range. They are all read, as by `scan`.

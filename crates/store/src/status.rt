@@ -45,7 +45,8 @@ impl Status {
     ghost use Rattle.database.specs.Reports.{ShowsReport};
     ghost use Rattle.store.specs.Status.{ShowsStore};
 
-    pub(crate) fn of(report: &Report) -> Status
+    /// The status that a report of a database shows.
+    pub fn of(report: &Report) -> Status
         ensures shows { (q : State) → ShowsReport q report.now → ShowsStore q result }
         ensures versions { result.versions ≡ result.slots - result.free }
     {

@@ -33,6 +33,9 @@ const CALLS: usize = 160;
 
 const COMMITS: u8 = 6;
 
+// The superblock's first word: the letters WBL-PRF1.
+const FIRST_WORD: u64 = 0x5742_4C2D_5052_4631;
+
 const KEY: Key = Key { table: 1, key: 7 };
 
 const OTHER: Key = Key { table: 1, key: 8 };
@@ -336,5 +339,26 @@ fn a_sync_ahead_that_fails_is_reported_by_the_fence(rt: HostRuntime) -> Result<(
         let (_device, found) = at_rest(alloc, device.release().into_words(), CALLS)?;
         assert!(rt; found == if calls == 8 { first } else { first ^ 1 });
     }
+    Ok(())
+}
+
+// Stores a number of places in the superblock, and then its first word. Returns whether that was stored too.
+fn is_named(device: &mut Device, places: u64) -> Result<bool, Fault> {
+    if device.words() < 8 {
+        return Err(Fault::BadGeometry);
+    }
+    device.store(3, places)?;
+    Ok(device.store(0, FIRST_WORD).is_ok())
+}
+
+#[test]
+fn an_image_names_no_other_places_than_its_device_has(rt: HostRuntime) -> Result<(), Fault> {
+    let alloc = rt.alloc();
+    let (mut device, _first) = at_rest(alloc, zeros(alloc)?, CALLS)?;
+    let other = is_named(&mut device, 3)?;
+    let own = is_named(&mut device, 2)?;
+    let later = is_named(&mut device, 3);
+    assert!(rt; !other && own && later == Err(Fault::Device));
+    assert!(rt; device.places() == 2);
     Ok(())
 }

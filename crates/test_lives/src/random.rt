@@ -1,5 +1,5 @@
 //! Random lives of a room, in which sessions, the committer and the collector take turns, next to a model of plain tables and
-//! slots, over images of all three versions of the format. Opening stops too, several times in a row.
+//! slots, over images of all versions of the format. Opening stops too, several times in a row.
 
 mod chance;
 mod counts;
@@ -11,11 +11,21 @@ mod slots;
 use crate::random::counts::Counts;
 use crate::random::lives::live_all;
 use anyhow::Error;
+use base::geometry::Geometry;
 use std::alloc::Global;
 use std::thread::Threads;
 
 /// How many seeds are run if no words say otherwise.
 pub const SEEDS: u64 = 30;
+
+// Those of version 4 come last, with slots of one line and of two.
+const VERSIONS: [u64; 5] = [
+    1,
+    Geometry::PLAIN_VERSION,
+    Geometry::WIDE_VERSION,
+    Geometry::LARGE_VERSION,
+    Geometry::LARGE_WIDE_VERSION,
+];
 
 /// Prints how many lives, steps and stops there were.
 pub fn print_counts<H: Print>(rt: &H, counts: &Counts) -> Result<(), Error> {
@@ -33,7 +43,8 @@ pub fn live_seeds<H: Eprint + Threads + Sync>(
 ) -> Result<Counts, Error> {
     let mut counts = Counts::none();
     for seed in first..first.saturating_add(count) {
-        if let Err(error) = live_all(rt, alloc, seed, 1 + seed % 3, &mut counts) {
+        let version = VERSIONS[seed as usize % VERSIONS.len()];
+        if let Err(error) = live_all(rt, alloc, seed, version, &mut counts) {
             eprintln!(rt; "seed {seed}")?;
             return Err(error);
         }

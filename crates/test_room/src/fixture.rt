@@ -107,7 +107,8 @@ pub fn lived<R: Threads + Sync + Abort>(
     Ok(room.into_device())
 }
 
-fn make_each(rt: &impl Abort, room: &mut Room<SimPmem>, steps: &[Step]) {
+/// Makes these steps, none of which is refused.
+pub fn make_each(rt: &impl Abort, room: &mut Room<SimPmem>, steps: &[Step]) {
     for made in steps {
         let note = step(room, *made);
         assert!(rt; !matches!(note, Note::Refused(_)), "{note:?}");

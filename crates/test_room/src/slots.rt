@@ -2,9 +2,9 @@ ghost use Rattle.std.specs.Prelude.{◌≡◌, ◌<◌, ◌≤◌, IfOk, length}
 ghost use Rattle.base.specs.Layout.{layout_with, plain_version};
 ghost use Rattle.pmem_model.specs.Sim.{device_of};
 
-use crate::fixture::{device_after, fresh};
+use crate::fixture::{device_after, fresh, leave, make_each, opened};
 use asks::Ask::{Begin, End, Put};
-use asks::{ONE_LINE_COVERED, Past, THREE_LINES_COVERED};
+use asks::{ONE_LINE_COVERED, Past, THREE_LINES_COVERED, steps};
 use base::actor::Actor;
 use base::fault::Fault;
 use base::geometry::Geometry;
@@ -12,6 +12,7 @@ use base::key::Key;
 use pmem::Pmem;
 use pmem_model::SimPmem;
 use recovery::{LiveSlot, open};
+use room::Visit;
 use slot_alloc::SlotAlloc;
 use std::alloc::Global;
 
@@ -75,5 +76,23 @@ fn opening_lists_the_live_slots(rt: HostRuntime) -> Result<(), Fault> {
         begin: 2,
     };
     assert!(rt; opened.live.as_slice() == [live(7, 1), live(8, 2)].as_slice());
+    Ok(())
+}
+
+#[test]
+fn visits_pass_what_was_not_replaced(rt: HostRuntime) -> Result<(), Fault> {
+    let (life, _newest) = REPLACED;
+    let mut room = opened(&rt, rt.alloc(), fresh(rt.alloc(), 4, 8)?)?;
+    assert!(rt; room.pass(9) == 4);
+    assert!(rt; room.collect() == Ok(Visit::SweepEnd));
+    make_each(&rt, &mut room, &steps(rt.alloc(), life)?);
+    // Slot 0 is visited, and is free then.
+    assert!(rt; room.pass(9) == 0);
+    assert!(rt; room.collect() == Ok(Visit::Slot(0)));
+    assert!(rt; room.pass(2) == 2);
+    assert!(rt; room.pass(9) == 1);
+    assert!(rt; room.collect() == Ok(Visit::SweepEnd));
+    assert!(rt; room.pass(9) == 4);
+    leave(room);
     Ok(())
 }

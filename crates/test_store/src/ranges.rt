@@ -1,7 +1,7 @@
 use anyhow::Error;
 use std::ops::{Bound, RangeBounds};
 use std::sync::Wait;
-use store::{Key, Row, Snapshot, Store};
+use store::{Key, Row, Snapshot, Store, key};
 
 /// A range of each form over a table that has the keys 5, 6 and 9.
 pub fn read_each<R: Print + Wait + Drop>(rt: &R, store: &Store<R>) -> Result<(), Error> {
@@ -32,6 +32,25 @@ pub fn read_each<R: Print + Wait + Drop>(rt: &R, store: &Store<R>) -> Result<(),
         snapshot.last_key(1)?,
         snapshot.last_key(3)?
     )?;
+    drop(snapshot);
+    read_parts(rt, store)
+}
+
+// Parts of what a transaction sees that has deleted the key 5 and written 7. A page of one row reads one more for each own write.
+fn read_parts<R: Print + Wait + Drop>(rt: &R, store: &Store<R>) -> Result<(), Error> {
+    let mut t = store.begin()?;
+    t.delete(key(1, 5))?;
+    t.put_number(key(1, 7), 7)?;
+    show_rows(rt, "its first two", t.first(1, .., 2)?.as_slice())?;
+    show_rows(rt, "its last two", t.last(1, .., 2)?.as_slice())?;
+    let last = key(u16::MAX, u64::MAX);
+    let page = t.page(key(0, 0), last, 1)?;
+    show_rows(rt, "a page", page.rows.as_slice())?;
+    println!(rt; "up to {}", page.reached)?;
+    let page = t.page(key(1, 10), last, 1)?;
+    show_rows(rt, "the next page", page.rows.as_slice())?;
+    println!(rt; "up to {}", page.reached)?;
+    t.abort()?;
     Ok(())
 }
 

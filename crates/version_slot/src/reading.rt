@@ -35,6 +35,7 @@ pub fn read_key<D: Pmem>(device: &D, geometry: Geometry, slot: u64) -> Option<Ke
 }
 
 // The last values of a slot's words from `first` on. A slot of one line has eight.
+#[tactic(auto, unfolding(base::specs::Layout::most_slots))]
 #[inline(always)]
 fn words_from<D: Pmem>(device: &D, geometry: Geometry, slot: u64, first: usize) -> [u64; 16]
     requires slot { slot < geometry.slots }

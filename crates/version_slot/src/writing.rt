@@ -13,6 +13,7 @@ use pmem::{Pmem, store_all};
 
 /// Stores 0 in a slot's end and then a version in the words after it, to the slot's last: 7 stores, or 15 if a slot has
 /// two lines. The begin stays.
+#[tactic(auto, unfolding(base::specs::Layout::most_slots))]
 #[inline(always)]
 pub fn fill<D: Pmem>(
     device: &mut D,

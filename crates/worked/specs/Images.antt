@@ -6,10 +6,11 @@ use Rattle.base.specs.declared.gap.Gap.{Gap}
 use Rattle.base.specs.declared.fault.Fault.{Fault}
 use Rattle.base.specs.declared.fault.Fault.TheVariants.{BadGeometry, NotFormatted, Damaged, Version, TimestampsOut}
 use Rattle.base.specs.Commits.{Commit}
+use Rattle.base.specs.Layout.{Layout, is_in_limits, layout_with, total_words}
 use Rattle.base.specs.Records.{Record, record_word, is_well_formed, is_committed, opened_gaps}
-use Rattle.base.specs.Images.{Image, damage, opening_fault, needs_sweep, ruling, place_words, is_live, key_of, row_of, superblock_word}
+use Rattle.base.specs.Images.{Image, damage, opening_fault, needs_sweep, ruling, place_words, is_live, key_of, layout_of, row_of, superblock_word}
 use Rattle.base.specs.Stands.{Stands}
-use Rattle.machine.specs.Openings.{IsOpenedGaps, gaps_kept, opened_slots, words_swept, lines_swept}
+use Rattle.machine.specs.Openings.{IsOpenedGaps, gaps_kept, opened_slots, updates, words_swept, lines_swept}
 
 -- words by number, each with its value
 abbrev pub Words : Type 0
@@ -211,3 +212,55 @@ pub record LongCommits : Type 0 where
   pub words : map (record_word with_long) (3 ∷ 20 ∷ 21 ∷ []) ≡ 4294967296 ∷ 5 ∷ 0 ∷ []
   pub versions : map (λ version. is_well_formed version with_long) (1 ∷ 2 ∷ []) ≡ false ∷ true ∷ []
   pub committed : map (is_committed with_long) (4 ∷ 5 ∷ 6 ∷ 7 ∷ 8 ∷ []) ≡ true ∷ false ∷ true ∷ true ∷ false ∷ []
+
+-- a large image after the first commit was covered: the words are those of version 2, except for word 1
+abbrev pub large_image : Image
+large_image = with_words ((1, 260) ∷ []) covered_image
+
+-- a large image whose slots have two lines, after the same
+abbrev pub large_wide_image : Image
+large_wide_image = with_words ((0, superblock_word) ∷ (1, 516) ∷ (2, 4) ∷ (3, 2) ∷ (4, 8) ∷ (5, 136) ∷ (8, 2) ∷ (10, 9) ∷ (40, 3) ∷ (41, 1) ∷ (42, 10)
+    ∷ (72, 1) ∷ version_words) (replicate 136 0)
+
+-- a large image, changed: no lines, 65 of them, three, and two with the length of one; 2^24 slots and one more with the length of four;
+-- a word that is 0; and as version 2
+abbrev pub changed_large : Table
+changed_large =
+    ((1, 4) ∷ [], Some (Version 4))
+    ∷ ((1, 16644) ∷ [], Some (Version 16644))
+    ∷ ((1, 772) ∷ [], Some (Version 772))
+    ∷ ((1, 516) ∷ [], Some BadGeometry)
+    ∷ ((2, 16777216) ∷ (5, 134217800) ∷ [], Some BadGeometry)
+    ∷ ((2, 16777217) ∷ (5, 134217808) ∷ [], Some BadGeometry)
+    ∷ ((6, 1) ∷ [], Some BadGeometry)
+    ∷ ((1, 2) ∷ [], None)
+    ∷ []
+
+-- layouts within the limits and past them: each version's most slots, and one more
+abbrev pub layouts_at_limits : List (Layout × Bool)
+layouts_at_limits =
+    (layout_with 260 16777216 2 1024, true)
+    ∷ (layout_with 260 16777217 2 1024, false)
+    ∷ (layout_with 516 16777216 64 1024, true)
+    ∷ (layout_with 516 16777217 64 1024, false)
+    ∷ (layout_with 2 65536 2 1024, true)
+    ∷ (layout_with 2 65537 2 1024, false)
+    ∷ (layout_with 3 65537 2 1024, false)
+    ∷ (layout_with 4 1 2 1024, false)
+    ∷ (layout_with 772 1 2 1024, false)
+    ∷ []
+
+-- Large images are sound, have their layouts, rows and rulings, and opening doesn't change their version. Others are refused, and there
+-- are 2^24 slots at most
+pub record LargeImages : Type 0 where
+  pub sound : map damage (large_image ∷ large_wide_image ∷ []) ≡ None ∷ None ∷ []
+  pub laid_out : map layout_of (large_image ∷ large_wide_image ∷ []) ≡ layout_with 260 4 2 8 ∷ layout_with 516 4 2 8 ∷ []
+  pub ruled : map ruling (large_image ∷ large_wide_image ∷ []) ≡ record_of 3 1 10 [] ∷ record_of 3 1 10 [] ∷ []
+  pub opens : map opening_fault (large_image ∷ large_wide_image ∷ []) ≡ None ∷ None ∷ []
+  pub kept : map updates (large_image ∷ large_wide_image ∷ []) ≡ false ∷ false ∷ []
+  pub live : (live_slots large_image ≡ true ∷ false ∷ false ∷ false ∷ []) × (live_slots large_wide_image ≡ true ∷ false ∷ false ∷ false ∷ [])
+  pub row : (key_of large_image 0 ≡ key_7) × (row_of large_image 0 ≡ ab)
+  pub wide_row : (key_of large_wide_image 0 ≡ key_7) × (row_of large_wide_image 0 ≡ ab)
+  pub changed : IsTable damage large_image changed_large
+  pub limits : map (λ row. is_in_limits row.0) layouts_at_limits ≡ map (λ row. row.1) layouts_at_limits
+  pub longest : map total_words (layout_with 260 16777216 2 1024 ∷ layout_with 516 16777216 64 1024 ∷ []) ≡ 134217800 ∷ 268437512 ∷ []

@@ -1,7 +1,7 @@
 //! Worked examples as theorems. The functions do nothing: the contract of each says what its title promises.
 #![tactic(auto)]
 
-ghost use Rattle.worked.specs.Images.{FirstRunImages, DamagedImages, NinthGap, ReadImages, LongCommits};
+ghost use Rattle.worked.specs.Images.{FirstRunImages, DamagedImages, NinthGap, ReadImages, LongCommits, LargeImages};
 ghost use Rattle.worked.specs.Runs.{FirstCommit, FailedFence, LostCommit, EmptyWriteSet, HalfWritten, CloseThenOpen, SessionNumbers, OwnWrites, Scans, Update, TwoKeys, AbortedWrites, FullWriteSet, NoSlotLeft, FirstCommitterWins, NoTimestampLeft, FreedSlots, SweptGaps};
 
 /// The words of the images of a first run, their ruling records, and what they stand for.
@@ -10,16 +10,19 @@ pub fn first_run_images()
 {}
 
 /// Which fault each damaged image has.
+#[tactic(auto, unfolding(base::specs::Layout::is_known_version, base::specs::Layout::most_slots))]
 pub fn damaged_images()
     ensures { DamagedImages }
 {}
 
 /// An image with a ninth gap opens, and is swept first.
+#[tactic(auto, unfolding(base::specs::Layout::is_known_version, base::specs::Layout::most_slots))]
 pub fn ninth_gap()
     ensures { NinthGap }
 {}
 
 /// A body that isn't the ruling record's is never read; rows and keys of every size are.
+#[tactic(auto, unfolding(base::specs::Layout::is_known_version, base::specs::Layout::most_slots))]
 pub fn read_images()
     ensures { ReadImages }
 {}
@@ -27,6 +30,12 @@ pub fn read_images()
 /// A record that names a long commit, from version 2 on.
 pub fn long_commits()
     ensures { LongCommits }
+{}
+
+/// Images of version 4: their words, which of them are refused, and how long they may be.
+#[tactic(auto, unfolding(base::specs::Layout::is_known_version, base::specs::Layout::most_slots))]
+pub fn large_images()
+    ensures { LargeImages }
 {}
 
 /// A first commit: its replies, its 42 ticks, and its row after the next opening.

@@ -42,7 +42,9 @@ shows-image o q device orderly u =
 pub links-image : (o : Origin) (q : State) (device : Device) → IsOrderly device → Upholds o q device → Links o q (slice_index (image_of device))
 links-image o q device orderly u =
     let ruled = ruled-image q device q.hand orderly u.holds.log in
-    grind (arith, laid_size, links-stores, image_word, word-within, image_size) steps 500000
+    let size : length (image_of device) ≡ total_words q.layout = laid_size q.layout (image_of device) (laid q.layout ruled.0 (image_of device) ruled.1) in
+    links-stores o q (value_of device) (slice_index (image_of device))
+    (λ slot v lt held. inl record { each = λ w two low. image_word device (word_of q.layout slot w) (omega (arith, word-within q.layout slot w lt low, size, image_size device)) }) u.links
 
 pub devices-read : DevicesRead
 devices-read o q device n orderly u in_use = grind (arith, ruled-image, laid_size, laid, reads, shows-image)

@@ -8,13 +8,13 @@ use Rattle.std.proofs.lemmas.Bool.{and_parts, and_from, leb-true}
 use Rattle.base.specs.declared.gap.Gap.{Gap}
 use Rattle.base.specs.declared.fault.Fault.TheVariants.{Damaged, TimestampsOut}
 use Rattle.base.specs.Commits.{Commit, last_writer}
-use Rattle.base.specs.Layout.{Layout, is_known_version, opened_layout, place_start}
+use Rattle.base.specs.Layout.{Layout, is_known_version, most_slots, opened_layout, opened_version, place_start}
 use Rattle.base.specs.Search.{count_below, first_below, some_if}
 use Rattle.base.specs.Records.{Record, record_in, record_word, is_record, is_well_formed, is_committed, is_in, opened_gaps}
-use Rattle.base.specs.Images.{Image, layout_of, gate_at, place_words, greatest_gate, ruling_place, ruling, is_ruled, is_wrong_gate, slot_word, key_of, row_of, bytes_of, is_shown, is_misfit, is_second, len_of, is_bad_slot, faults_of, opening_fault, damage, is_near_limit, needs_sweep}
+use Rattle.base.specs.Images.{Image, layout_of, begin_of, gate_at, place_words, greatest_gate, ruling_place, ruling, is_ruled, is_wrong_gate, slot_word, key_of, row_of, bytes_of, is_shown, is_misfit, is_second, len_of, is_bad_slot, faults_of, opening_fault, damage, is_near_limit, needs_sweep}
 use Rattle.base.specs.Keys.{key_eq}
 use Rattle.base.specs.Stands.{Stands, has_timestamp}
-use Rattle.machine.specs.Openings.{Counts, opened, opened_under, opened_slots, held_under, StandsOpening, gaps_kept, is_mark, lies_in_gap, lines_swept, record_counts, swept, words_swept, IsOpenedGaps}
+use Rattle.machine.specs.Openings.{Counts, opened, opened_under, opened_slots, held_under, StandsOpening, gaps_kept, is_mark, lies_in_gap, lines_swept, record_counts, swept, updated, words_swept, IsOpenedGaps}
 use Rattle.machine.proofs.openings.Sweeps.{swept-at}
 use Rattle.machine.specs.Machine.{ByCommit}
 use Rattle.machine.specs.Laws.{OpensUpdated, UpdatedOpen}
@@ -23,7 +23,9 @@ use Rattle.base.proofs.Options.{AllNone, all_none, none_first, some_if_not-none}
 
 -- ---- versions
 
-known-is : (v : ℕ) → is_known_version v ≡ true → (v ≡ 1) ⊎ (v ≡ 2) ⊎ (v ≡ 3)
+-- an image of any version but the first stays as it is
+known-is : (v : ℕ) → is_known_version v ≡ true → (v ≡ 1) ⊎ (opened_version v ≡ v)
+unfolding is_known_version
 known-is v known = grind (arith, leb-true, and_parts)
 
 -- what is well formed under the first version is so under the second
@@ -148,6 +150,7 @@ module _ (first : ℕ) (words : List ℕ) where
             and_from (nat_eq (length ws) 32 && list_all (λ w. nat_eq (slice_index ws w) (record_word (record_in ws) w)) (range_with_len 0 32)) (is_well_formed 2 (record_in ws)) parts.0 (formed-more (record_in ws) parts.1)
 
     sound-new : damage new ≡ None
+    unfolding is_known_version most_slots
     sound-new =
         let (formatted, (_, (geometry, (gates, (_, (slots, _)))))) = f in
         none_first (faults_of new) (
@@ -239,20 +242,46 @@ module _ (first : ℕ) (words : List ℕ) where
 known-of : (first version : ℕ) (words : List ℕ) → opening_fault (first ∷ version ∷ words) ≡ None → is_known_version version ≡ true
 known-of first version words opens = grind (arith, all_none, some_if_not-none)
 
--- an image of the second version is its own
-same-second : (first : ℕ) (words : List ℕ) → opening_fault (first ∷ 2 ∷ words) ≡ None → OpensUpdated (first ∷ 2 ∷ words)
-same-second first words opens = record { opens = opens; up_to_date = refl; laid_out = refl; ruled = refl; same = λ e. refl; size = refl; words = λ w other. refl; slots = λ w far. refl; place = refl; begins = λ s. refl; shown = λ r s. refl; keys = λ s. refl; rows = λ s. refl; misfits = λ s. refl; marks = λ w. refl; sweeps = refl; counts = refl; stands = λ h d n s. s; opened_as = λ h l g. refl; within = λ h n o s. s }
+-- an image that keeps its version is its own
+module _ (first version : ℕ) (words : List ℕ) (kept : opened_version version ≡ version) where
+  abbrev image : Image
+  image = first ∷ version ∷ words
 
--- and so is one of the third, whose slots have two lines
-same-third : (first : ℕ) (words : List ℕ) → opening_fault (first ∷ 3 ∷ words) ≡ None → OpensUpdated (first ∷ 3 ∷ words)
-same-third first words opens = record { opens = opens; up_to_date = refl; laid_out = refl; ruled = refl; same = λ e. refl; size = refl; words = λ w other. refl; slots = λ w far. refl; place = refl; begins = λ s. refl; shown = λ r s. refl; keys = λ s. refl; rows = λ s. refl; misfits = λ s. refl; marks = λ w. refl; sweeps = refl; counts = refl; stands = λ h d n s. s; opened_as = λ h l g. refl; within = λ h n o s. s }
+  own : updated image ≡ image
+  own = ap (λ (v : ℕ). first ∷ v ∷ words) kept
+
+  own-layout : layout_of image ≡ opened_layout (layout_of image)
+  own-layout = ap (λ (v : ℕ). record (layout_of image) { version = v }) (sym kept)
+
+  same-kept : opening_fault image ≡ None → OpensUpdated image
+  same-kept opens = record {
+    opens = ap opening_fault own ∙ opens;
+    up_to_date = subst (λ (i : Image). layout_of i ≡ opened_layout (layout_of i)) (sym own) own-layout;
+    laid_out = ap layout_of own ∙ own-layout;
+    ruled = ap ruling own;
+    same = λ e. own;
+    size = ap length own;
+    words = λ w other. ap (λ (i : Image). slice_index i w) own;
+    slots = λ w far. ap (λ (i : Image). slice_index (opened_slots i) w) own;
+    place = ap ruling_place own;
+    begins = λ s. ap (λ (i : Image). begin_of i s) own;
+    shown = λ r s. ap (λ (i : Image). is_shown r i s) own;
+    keys = λ s. ap (λ (i : Image). key_of i s) own;
+    rows = λ s. ap (λ (i : Image). row_of i s) own;
+    misfits = λ s. ap (λ (i : Image). is_misfit i s) own;
+    marks = λ w. ap (λ (i : Image). is_mark (layout_of i) w) own;
+    sweeps = ap needs_sweep own;
+    counts = ap record_counts own;
+    stands = λ h d n s. subst (λ (i : Image). Stands i h d n) (sym own) s;
+    opened_as = λ h l g. ap (λ (i : Image). opened i h l g) own;
+    within = λ h n o s. subst (λ (i : Image). StandsOpening i h n o) own s;
+  }
 
 pub updated-open : UpdatedOpen
 updated-open [] opens = absurd (cc opens)
 updated-open (first ∷ []) opens = absurd (cc opens)
 updated-open (first ∷ version ∷ words) opens = by (known-is version (known-of first version words opens))
   where
-    by : (version ≡ 1) ⊎ (version ≡ 2) ⊎ (version ≡ 3) → OpensUpdated (first ∷ version ∷ words)
+    by : (version ≡ 1) ⊎ (opened_version version ≡ version) → OpensUpdated (first ∷ version ∷ words)
     by (inl one) = subst (λ (v : ℕ). OpensUpdated (first ∷ v ∷ words)) (sym one) (opens-first first words (subst (λ (v : ℕ). opening_fault (first ∷ v ∷ words) ≡ None) one opens))
-    by (inr (inl two)) = subst (λ (v : ℕ). OpensUpdated (first ∷ v ∷ words)) (sym two) (same-second first words (subst (λ (v : ℕ). opening_fault (first ∷ v ∷ words) ≡ None) two opens))
-    by (inr (inr three)) = subst (λ (v : ℕ). OpensUpdated (first ∷ v ∷ words)) (sym three) (same-third first words (subst (λ (v : ℕ). opening_fault (first ∷ v ∷ words) ≡ None) three opens))
+    by (inr kept) = same-kept first version words kept opens

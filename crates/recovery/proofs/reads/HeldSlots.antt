@@ -1,9 +1,9 @@
 -- Live slots, their keys and their places.
-use Rattle.std.proofs.Common.{Vec, Global, ◌≡◌, ◌≢◌, ◌⊎◌, inl, inr, ℕ, zero, suc, ◌+◌, ◌<◌, Bool, true, false, cond, not, ◌&&◌, ◌||◌, List, [], ◌∷◌, ◌++◌, map, get_or, take, length, refl, sym, ◌∙◌, ap, subst, arith, add-one, true≢false}
-use Rattle.std.specs.Prelude.{Some, None, is_some, slice_get, All}
+use Rattle.std.proofs.Common.{Vec, Global, ◌≡◌, ◌≢◌, ◌⊎◌, inl, inr, ℕ, zero, suc, ◌+◌, ◌<◌, ◌≤◌, Bool, true, false, cond, not, ◌&&◌, ◌||◌, List, [], ◌∷◌, ◌++◌, map, get_or, take, length, refl, sym, ◌∙◌, ap, subst, arith, add-one, true≢false}
+use Rattle.std.specs.Prelude.{Option, Some, None, is_some, slice_get, All}
 use Rattle.std.specs.Bool.{Decides}
 use Rattle.std.specs.Cmp.{IsTotalOrder}
-use Rattle.std.specs.List.{IsDistinct, AllByRecursion, AllPairs, enumerate_from, cons_option}
+use Rattle.std.specs.List.{IsDistinct, AllByRecursion, AllPairs, cons_option, range_with_len, zip}
 use Rattle.std.specs.Ordering.{eq_by_cmp}
 use Rattle.std.specs.Map.{keys_of}
 use Rattle.std.specs.BTreeMap.{BTreeMap, IsFromIterResult}
@@ -77,9 +77,19 @@ keys-size (x ∷ live) = ap suc (keys-size live)
 
 -- ---- pairs of keys and places
 
-pub numbered-of : (n : ℕ) (keys : List Key) → map (λ (p : ℕ × Key). (p.1, p.0)) (enumerate_from n keys) ≡ numbered n keys
-numbered-of n [] = refl
-numbered-of n (key ∷ keys) = ap (λ (pairs : List (Key × ℕ)). (key, n) ∷ pairs) (ap (λ (k : ℕ). map (λ (p : ℕ × Key). (p.1, p.0)) (enumerate_from k keys)) (add-one n) ∙ numbered-of (suc n) keys)
+pub numbered-of : (n : ℕ) (keys : List Key) (m : ℕ) → length keys ≤ m → zip keys (range_with_len n m) ≡ numbered n keys
+numbered-of n [] m le = refl
+numbered-of n (key ∷ keys) zero le = absurd (omega (arith, le))
+numbered-of n (key ∷ keys) (suc m) le = ap (λ (pairs : List (Key × ℕ)). (key, n) ∷ pairs) (ap (λ (k : ℕ). zip keys (range_with_len k m)) (add-one n) ∙ numbered-of (suc n) keys m (omega (arith, le)))
+
+-- no more keys than slots
+one-held : (o : Option Key) (keys : List Key) (n : ℕ) → length keys ≤ n → length (cons_option o keys) ≤ suc n
+one-held (Some key) keys n le = omega (arith, le)
+one-held None keys n le = omega (arith, le)
+
+pub held-few : (readings : List SlotReading) → length (held_keys readings) ≤ length readings
+held-few [] = omega arith
+held-few (reading ∷ readings) = one-held (held_key reading.found) (held_keys readings) (length readings) (held-few readings)
 
 pub placed-numbered : (n : ℕ) (live : List LiveSlot) → numbered n (map (λ (s : LiveSlot). s.key) live) ≡ placed n live
 placed-numbered n [] = refl

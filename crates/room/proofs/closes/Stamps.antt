@@ -3,7 +3,7 @@ use Rattle.std.proofs.Common.{◌≡◌, ◌≢◌, ℕ, ◌-◌, ◌<◌, ◌�
 use Rattle.std.proofs.Math.Bridge.{le_prop}
 use Rattle.std.proofs.Math.Logic.{∥∥₁_elim, ∥∥₁_map}
 use Rattle.std.proofs.Math.Nat.{ℕ_set}
-use Rattle.std.proofs.lemmas.Bool.{and_parts, cases_lt, eq-eqb, eqb-true, leb-true}
+use Rattle.std.proofs.lemmas.Bool.{and_parts, cases_lt, eq-eqb, eqb-true, leb-true, not-true}
 use Rattle.std.proofs.lemmas.List.Sums.{sum_by-cons}
 use Rattle.std.specs.Prelude.{Option, Some, None, Result, Err, nat_eq, nat_le, find, sum_by}
 use Rattle.std.specs.List.{list_all, list_any}
@@ -113,7 +113,9 @@ module _ (old : Sessions) (before : Device) (q : State) (n : ℕ) (shown : Sessi
   by-timestamp =
       let some : list_any (λ e. not (is_stamped e) && nat_eq e.commit.timestamp d.timestamp) q.drawn ≡ true =
       find-any (λ (e : PlainDrawn). not (is_stamped e)) (λ e. nat_eq e.commit.timestamp d.timestamp) q.drawn (plain_drawn d) plain-first (eq-eqb d.timestamp d.timestamp refl) in
-      grind (arith, any-by_timestamp, and_parts, eqb-true) steps 500000
+      let found = any-by_timestamp (λ e. not (is_stamped e) && nat_eq e.commit.timestamp d.timestamp) q.drawn shown.upholds.keeps.draws.rising some in
+      let both = and_parts (not (is_stamped found.0)) (nat_eq found.0.commit.timestamp d.timestamp) found.2 in
+      (found.0, ap (λ (t : ℕ). drawn_at q t) (sym (eqb-true found.0.commit.timestamp d.timestamp both.1)) ∙ found.1, not-true (is_stamped found.0) both.0)
 
   -- so its session may stamp
   allowed : allows (step.Stamp n) (standing_of q (Drew d.timestamp)) ≡ true

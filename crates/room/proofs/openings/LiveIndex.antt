@@ -11,19 +11,14 @@ use Rattle.base.specs.Images.{Image, key_of}
 use Rattle.base.proofs.Keys.{key_eq-true}
 use Rattle.index.specs.declared.entry.Entry.{Entry}
 use Rattle.index.specs.Entries.{blank, entry_at, ArePlaced}
-use Rattle.recovery.specs.declared.examining.Examined.{Examined}
-use Rattle.recovery.specs.declared.examining.Readings.{Readings}
 use Rattle.recovery.specs.declared.rows.LiveSlot.{LiveSlot}
-use Rattle.recovery.specs.Opened.{HasExamined}
-use Rattle.recovery.specs.Read.{AreOf}
 use Rattle.recovery.specs.Slots.{is_free, free_below}
 use Rattle.recovery.specs.Live.{live_at, live_below}
 use Rattle.recovery.proofs.reads.LiveRows.{live-none, live-live, live-free, free-is, free-size}
-use Rattle.recovery.proofs.reads.Slots.{are-readings, readings-size}
-use Rattle.recovery.proofs.openings.Devices.{is, none-bad}
+use Rattle.recovery.proofs.openings.Devices.{is}
 use Rattle.recovery.specs.Held.{HavePlaces}
 use Rattle.session_steps.specs.Opening.{HasFound}
-use Rattle.room.specs.Opening.{HasEntries, entry_of}
+use Rattle.room.specs.Opening.{entry_of}
 
 -- ---- elements
 
@@ -123,12 +118,6 @@ get-slot (t ∷ live) (suc k) key entry at = get-slot live k key entry at
 
 pub are-placed : (live : List LiveSlot) (places : List (Key × ℕ)) → HavePlaces live places → ArePlaced places (map entry_of live)
 are-placed live places has = grind (arith, get-entry, get-slot) steps 800000
-
--- ---- as they were read
-
--- of the image that was read they are those of the slots that were found live
-pub entries-are : (image : Image) (readings : Readings) (found : Examined) (entries : List (Key × Entry)) → AreOf image readings → HasExamined image found → HasEntries readings.slots.items entries → entries ≡ map entry_of found.live.items
-entries-are image readings found entries are has listed = grind (arith, is, none-bad, readings-size, listed, are-readings)
 
 -- ---- all of them
 

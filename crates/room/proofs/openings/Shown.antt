@@ -8,7 +8,7 @@ use Rattle.std.proofs.lemmas.List.FromFn.{length-map-range_with_len, get_or-map-
 use Rattle.base.specs.declared.key.Key.{Key}
 use Rattle.base.specs.declared.gap.Gap.{Gap}
 use Rattle.base.specs.Commits.{Commit}
-use Rattle.base.specs.Layout.{Layout, slot_words, total_words, is_between, is_known_version}
+use Rattle.base.specs.Layout.{Layout, slot_words, total_words}
 use Rattle.base.specs.Records.{Record, opened_gaps}
 use Rattle.base.specs.Images.{Image, IsSound, layout_of, ruling, is_shown, IsRuledBy}
 use Rattle.base.specs.Stands.{Stands}
@@ -18,7 +18,7 @@ use Rattle.machine.specs.Machine.{State}
 use Rattle.base.proofs.Alike.{HasRowsOf, key-same, misfit-same}
 use Rattle.base.proofs.Histories.{history_in, sound-stands, opens-sound}
 use Rattle.machine.proofs.openings.States.{opened-rows, same_opened, whole-of, size-of, covers-of}
-use Rattle.base.proofs.Layouts.{line-words}
+use Rattle.base.proofs.Layouts.{few_slots, line-words}
 use Rattle.machine.proofs.openings.Updates.{updated-open}
 use Rattle.pmem.specs.Device.{Device}
 use Rattle.pmem.specs.Words.{image_of, HasNoFailure, IsSettledAt}
@@ -226,10 +226,7 @@ module _ (old : Device) (layout : Layout) (r : Record) (gaps : Option (List Gap)
   -- there are few
   pub examined-few : length free < 2 ^ 32
   examined-few =
-      let a : Layout = layout_of (image_of old) in
-      let one = and_parts (is_known_version a.version) (is_between 1 65536 a.slots && (is_between 2 64 a.places && is_between 4 1024 a.window)) (size-of (image_of old) rules.geometry).0 in
-      let two = and_parts (is_between 1 65536 a.slots) (is_between 2 64 a.places && is_between 4 1024 a.window) one.1 in
-      omega (arith, leb-true a.slots 65536 (and_parts (nat_le 1 a.slots) (nat_le a.slots 65536) two.0).1, examined-counted, ap (λ (l : Layout). l.slots) rules.laid_out)
+      omega (arith, few_slots (layout_of (image_of old)) (size-of (image_of old) rules.geometry).0, examined-counted, ap (λ (l : Layout). l.slots) rules.laid_out)
 
   -- the slots that were found free are free in the opened device
   pub examined-free-now : (new : Device) (layout' : Layout) (r' : Record) (next : ℕ) (free' : List Bool) (live' : List LiveSlot) → HasOpened old new layout' r' next free' live' → free' ≡ free

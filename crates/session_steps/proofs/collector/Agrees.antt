@@ -20,17 +20,17 @@ use Rattle.device_invariant.specs.Slots.{newest_of}
 use Rattle.device_invariant.specs.Log.{is_own, is_ended}
 use Rattle.simulation.specs.steps.Moves.{IsSlotOf}
 use Rattle.session_steps.specs.declared.sessions.Sessions.{Sessions}
-use Rattle.session_steps.specs.Shows.{Hidden, plain_of, plain_drawn, HoldsSession, HoldsEntry, HoldsDrawn, Agrees, line_numbers}
+use Rattle.session_steps.specs.Shows.{Hidden, plain_of, plain_drawn, HoldsSession, HoldsEntry, HoldsDrawn, IsUnreplaced, Agrees, line_numbers}
 use Rattle.session_steps.proofs.covers.Batch.{found}
 use Rattle.session_steps.proofs.slots.Held.{numbers-by-tests}
 
-module _ (s : Sessions) (h : Hidden) (keeps : Keeps h.origin (plain_of s h)) (agrees : Agrees s h.origin h.seen (plain_of s h)) (collector : Collector) (slots : List Bool) (index : List (Key × Entry)) (held : ℕ → Option Version)
+module _ (s : Sessions) (h : Hidden) (keeps : Keeps h.origin (plain_of s h)) (agrees : Agrees s h.origin h.seen (plain_of s h)) (collector : Collector) (slots : List Bool) (index : List (Key × Entry)) (replaced : List Bool) (held : ℕ → Option Version)
     (still : s.collector.swept ≡ true → collector.swept ≡ true) (only : (slot : ℕ) → OnlyFrees (plain_of s h) held slot) where
   abbrev q : State
   q = plain_of s h
 
   abbrev pub now : Sessions
-  now = record s { collector = collector; slots = slots; index = index }
+  now = record s { collector = collector; slots = slots; index = index; replaced = replaced }
 
   abbrev pub next : Hidden
   next = record h { held = held }
@@ -160,5 +160,5 @@ module _ (s : Sessions) (h : Hidden) (keeps : Keeps h.origin (plain_of s h)) (ag
   -- ---- all
 
   pub agrees-freed : ((slot : ℕ) → slot < s.numbers.geometry.slots → slice_get slots slot ≡ Some (is_none (held slot))) → length slots ≡ s.numbers.geometry.slots → KeepsRoom s.index index
-      → ((key : Key) → HoldsEntry h.origin then key (entry_at index key)) → Agrees now h.origin h.seen then
-  agrees-freed free counted room entries = grind (arith, session-left, drawn-left, drawn-there, lines-left) steps 800000
+      → ((key : Key) → HoldsEntry h.origin then key (entry_at index key)) → ((slot : ℕ) → slice_get replaced slot ≡ Some false → IsUnreplaced then slot) → Agrees now h.origin h.seen then
+  agrees-freed free counted room entries unreplaced = grind (arith, session-left, drawn-left, drawn-there, lines-left) steps 800000

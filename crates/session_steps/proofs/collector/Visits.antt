@@ -56,13 +56,14 @@ use Rattle.simulation.proofs.visits.Visits.{visits-lead}
 use Rattle.simulation.proofs.visits.Counting.{visits-count}
 use Rattle.simulation.proofs.visits.Garbage.{ends-show-garbage}
 use Rattle.session_steps.specs.declared.sessions.Sessions.{Sessions}
-use Rattle.session_steps.specs.Shows.{Hidden, plain_of, plain_session, HoldsSession, HoldsEntry, Agrees, ShowsAny}
+use Rattle.session_steps.specs.Shows.{Hidden, plain_of, plain_session, HoldsSession, HoldsEntry, IsUnreplaced, Agrees, ShowsAny}
 use Rattle.session_steps.specs.Steps.{is_by_actor, HoldsOn, ShowsSome}
 use Rattle.session_steps.specs.Collecting.{is_covered_in, all_cover, as_reply, CollectsTo, Collects, ForgetsFreed, taken, known, gone}
 use Rattle.session_steps.proofs.Failing.{failed-agrees}
 use Rattle.session_steps.proofs.collector.Agrees.{agrees-freed, entry-left, entry-forgotten}
 use Rattle.session_steps.proofs.slots.Freed.{given-same, given-other}
 use Rattle.session_steps.proofs.collector.Slots.{key-read}
+use Rattle.session_steps.proofs.collector.Replaced.{set-other, freed-unreplaced}
 use Rattle.session_steps.proofs.reads.Rows.{laid-out, words-are}
 use Rattle.session_steps.proofs.Effects.{stopped-by, all-made, last-failed}
 use Rattle.session_steps.proofs.CodeTests.{same-drawers}
@@ -126,14 +127,14 @@ module _ (s : Sessions) (h : Hidden) (before now : Device) (holds : HoldsOn s h 
   own-ops = by-collector a s.numbers.record.gaps (value_of before) place (is_sweeping q) (is_at_slot q) (is_in s.numbers.record.gaps (value_of before (slot_start a place))) (is_in s.numbers.record.gaps (value_of before (slot_start a place + 1)))
 
   -- a visit that was made
-  made : (collector : Collector) (slots : List Bool) (index : List (Key × Entry)) (held : ℕ → Option Version) (visit : Visit) → Runs ops before now
-      → plain_of (record s { collector = collector; slots = slots; index = index }) (record h { held = held }) ≡ visited q → as_reply (Ok visit) ≡ collected q
-      → Agrees (record s { collector = collector; slots = slots; index = index }) h.origin h.seen (plain_of (record s { collector = collector; slots = slots; index = index }) (record h { held = held }))
-      → (q' : State) × CollectsTo s (record s { collector = collector; slots = slots; index = index }) before now (Ok visit) q q'
-  made collector slots index held visit run plain replied agrees =
+  made : (collector : Collector) (slots : List Bool) (index : List (Key × Entry)) (stale : List Bool) (held : ℕ → Option Version) (visit : Visit) → Runs ops before now
+      → plain_of (record s { collector = collector; slots = slots; index = index; replaced = stale }) (record h { held = held }) ≡ visited q → as_reply (Ok visit) ≡ collected q
+      → Agrees (record s { collector = collector; slots = slots; index = index; replaced = stale }) h.origin h.seen (plain_of (record s { collector = collector; slots = slots; index = index; replaced = stale }) (record h { held = held }))
+      → (q' : State) × CollectsTo s (record s { collector = collector; slots = slots; index = index; replaced = stale }) before now (Ok visit) q q'
+  made collector slots index stale held visit run plain replied agrees =
       let leads = visits-lead.made h.origin q before now holds.works run u in
       let counts = visits-count.made q before now run in
-      let new : Sessions = record s { collector = collector; slots = slots; index = index } in
+      let new : Sessions = record s { collector = collector; slots = slots; index = index; replaced = stale } in
       let next : Hidden = record h { held = held } in (
         plain_of new next,
         record {
@@ -172,12 +173,12 @@ module _ (s : Sessions) (h : Hidden) (before now : Device) (holds : HoldsOn s h 
           let c : collector ≡ record { place = 0; swept = true } = moved ∙ ap (λ (b : Bool). cond b (let c : Collector = record { place = place + 1; swept = s.collector.swept } in c) (record { place = 0; swept = true })) at in
           let f : slots ≡ s.slots = freed ∙ ap (λ (b : Bool). cond b (cond (counts (value_of before (slot_start a place + 1))) (slice_set s.slots place true) s.slots) s.slots) at in
           let over : collector.swept ≡ true = ap (λ (c : Collector). c.swept) c in
-          made collector slots s.index h.held SweepEnd run
+          made collector slots s.index s.replaced h.held SweepEnd run
           ((λ i. record q { swept = over i; place = ap (λ (c : Collector). c.place) c i }) ∙ sym (ap (λ (b : Bool). cond b (slot_visited q) (sweep_ended q)) at))
           (sym (ap (λ (b : Bool). cond b (reply.Visited place) reply.SweepEnd) at))
-          (agrees-freed s h u.keeps holds.agrees collector slots s.index h.held (λ is. over) (λ slot. stays refl)
+          (agrees-freed s h u.keeps holds.agrees collector slots s.index s.replaced h.held (λ is. over) (λ slot. stays refl)
           (λ slot lt. ap (λ (xs : List Bool). slice_get xs slot) f ∙ holds.agrees.free slot lt) (ap (λ (xs : List Bool). length xs) f ∙ holds.agrees.counted) (λ key. refl)
-          (λ key. entry-left s h u.keeps holds.agrees collector slots s.index h.held (λ is. over) (λ slot. stays refl) key (entry_at s.index key) (λ slot at. refl) (holds.agrees.index key)))
+          (λ key. entry-left s h u.keeps holds.agrees collector slots s.index s.replaced h.held (λ is. over) (λ slot. stays refl) key (entry_at s.index key) (λ slot at. refl) (holds.agrees.index key)) holds.agrees.unreplaced)
 
   -- ---- a slot
 
@@ -275,9 +276,10 @@ module _ (s : Sessions) (h : Hidden) (before now : Device) (holds : HoldsOn s h 
     -- the index
 
     module _ (collector : Collector) (went : collector ≡ record { place = place + 1; swept = s.collector.swept }) (slots : List Bool) (freed : slots ≡ cond covered (slice_set s.slots place true) s.slots) (index : List (Key × Entry))
-        (forgets : ForgetsFreed a (value_of now) place (is_free s.slots place) slots s.index index) (room : KeepsRoom s.index index) where
+        (forgets : ForgetsFreed a (value_of now) place (is_free s.slots place) slots s.index index) (room : KeepsRoom s.index index)
+        (stale : List Bool) (marks : stale ≡ cond (is_free slots place) (slice_set s.replaced place false) s.replaced) where
       abbrev new : Sessions
-      new = record s { collector = collector; slots = slots; index = index }
+      new = record s { collector = collector; slots = slots; index = index; replaced = stale }
 
       abbrev then : State
       then = plain_of new (record h { held = held })
@@ -295,7 +297,7 @@ module _ (s : Sessions) (h : Hidden) (before now : Device) (holds : HoldsOn s h 
           by true is (inr apart) = ap (λ (b : Bool). cond b (replaced place None h.held) h.held slot) is ∙ replaced-other place None h.held slot apart
 
       entry-kept : (key : Key) → ((slot : ℕ) → (entry_at s.index key).newest ≡ Some slot → held slot ≡ h.held slot) → HoldsEntry h.origin then key (entry_at s.index key)
-      entry-kept key same = entry-left s h u.keeps holds.agrees collector slots index held still (λ slot. visit-frees h.origin q place slot u.keeps) key (entry_at s.index key) same (holds.agrees.index key)
+      entry-kept key same = entry-left s h u.keeps holds.agrees collector slots index stale held still (λ slot. visit-frees h.origin q place slot u.keeps) key (entry_at s.index key) same (holds.agrees.index key)
 
       live-kept : is_garbage q place ≡ false → (key : Key) → HoldsEntry h.origin then key (entry_at s.index key)
       live-kept live key = entry-kept key (λ slot newest. held-other slot (λ same. live))
@@ -331,7 +333,7 @@ module _ (s : Sessions) (h : Hidden) (before now : Device) (holds : HoldsOn s h 
             by : (b : Bool) → option_eq nat_eq (entry_at s.index key).newest (Some place) ≡ b → (g : Bool) → is_garbage q place ≡ g
                 → HoldsEntry h.origin then key (cond b (record (entry_at s.index key) { newest = None; ended = false }) (entry_at s.index key))
             by true same true garbage =
-                entry-forgotten s h u.keeps holds.agrees collector slots index held still (λ slot. visit-frees h.origin q place slot u.keeps) key (entry_at s.index key) place (same-option (entry_at s.index key).newest place same) (garbage-is h.origin q place u.keeps garbage) (garbage-none garbage) (holds.agrees.index key)
+                entry-forgotten s h u.keeps holds.agrees collector slots index stale held still (λ slot. visit-frees h.origin q place slot u.keeps) key (entry_at s.index key) place (same-option (entry_at s.index key).newest place same) (garbage-is h.origin q place u.keeps garbage) (garbage-none garbage) (holds.agrees.index key)
             by true same false live =
                 let version = (holds.agrees.index key).only place (same-option (entry_at s.index key).newest place same) in
                 absurd (cc (sym (held-none live) ∙ version.held))
@@ -369,22 +371,38 @@ module _ (s : Sessions) (h : Hidden) (before now : Device) (holds : HoldsOn s h 
                   subst (λ (k : Key). HoldsEntry h.origin then key (forgotten place (entry_at s.index k))) (sym same) (entry-found free key same)
               which false is = entry-other free key (λ same. true≢false (sym (ap (key_eq found) (sym same) ∙ key_eq-same found) ∙ is))
 
+      -- what is marked still: a slot that is free then needs no mark
+      unreplaced : (slot : ℕ) → slice_get stale slot ≡ Some false → IsUnreplaced then slot
+      unreplaced slot out = by (is_free slots place) refl (cases_eq slot place)
+        where
+          still-out : slice_get s.replaced slot ≡ Some false → IsUnreplaced then slot
+          still-out was = let old = holds.agrees.unreplaced slot was in (old.0, freed-unreplaced q held slot (visit-frees h.origin q place slot u.keeps) old.1)
+
+          of-marks : (b : Bool) → is_free slots place ≡ b → slice_get (cond b (slice_set s.replaced place false) s.replaced) slot ≡ Some false
+          of-marks b is = ap (λ (b : Bool). slice_get (cond b (slice_set s.replaced place false) s.replaced) slot) (sym is) ∙ ap (λ (xs : List Bool). slice_get xs slot) (sym marks) ∙ out
+
+          by : (b : Bool) → is_free slots place ≡ b → (slot ≡ place) ⊎ (slot ≢ place) → IsUnreplaced then slot
+          by true free (inl same) = subst (λ (k : ℕ). IsUnreplaced then k) (sym same) (lt, ap (replace h.history) (nothing (held place) (sym free-at ∙ free)))
+          by true free (inr apart) = still-out (sym (set-other s.replaced place slot false apart) ∙ of-marks true free)
+          by false held_by either = still-out (of-marks false held_by)
+
       pub collects-slot : (q' : State) × CollectsTo s new before now (Ok (Slot place)) q q'
       collects-slot =
-          made collector slots index held (Slot place) run
+          made collector slots index stale held (Slot place) run
           ((λ i. record q { swept = ap (λ (c : Collector). c.swept) went i; place = ap (λ (c : Collector). c.place) went i; held = held }) ∙ sym moved-on)
           (sym (ap (λ (b : Bool). cond b (reply.Visited place) reply.SweepEnd) at))
-          (agrees-freed s h u.keeps holds.agrees collector slots index held still (λ slot. visit-frees h.origin q place slot u.keeps)
-          (λ slot below. ap (λ (xs : List Bool). slice_get xs slot) freed ∙ free-then slot below) (ap (λ (xs : List Bool). length xs) freed ∙ counted-then covered) room entries)
+          (agrees-freed s h u.keeps holds.agrees collector slots index stale held still (λ slot. visit-frees h.origin q place slot u.keeps)
+          (λ slot below. ap (λ (xs : List Bool). slice_get xs slot) freed ∙ free-then slot below) (ap (λ (xs : List Bool). length xs) freed ∙ counted-then covered) room entries unreplaced)
 
   -- by what the code has of it
-  pub collects-at : (slot : ℕ) (ruling : Seen) (collector : Collector) (was_free : Bool) (slots : List Bool) (index : List (Key × Entry)) → ruling ≡ seen_by s.numbers.record
+  pub collects-at : (slot : ℕ) (ruling : Seen) (collector : Collector) (was_free : Bool) (slots : List Bool) (index : List (Key × Entry)) (stale : List Bool) → ruling ≡ seen_by s.numbers.record
       → Slot slot ≡ visit_at a place → collector ≡ moved_on a s.collector → slots ≡ freed_at a place (all_cover ruling s.transactions) (value_of before) s.slots → Runs ops before now
       → was_free ≡ is_free s.slots place → ForgetsFreed a (value_of now) slot was_free slots s.index index → KeepsRoom s.index index
-      → (q' : State) × CollectsTo s (record s { collector = collector; slots = slots; index = index }) before now (Ok (Slot slot)) q q'
-  collects-at slot ruling collector was_free slots index ruled visit moved freed run was forgets room = by (nat_lt place a.slots) refl
+      → stale ≡ cond (is_free slots slot) (slice_set s.replaced slot false) s.replaced
+      → (q' : State) × CollectsTo s (record s { collector = collector; slots = slots; index = index; replaced = stale }) before now (Ok (Slot slot)) q q'
+  collects-at slot ruling collector was_free slots index stale ruled visit moved freed run was forgets room marks = by (nat_lt place a.slots) refl
     where
-      by : (b : Bool) → nat_lt place a.slots ≡ b → (q' : State) × CollectsTo s (record s { collector = collector; slots = slots; index = index }) before now (Ok (Slot slot)) q q'
+      by : (b : Bool) → nat_lt place a.slots ≡ b → (q' : State) × CollectsTo s (record s { collector = collector; slots = slots; index = index; replaced = stale }) before now (Ok (Slot slot)) q q'
       by false at = let same : Slot slot ≡ SweepEnd = visit ∙ ap (λ (b : Bool). cond b (Slot place) SweepEnd) at in absurd (cc same)
       by true at =
           let same : Slot slot ≡ Slot place = visit ∙ ap (λ (b : Bool). cond b (Slot place) SweepEnd) at in
@@ -392,8 +410,9 @@ module _ (s : Sessions) (h : Hidden) (before now : Device) (holds : HoldsOn s h 
           let c : collector ≡ record { place = place + 1; swept = s.collector.swept } = moved ∙ ap (λ (b : Bool). cond b (let c : Collector = record { place = place + 1; swept = s.collector.swept } in c) (record { place = 0; swept = true })) at in
           let f : slots ≡ cond (all_cover ruling s.transactions (value_of before (slot_start a place + 1))) (slice_set s.slots place true) s.slots = freed ∙ ap (λ (b : Bool). cond b (cond (all_cover ruling s.transactions (value_of before (slot_start a place + 1))) (slice_set s.slots place true) s.slots) s.slots) at in
           let collects = collects-slot (ltb-true place a.slots at) at ruling ruled run collector c slots f index
-          (subst (λ (k : ℕ). ForgetsFreed a (value_of now) k (is_free s.slots place) slots s.index index) is (subst (λ (b : Bool). ForgetsFreed a (value_of now) slot b slots s.index index) was forgets)) room in
-          subst (λ (k : ℕ). (q' : State) × CollectsTo s (record s { collector = collector; slots = slots; index = index }) before now (Ok (Slot k)) q q') (sym is) collects
+          (subst (λ (k : ℕ). ForgetsFreed a (value_of now) k (is_free s.slots place) slots s.index index) is (subst (λ (b : Bool). ForgetsFreed a (value_of now) slot b slots s.index index) was forgets)) room
+          stale (subst (λ (k : ℕ). stale ≡ cond (is_free slots k) (slice_set s.replaced k false) s.replaced) is marks) in
+          subst (λ (k : ℕ). (q' : State) × CollectsTo s (record s { collector = collector; slots = slots; index = index; replaced = stale }) before now (Ok (Slot k)) q q') (sym is) collects
 
 -- what is so of every hidden part is so of every state that is shown
 pub collects-shown : (old new : Sessions) (before now : Device) (r : Result Visit Fault) → ((h : Hidden) → HoldsOn old h before → (q' : State) × CollectsTo old new before now r (plain_of old h) q') → Collects old new before now r

@@ -1,19 +1,20 @@
 -- The drawn commits that a record commits are covered.
 use Rattle.std.proofs.Common.{◌≡◌, ◌⊎◌, inl, inr, ℕ, zero, suc, ◌<◌, ◌≤◌, Bool, true, false, ◌&&◌, ◌||◌, cond, not, List, [], ◌∷◌, ◌++◌, length, map, filter, drop, refl, sym, ◌∙◌, ap, subst, arith, Contains, length-append}
-use Rattle.std.specs.Prelude.{Option, Some, None, nat_eq, nat_lt, find, slice_index_or, All}
+use Rattle.std.specs.Prelude.{Option, Some, None, nat_eq, nat_lt, find, slice_get, slice_index_or, All}
 use Rattle.std.specs.List.{list_any, list_all}
 use Rattle.std.specs.Option.{option_map}
 use Rattle.std.proofs.lemmas.Bool.{and_parts, ltb-true, eq-eqb, ne_eqb, false_from_ne_true, or_right}
 use Rattle.std.proofs.lemmas.Bool.Decides.{nat_tests}
 use Rattle.std.proofs.lemmas.List.{take-append-le, drop_all}
 use Rattle.std.proofs.lemmas.List.Elements.{All-nil, All-filter}
-use Rattle.std.proofs.lemmas.List.Folds.{list_any_none, list_any_at}
+use Rattle.std.proofs.lemmas.List.Folds.{list_any_none, list_any_at, list_any-append}
 use Rattle.base.specs.declared.key.Key.{Key}
 use Rattle.base.specs.Keys.{key_eq}
 use Rattle.base.specs.Commits.{Commit, last_writer, writes_key}
 use Rattle.base.specs.Records.{Record, is_committed, are_rising}
 use Rattle.base.specs.Stands.{has_timestamp}
 use Rattle.machine.specs.Machine.{State, Hand, Drawn as PlainDrawn, Version, Writer, BySession, ByCommit, drawn_at, state_covered}
+use Rattle.machine.specs.Collecting.{replace, is_replaced_by}
 use Rattle.base.proofs.Keys.{key_eq-true}
 use Rattle.base.proofs.Lists.{rising-rest}
 use Rattle.txn.specs.declared.drawn.DrawnCommit.{DrawnCommit}
@@ -32,16 +33,19 @@ use Rattle.state_invariant.specs.Kept.{Origin, IsInUse, commits_of_life, version
 use Rattle.state_invariant.specs.Links.{last_row}
 use Rattle.state_invariant.proofs.covers.Kept.{batch-drawn, found-left}
 use Rattle.state_invariant.proofs.Lists.{rising-above}
+use Rattle.state_invariant.proofs.Commits.{timestamp-all, drawn_at-timestamp}
 use Rattle.device_invariant.specs.Slots.{newest_of}
 use Rattle.device_invariant.specs.Log.{is_ended}
+use Rattle.device_invariant.proofs.stamps.Stamped.{writes-held}
 use Rattle.simulation.specs.sessions.Laws.{is_covered_by, CoversByRecord}
 use Rattle.simulation.proofs.sessions.Batches.{covers-batch}
 use Rattle.simulation.specs.steps.Moves.{IsSlotOf}
 use Rattle.session_steps.specs.declared.sessions.Sessions.{Sessions}
 use Rattle.simulation.specs.sessions.Sees.{Sees, last_on}
-use Rattle.session_steps.specs.Shows.{Hidden, plain_of, plain_session, plain_drawn, HasItsSlot, HoldsSession, HasDrawn, IsSeenByAll, HoldsLast, HoldsEntry, HoldsDrawn, HoldsLines, has_drawn_by, line_numbers, Agrees}
-use Rattle.session_steps.specs.Covering.{covered_by_commits, committed_by, left_by, CoversCommits, MayCover, hidden_covered, HasCovered, ShowsCovered}
+use Rattle.session_steps.specs.Shows.{Hidden, plain_of, plain_session, plain_drawn, HasItsSlot, HoldsSession, HasDrawn, IsSeenByAll, HoldsLast, HoldsEntry, HoldsDrawn, HoldsLines, has_drawn_by, line_numbers, IsUnreplaced, Agrees}
+use Rattle.session_steps.specs.Covering.{covered_by_commits, committed_by, left_by, CoversCommits, MarksReplaced, MayCover, hidden_covered, HasCovered, ShowsCovered}
 use Rattle.session_steps.proofs.slots.Held.{numbers-by-tests}
+use Rattle.session_steps.proofs.collector.Replaced.{last-unreplaced, unreplaced-last, found-contained}
 use Rattle.session_steps.proofs.Filters.{filter-at, any-split}
 use Rattle.session_steps.proofs.covers.Index.{has_key, written-plain, written-commits, Within, IsOwn, within-commits, live-commits, none-commits, stays-commits, newest-after}
 
@@ -124,10 +128,22 @@ any-kept : (p : Commit → Bool) (test : PlainDrawn → Bool) (ds : List PlainDr
 any-kept p test [] none = refl
 any-kept p test (d ∷ ds) none = grind (arith, any-kept p test ds)
 
+-- ---- what a live entry says
+
+live-newest : (e : Entry) (slot : ℕ) → live_of e ≡ Some slot → e.newest ≡ Some slot
+live-newest e slot is = by e.ended is
+  where
+    by : (b : Bool) → cond b None e.newest ≡ Some slot → e.newest ≡ Some slot
+    by true is = absurd (cc is)
+    by false is = is
+
+same-last : (v w : Version) → Some v ≡ Some w → stamp-of v.writer ≡ stamp-of w.writer
+same-last v w e = cc e
+
 -- ---- covering
 
 module _ (s : Sessions) (ruling : Record) (h : Hidden) (hand : Hand) (may : MayCover s ruling h hand) (index : List (Key × Entry)) (dirty : List SessionSet) (sessions : SessionSet) (drawn : InFlight)
-    (covers : CoversCommits (committed_by ruling s.drawn.commits) s.index index) (forgets : Forgets sessions s.dirty dirty) (of : (n : ℕ) → has sessions n ≡ has_drawn_by (committed_by ruling s.drawn.commits) n)
+    (replaced : List Bool) (covers : CoversCommits (committed_by ruling s.drawn.commits) s.index index) (marks : MarksReplaced s.replaced replaced s.index index) (forgets : Forgets sessions s.dirty dirty) (of : (n : ℕ) → has sessions n ≡ has_drawn_by (committed_by ruling s.drawn.commits) n)
     (rest : drawn.commits ≡ left_by ruling s.drawn.commits) where
   -- the record commits it
   abbrev counts : DrawnCommit → Bool
@@ -146,7 +162,7 @@ module _ (s : Sessions) (ruling : Record) (h : Hidden) (hand : Hand) (may : MayC
   q = plain_of s h
 
   abbrev pub now : Sessions
-  now = record s { numbers = record { geometry = s.numbers.geometry; «record» = ruling; next = s.numbers.next }; drawn = drawn; index = index; dirty = dirty }
+  now = record s { numbers = record { geometry = s.numbers.geometry; «record» = ruling; next = s.numbers.next }; drawn = drawn; index = index; dirty = dirty; replaced = replaced }
 
   abbrev q' : State
   q' = plain_of now (hidden_covered h hand)
@@ -276,6 +292,56 @@ module _ (s : Sessions) (ruling : Record) (h : Hidden) (hand : Hand) (may : MayC
       either true is = inr (sym (batch-writes key) ∙ is)
       either false is = inl (subst (λ (v : Version). IsSlotOf q v (live_of (entry_at s.index key))) (sym (law.unwritten key is)) old.live)
 
+  -- ---- what is replaced
+
+  -- a version that is covered now is the newest of its key
+  batch-last : (slot t : ℕ) (key : Key) → slot < q.layout.slots → h.held slot ≡ Some (version_by key (ByCommit t)) → has_timestamp hand.commits t ≡ true → last_writer q'.history key ≡ t
+  batch-last slot t key lt held has =
+      let k = may.keeps.numbers.hand hand may.batch.in_hand in
+      let drawn-is = batch-drawn o q hand may.keeps k t has in
+      let d : PlainDrawn = drawn-is.0 in
+      let its : d.commit.timestamp ≡ t = drawn_at-timestamp q t d drawn-is.1 in
+      let counts : is_covered_by hand.target d ≡ true = ap (is_committed hand.target) its ∙ timestamp-all (is_committed hand.target) hand.commits t k.batch has in
+      let writes : writes_key key d.commit ≡ true = writes-held o q may.keeps slot t key d lt held drawn-is.1 in
+      ap (λ (v : Version). stamp-of v.writer) (law.written key d (found-contained (λ (e : PlainDrawn). nat_eq e.commit.timestamp t) q.drawn d drawn-is.1) counts writes) ∙ its
+
+  -- so is one that was the newest, if the slot isn't marked
+  stays-last : (slot : ℕ) (key : Key) → slot < q.layout.slots → h.held slot ≡ Some (newest_of q key) → slice_get replaced slot ≡ Some false → last_writer q'.history key ≡ last_writer h.history key
+  stays-last slot key lt held out = by (live_of (entry_at s.index key)) refl (may.agrees.index key).live
+    where
+      by : (e : Option ℕ) → live_of (entry_at s.index key) ≡ e → IsSlotOf q (newest_of q key) e → last_writer q'.history key ≡ last_writer h.history key
+      by None is none = absurd (none slot lt held)
+      by (Some other) is at =
+          let same : other ≡ slot = may.keeps.owns.once other slot (newest_of q key) at.0 lt at.1 held in
+          let newest : (entry_at s.index key).newest ≡ Some slot = live-newest (entry_at s.index key) other is ∙ ap (λ (k : ℕ). Some k) same in
+          let stays : live_of (entry_at index key) ≡ Some other = ap (λ (e : Entry). live_of e) (marks.entries key slot newest out) ∙ is in
+          let there : (other < q'.layout.slots) × (h.held other ≡ Some (newest_of q' key)) = subst (IsSlotOf q' (newest_of q' key)) stays (entry key).live in
+          let both : Some (newest_of q' key) ≡ Some (newest_of q key) = sym there.1 ∙ at.1 in
+          same-last (newest_of q' key) (newest_of q key) both
+
+  unreplaced : (slot : ℕ) → slice_get replaced slot ≡ Some false → IsUnreplaced q' slot
+  unreplaced slot out = (was.0, by (h.held slot) refl was.1)
+    where
+      was : IsUnreplaced q slot
+      was = may.agrees.unreplaced slot (marks.others slot out)
+
+      of-commit : (key : Key) (t : ℕ) → h.held slot ≡ Some (version_by key (ByCommit t)) → is_replaced_by h.history key (ByCommit t) ≡ false → (new old : Bool) → has_timestamp hand.commits t ≡ new → has_timestamp h.history t ≡ old
+          → is_replaced_by (h.history ++ hand.commits) key (ByCommit t) ≡ false
+      of-commit key t held is true old covered before = last-unreplaced (h.history ++ hand.commits) key t (batch-last slot t key was.0 held covered)
+      of-commit key t held is false true apart before =
+          let last : last_writer h.history key ≡ t = unreplaced-last h.history key t before is in
+          last-unreplaced (h.history ++ hand.commits) key t (stays-last slot key was.0 (held ∙ ap (λ (u : ℕ). Some (version_by key (ByCommit u))) (sym last)) out ∙ last)
+      of-commit key t held is false false apart before =
+          ap (λ (b : Bool). b && not (nat_eq (last_writer (h.history ++ hand.commits) key) t)) (list_any-append (λ (c : Commit). nat_eq c.timestamp t) h.history hand.commits ∙ (λ i. before i || apart i))
+
+      by : (v : Option Version) → h.held slot ≡ v → replace h.history v ≡ false → replace (h.history ++ hand.commits) v ≡ false
+      by None held is = refl
+      by (Some v) held is = by-writer v.writer held is
+        where
+          by-writer : (w : Writer) → h.held slot ≡ Some (version_by v.key w) → is_replaced_by h.history v.key w ≡ false → is_replaced_by (h.history ++ hand.commits) v.key w ≡ false
+          by-writer (BySession n) held is = refl
+          by-writer (ByCommit t) held is = of-commit v.key t held is (has_timestamp hand.commits t) (has_timestamp h.history t) refl refl
+
   -- ---- the lines
 
   -- a commit that stays drawn, by its place
@@ -361,6 +427,7 @@ module _ (s : Sessions) (ruling : Record) (h : Hidden) (hand : Hand) (may : MayC
       drawn = holds-drawn;
       free = may.agrees.free;
       counted = may.agrees.counted;
+      unreplaced = unreplaced;
       index = entry;
       lines = holds-lines;
       sized = let same : length dirty ≡ length s.dirty = forgets.size in omega (arith, same, may.agrees.sized);

@@ -1,8 +1,10 @@
 -- What the index has of a key once commits are covered.
-use Rattle.std.proofs.Common.{◌≡◌, ◌⊎◌, inl, inr, ℕ, ◌<◌, Bool, true, false, ◌||◌, cond, List, [], ◌∷◌, ◌++◌, map, refl, sym, ◌∙◌, ap, subst, arith}
-use Rattle.std.specs.Prelude.{Option, Some, None, is_some, unwrap_or, fold, slice_index_or, All}
+use Rattle.std.proofs.Common.{◌≡◌, ◌⊎◌, inl, inr, ℕ, ◌+◌, ◌<◌, Bool, true, false, ◌||◌, cond, List, [], ◌∷◌, ◌++◌, length, take, map, refl, sym, ◌∙◌, ap, subst, arith}
+use Rattle.std.specs.Prelude.{Option, Some, None, is_some, unwrap_or, fold, slice_get, slice_index_or, All}
 use Rattle.std.specs.List.{list_any}
+use Rattle.std.proofs.lemmas.List.{take_more}
 use Rattle.std.proofs.lemmas.List.Sums.{fold-append}
+use Rattle.std.proofs.lemmas.Option.{get_or_from_slice_get}
 use Rattle.std.proofs.lemmas.List.Elements.{All-head, All-tail}
 use Rattle.base.specs.declared.key.Key.{Key}
 use Rattle.base.specs.Keys.{key_eq, lookup_key}
@@ -13,12 +15,12 @@ use Rattle.txn.specs.declared.drawn.DrawnCommit.{DrawnCommit}
 use Rattle.txn.specs.declared.write.Write.{Write}
 use Rattle.txn.specs.WriteSets.{plain_writes}
 use Rattle.index.specs.declared.entry.Entry.{Entry}
-use Rattle.index.specs.Entries.{covered, live_of}
+use Rattle.index.specs.Entries.{entry_at, covered, live_of, Sets, KeepsRoom}
 use Rattle.simulation.specs.steps.Moves.{IsSlotOf}
 use Rattle.state_invariant.specs.Kept.{Origin, Keeps, row_in, version_by}
 use Rattle.state_invariant.specs.Links.{last_row}
 use Rattle.session_steps.specs.Shows.{plain_drawn, HasItsSlot, HasVersionOf}
-use Rattle.session_steps.specs.Covering.{covered_by, covered_by_all, covered_by_commits}
+use Rattle.session_steps.specs.Covering.{covered_by, covered_by_all, covered_by_commits, CoversWrites}
 
 -- ---- which keys are written
 
@@ -36,6 +38,22 @@ written-commits key [] = refl
 written-commits key (d ∷ ds) = λ i. written-plain key d.writes i || written-commits key ds i
 
 -- ---- the entry
+
+-- one write more
+pub covers-next : (items : List Write) (i : ℕ) (w : Write) (old mid new : List (Key × Entry)) → i < length items → slice_get items i ≡ Some w → CoversWrites (take i items) old mid → Sets mid new w.key (covered w.slot (entry_at mid w.key)) → KeepsRoom mid new
+    → CoversWrites (take (i + 1) items) old new
+covers-next items i w old mid new lt at covers sets room = subst (λ (ws : List Write). CoversWrites ws old new) (sym one_more) record {
+  entries = λ key. sets key ∙ by key (key_eq w.key key) refl ∙ sym (fold-append (covered_by key) (entry_at old key) (take i items) (w ∷ []));
+  room = λ key. room key ∙ covers.room key;
+}
+  where
+    one_more : take (i + 1) items ≡ take i items ++ w ∷ []
+    one_more = take_more items i w lt ∙ ap (λ (x : Write). take i items ++ x ∷ []) (get_or_from_slice_get items i w w at)
+
+    by : (key : Key) (b : Bool) → key_eq w.key key ≡ b
+        → cond b (covered w.slot (entry_at mid w.key)) (entry_at mid key) ≡ cond b (covered w.slot (covered_by_all key (entry_at old key) (take i items))) (covered_by_all key (entry_at old key) (take i items))
+    by key true is = ap (λ (k : Key). covered w.slot (entry_at mid k)) (key_eq-true w.key key is) ∙ ap (covered w.slot) (covers.entries key)
+    by key false is = covers.entries key
 
 -- the slots of the entry are the state's, the newest has a version of the key, and it has this last timestamp
 pub record Within (q : State) (key : Key) (last : Option ℕ) (e : Entry) : Type 0 where

@@ -52,6 +52,7 @@ use Rattle.session_steps.proofs.transactions.Sets.{each-set}
 use Rattle.session_steps.proofs.slots.Owned.{found-in, contained-found, rising-plain, own-is}
 use Rattle.session_steps.proofs.transactions.Steps.{found}
 use Rattle.session_steps.proofs.draws.Snapshots.{uncovered-above}
+use Rattle.session_steps.proofs.collector.Replaced.{drawn-unreplaced}
 
 -- ---- lists
 
@@ -504,6 +505,13 @@ module _ (s : Sessions) (h : Hidden) (n : ℕ) (snapshot : Seen) (writes : List 
         of-none : (m line : ℕ) → (has_drawn_by s.drawn.commits m ≡ false) × (nat_eq n m ≡ false) → is_touched dirty m line ≡ false
         of-none m line out = touches.touched m line ∙ (λ i. holds.agrees.lines.none m line out.0 i || (out.1 i && list_any (λ l. nat_eq l line) (flat_map (touched_lines s.numbers.geometry s.index) writes)))
 
+    -- no covered commit has the timestamp
+    fresh : (b : Bool) → has_timestamp h.history t ≡ b → b ≡ false
+    fresh false is = refl
+    fresh true is =
+        let counts = timestamp-all (is_committed s.numbers.record) h.history t holds.keeps.numbers.covered is in
+        absurd (omega (arith, (committed-bounds s.numbers.record t counts).1, holds.keeps.numbers.persisted))
+
     -- the session's snapshot isn't in use any more
     in-use : Sets s.transactions ts n (Some (Drawn t)) → (m : ℕ) → IsInUse then m → IsInUse old m
     in-use sets m (inl all) = inl all
@@ -524,6 +532,7 @@ module _ (s : Sessions) (h : Hidden) (n : ℕ) (snapshot : Seen) (writes : List 
       drawn = All-append (HoldsDrawn drawn then) s.drawn.commits (new ∷ []) (λ k d lt. drawn-stays _ sets rooms (early-commits k d lt) (holds.agrees.drawn k d lt)) (All-cons (HoldsDrawn drawn then) new [] (drawn-new sets written) (All-nil (HoldsDrawn drawn then)));
       free = λ slot lt. holds.agrees.free slot lt ∙ ap (λ (b : Bool). Some b) (still-none (h.held slot));
       counted = holds.agrees.counted;
+      unreplaced = λ slot out. let was = holds.agrees.unreplaced slot out in (was.0, drawn-unreplaced n t h.history (h.held slot) (fresh (has_timestamp h.history t) refl) was.1);
       index = λ key. subst (HoldsEntry h.origin then key) (sym (entries key)) (entry-more (in-use sets) key (write_of key writes) refl (holds.agrees.index key));
       lines = lines-hold touches;
       sized = let same : length dirty ≡ length s.dirty = touches.size in omega (arith, same, holds.agrees.sized);

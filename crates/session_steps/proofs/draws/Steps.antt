@@ -140,6 +140,7 @@ agrees-grown s h spare index same kept agrees = record {
   drawn = λ k d lt. let has = agrees.drawn k d lt in record { session = has.session; writes = has.writes; room = λ j w below. kept _ (has.room j w below) };
   free = agrees.free;
   counted = agrees.counted;
+  unreplaced = agrees.unreplaced;
   index = λ key. subst (HoldsEntry h.origin (plain_of s h) key) (sym (same key)) (agrees.index key);
   lines = agrees.lines;
   sized = agrees.sized;

@@ -1,11 +1,11 @@
 -- The sessions of an opened device show the state in which the life begins.
 use Rattle.std.proofs.Common.{◌≡◌, ◌≢◌, inl, ℕ, ◌*◌, ◌<◌, ◌≤◌, Bool, true, false, List, [], ◌++◌, map, length, refl, sym, ◌∙◌, ap, subst, arith}
-use Rattle.std.specs.Prelude.{Option, Some, None, is_none, is_some, slice_get, All}
+use Rattle.std.specs.Prelude.{Option, Some, None, is_none, is_some, slice_get, replicate, All}
 use Rattle.std.specs.Option.{option_map}
 use Rattle.std.proofs.lemmas.Bool.{ne_eqb, true≢false}
-use Rattle.std.proofs.lemmas.List.{take_all, drop_all}
+use Rattle.std.proofs.lemmas.List.{take_all, drop_all, length-replicate}
 use Rattle.std.proofs.lemmas.List.Elements.{All-nil}
-use Rattle.std.proofs.lemmas.Option.{none-some}
+use Rattle.std.proofs.lemmas.Option.{none-some, slice_get_within}
 use Rattle.base.specs.declared.key.Key.{Key}
 use Rattle.base.specs.Commits.{Commit, last_writer}
 use Rattle.base.specs.Layout.{Layout, total_words}
@@ -33,8 +33,9 @@ use Rattle.simulation.specs.steps.Moves.{IsSlotOf}
 use Rattle.collector.specs.declared.rounds.Collector.{Collector}
 use Rattle.session_steps.specs.declared.sessions.Sessions.{Sessions}
 use Rattle.simulation.specs.sessions.Sees.{last_on}
-use Rattle.session_steps.specs.Shows.{Hidden, plain_of, plain_session, plain_drawn, HoldsSession, HoldsEntry, HoldsDrawn, HoldsLines, Shows}
+use Rattle.session_steps.specs.Shows.{Hidden, plain_of, plain_session, plain_drawn, HoldsSession, HoldsEntry, HoldsDrawn, HoldsLines, IsUnreplaced, Shows}
 use Rattle.session_steps.specs.Opening.{Begins, HasFound}
+use Rattle.session_steps.proofs.collector.Replaced.{newest-unreplaced}
 
 module _ (a : Layout) (ruling : Record) (next : ℕ) (free : List Bool) (q : State) (device : Device) (begins : Begins a ruling next free q) (u : Upholds (origin_of q) q device) (orderly : IsOrderly device) where
   -- ---- the image
@@ -136,7 +137,7 @@ module _ (a : Layout) (ruling : Record) (next : ℕ) (free : List Bool) (q : Sta
 
 -- ---- all
 
-module _ (s : Sessions) (device : Device) (free : List Bool) (q : State) (same : s.slots ≡ free) (begun : s.collector ≡ record { place = 0; swept = false }) (begins : Begins s.numbers.geometry s.numbers.record s.numbers.next free q) (u : Upholds (origin_of q) q device) (orderly : IsOrderly device)
+module _ (s : Sessions) (device : Device) (free : List Bool) (q : State) (same : s.slots ≡ free) (unmarked : s.replaced ≡ replicate s.numbers.geometry.slots false) (begun : s.collector ≡ record { place = 0; swept = false }) (begins : Begins s.numbers.geometry s.numbers.record s.numbers.next free q) (u : Upholds (origin_of q) q device) (orderly : IsOrderly device)
     (none_open : (n : ℕ) → transaction_at s.transactions n ≡ None) (none_drawn : s.drawn.commits ≡ []) (none_touched : (n line : ℕ) → is_touched s.dirty n line ≡ false) (sized : total_words s.numbers.geometry ≤ 8 * length s.dirty) (counted : length free ≡ s.numbers.geometry.slots)
     (found : layout_of (image_of device) ≡ s.numbers.geometry → HasFound (image_of device) free s.numbers.geometry.slots s.index) where
   abbrev hidden : Hidden
@@ -160,6 +161,16 @@ module _ (s : Sessions) (device : Device) (free : List Bool) (q : State) (same :
   no-lines : HoldsLines q s.drawn.commits s.dirty
   no-lines = grind (arith)
 
+  -- each version that holds a slot is the newest of its key
+  unreplaced : (slot : ℕ) → slice_get s.replaced slot ≡ Some false → IsUnreplaced q slot
+  unreplaced slot out = (
+    lt,
+    newest-unreplaced q.history (q.held slot) (λ v held. held-newest s.numbers.geometry s.numbers.record s.numbers.next free q device begins u orderly slot v lt held),
+  )
+    where
+      lt : slot < q.layout.slots
+      lt = let within = slice_get_within s.replaced slot false out in let size = ap (λ (xs : List Bool). length xs) unmarked ∙ length-replicate s.numbers.geometry.slots false ∙ ap (λ (l : Layout). l.slots) (sym begins.layout_is) in omega (arith, within, size)
+
   pub shows-opened : Shows s device q
   shows-opened = record {
     hidden = hidden;
@@ -170,6 +181,7 @@ module _ (s : Sessions) (device : Device) (free : List Bool) (q : State) (same :
       drawn = subst (λ (ds : List DrawnCommit). All (HoldsDrawn s q) ds) (sym none_drawn) (All-nil (HoldsDrawn s q));
       free = λ slot lt. ap (λ (f : List Bool). slice_get f slot) same ∙ begins.free_are slot (subst (λ (l : Layout). slot < l.slots) begins.layout_is lt);
       counted = ap (λ (f : List Bool). length f) same ∙ counted ∙ ap (λ (l : Layout). l.slots) (sym begins.layout_is);
+      unreplaced = unreplaced;
       index = λ key. holds-found s.numbers.geometry s.numbers.record s.numbers.next free q device begins u orderly s.index (found (laid-out s.numbers.geometry s.numbers.record s.numbers.next free q device begins u orderly)) key;
       lines = no-lines;
       sized = subst (λ (l : Layout). total_words l ≤ 8 * length s.dirty) (sym begins.layout_is) sized;

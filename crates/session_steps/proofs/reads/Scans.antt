@@ -9,8 +9,8 @@ use Rattle.base.specs.declared.step.Step.TheVariants as step
 use Rattle.base.specs.declared.step.SessionStep.TheVariants.{Scan}
 use Rattle.base.specs.declared.step.SessionReply.TheVariants.{Rows, Refused}
 use Rattle.base.specs.Keys.{key_eq}
-use Rattle.base.specs.Commits.{Tables, Lists, after, overlaid, in_range}
-use Rattle.machine.specs.Machine.{answered, begun_of, writes_of}
+use Rattle.base.specs.Commits.{Tables, Lists, after, overlaid}
+use Rattle.machine.specs.Machine.{answered, begun_of, writes_of, seen_by}
 use Rattle.base.proofs.Keys.{key_eq-true, key_lt-apart}
 use Rattle.pmem.specs.Device.{Device, IsOrderly}
 use Rattle.pmem.specs.Words.{image_of}
@@ -77,12 +77,45 @@ passed-over range rows writes i write tables rising at outside has =
     by key true same = grind (arith)
     by key false same = refl
 
+-- one more write, in the range or not
+pub one-over : (range : KeyRange) (old new : BTreeMap Key (List ℕ)) (writes : List Write) (i : ℕ) (write : Write) (tables : Tables) → IsRising writes → slice_get writes i ≡ Some write
+    → (contains range write.key ≡ true → (key : Key) → get key_cmp new key ≡ cond (key_eq write.key key) write.row (get key_cmp old key)) → (contains range write.key ≡ false → new ≡ old)
+    → HasRows old (ranged range (laid i writes tables)) → HasRows new (ranged range (laid (i + 1) writes tables))
+one-over range old new writes i write tables rising at inside outside has = by (contains range write.key) refl
+  where
+    by : (b : Bool) → contains range write.key ≡ b → HasRows new (ranged range (laid (i + 1) writes tables))
+    by true within = put-over range old new writes i write tables rising at within (inside within) has
+    by false apart = subst (λ (m : BTreeMap Key (List ℕ)). HasRows m (ranged range (laid (i + 1) writes tables))) (sym (outside apart)) (passed-over range old writes i write tables rising at apart has)
+
 -- ---- the step
 
 -- it found no memory
 pub scans-nothing : (s : Sessions) (n table lo hi : ℕ) (snapshot : Seen) (writes : List Write) (h : Hidden) → transaction_at s.transactions n ≡ Some (Active snapshot writes)
     → Holds s h → Goes s s (Scan n table lo hi) (Refused OutOfMemory) h
 scans-nothing s n table lo hi snapshot writes h at holds = grind (arith, same-drawers, passes, found) steps 800000
+
+-- what the session sees: its own writes over the rows of its snapshot
+pub seen-tables : (s : Sessions) (n : ℕ) (snapshot : Seen) (writes : List Write) (h : Hidden) → transaction_at s.transactions n ≡ Some (Active snapshot writes)
+    → seen_by (plain_of s h) n ≡ overlaid (plain_writes writes) (after (take (h.seen n) h.history))
+seen-tables s n snapshot writes h at = ap (λ (t : Option Transaction). overlaid (writes_of (option_map (plain_session (h.seen n)) t)) (after (take (begun_of (option_map (plain_session (h.seen n)) t)) h.history))) at
+
+-- what is read in a range is what the session sees there
+pub rows-seen : (s : Sessions) (device : Device) (n : ℕ) (range : KeyRange) (rows : List (Key × List ℕ)) (snapshot : Seen) (writes : List Write) (h : Hidden) → IsOrderly device → transaction_at s.transactions n ≡ Some (Active snapshot writes)
+    → ((counts : ℕ → Bool) (tables : Tables) → CountsAs counts snapshot s.numbers.geometry (image_of device) → AreLinked snapshot (image_of device) s.index → ShowsTables counts s.numbers.geometry (image_of device) tables
+    → Lists rows (ranged range (overlaid (plain_writes writes) tables)))
+    → HoldsOn s h device → Lists rows (ranged range (seen_by (plain_of s h) n))
+rows-seen s device n range rows snapshot writes h orderly at read holds =
+    subst (λ (t : Tables). Lists rows (ranged range t)) (sym (seen-tables s n snapshot writes h at))
+    (read (covers snapshot) (after (take (h.seen n) h.history)) (record { laid_out = laid-out h.origin (plain_of s h) device orderly holds.upholds; live = λ slot lt. refl }) linked (record { rows = reading.rows; fits = reading.fits }))
+  where
+    session : HoldsSession h.origin (plain_of s h) n (h.seen n) (Some (Active snapshot writes))
+    session = subst (HoldsSession h.origin (plain_of s h) n (h.seen n)) at (holds.agrees.sessions n)
+
+    reading : ReadsBy (covers snapshot) s.numbers.geometry (after (take (h.seen n) h.history)) (image_of device)
+    reading = reads h.origin (plain_of s h) device snapshot (h.seen n) orderly holds.upholds (inr (n, plain_writes writes, found s h n _ at)) session.0
+
+    linked : AreLinked snapshot (image_of device) s.index
+    linked key = links-lead h.origin (plain_of s h) device snapshot (h.seen n) key (entry_at s.index key).newest orderly holds.upholds (inr (n, plain_writes writes, found s h n _ at)) session.0 (holds.agrees.index key).newest
 
 -- the rows that the session sees
 pub scans-seen : (s : Sessions) (device : Device) (n table lo hi : ℕ) (rows : List (Key × List ℕ)) (snapshot : Seen) (writes : List Write) (h : Hidden) → IsOrderly device → transaction_at s.transactions n ≡ Some (Active snapshot writes)
@@ -94,18 +127,5 @@ scans-seen s device n table lo hi rows snapshot writes h orderly at read holds =
   origin = refl;
   drawers = same-drawers s.drawn.commits;
   agrees = holds.agrees;
-  stepped = answered (passes (plain_of s h) (step.Scan n table lo hi) n _ holds.works refl (found s h n _ at) refl)
-      (rows, refl, subst (λ (t : Option Transaction). Lists rows (in_range table lo hi (overlaid (writes_of (option_map (plain_session (h.seen n)) t)) (after (take (begun_of (option_map (plain_session (h.seen n)) t)) h.history))))) (sym at) listed) refl;
+  stepped = answered (passes (plain_of s h) (step.Scan n table lo hi) n _ holds.works refl (found s h n _ at) refl) (rows, refl, rows-seen s device n (Within table lo hi) rows snapshot writes h orderly at read holds) refl;
 }
-  where
-    session : HoldsSession h.origin (plain_of s h) n (h.seen n) (Some (Active snapshot writes))
-    session = subst (HoldsSession h.origin (plain_of s h) n (h.seen n)) at (holds.agrees.sessions n)
-
-    reading : ReadsBy (covers snapshot) s.numbers.geometry (after (take (h.seen n) h.history)) (image_of device)
-    reading = reads h.origin (plain_of s h) device snapshot (h.seen n) orderly holds.upholds (inr (n, plain_writes writes, found s h n _ at)) session.0
-
-    linked : AreLinked snapshot (image_of device) s.index
-    linked key = links-lead h.origin (plain_of s h) device snapshot (h.seen n) key (entry_at s.index key).newest orderly holds.upholds (inr (n, plain_writes writes, found s h n _ at)) session.0 (holds.agrees.index key).newest
-
-    listed : Lists rows (in_range table lo hi (overlaid (plain_writes writes) (after (take (h.seen n) h.history))))
-    listed = read (covers snapshot) (after (take (h.seen n) h.history)) (record { laid_out = laid-out h.origin (plain_of s h) device orderly holds.upholds; live = λ slot lt. refl }) linked (record { rows = reading.rows; fits = reading.fits })

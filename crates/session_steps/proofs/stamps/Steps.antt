@@ -119,6 +119,7 @@ module _ (s : Sessions) (h : Hidden) (t spare : ℕ) where
     drawn = All-map (HoldsDrawn stamped (plain_of stamped h)) (with_stamp t) s.drawn.commits (λ k d lt. drawn-stamped _ (agrees.drawn k d lt));
     free = agrees.free;
     counted = agrees.counted;
+    unreplaced = agrees.unreplaced;
     index = λ key. let e = agrees.index key in record {
       live = e.live;
       last = last-stamped key (entry_at s.index key).last e.last;

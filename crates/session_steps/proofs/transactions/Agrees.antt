@@ -17,6 +17,7 @@ use Rattle.session_steps.specs.declared.sessions.Sessions.{Sessions}
 use Rattle.simulation.specs.sessions.Sees.{Sees}
 use Rattle.session_steps.specs.Shows.{Hidden, plain_of, plain_session, HoldsSession, HoldsLast, HoldsDrawn, Agrees}
 use Rattle.session_steps.proofs.transactions.Sets.{each-set}
+use Rattle.session_steps.proofs.collector.Replaced.{moved-unreplaced}
 use Rattle.session_steps.proofs.slots.Held.{SameBut, Moves, slot-kept, version-kept, version-before, writes-kept, table-kept}
 
 -- what holds of a session that isn't the one
@@ -39,6 +40,7 @@ agrees-changed s h ts slots seen held n x agrees sets moves same-seen here used 
   drawn = λ k d lt. drawn _ (agrees.drawn k d lt) (apart k d lt);
   free = free;
   counted = counted;
+  unreplaced = λ slot out. let was = agrees.unreplaced slot out in (was.0, moved-unreplaced n h.history (h.held slot) (held slot) (moves slot) was.1);
   index = λ key. let e = agrees.index key in record { live = slot-kept n q q' (newest_of q key) (live_of (entry_at s.index key)) same refl e.live; last = last-kept key (entry_at s.index key).last e.last; newest = λ t slot last lt at. e.newest t slot last lt (version-before n q q' key slot t same at); only = λ slot at. version-kept n q q' key slot same (e.only slot at); drawn = e.drawn };
   lines = table-kept n q q' s.drawn.commits s.dirty same agrees.lines;
   sized = agrees.sized;

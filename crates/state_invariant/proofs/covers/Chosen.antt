@@ -1,6 +1,6 @@
 -- A batch of any number of commits is chosen.
 use Rattle.std.proofs.Common.{◌||◌, ◌≡◌, ◌≢◌, ◌⊎◌, inl, inr, ℕ, suc, ◌+◌, ◌<◌, ◌≤◌, Bool, true, false, cond, not, ◌&&◌, List, [], ◌∷◌, map, filter, fold, length, refl, sym, ◌∙◌, ap, arith, Option, Some, None, find, true≢false}
-use Rattle.std.specs.Prelude.{nat_eq, nat_lt, nat_le, max}
+use Rattle.std.specs.Prelude.{nat_eq, nat_lt, nat_le, max, unwrap_or}
 use Rattle.std.specs.List.{list_any, list_all}
 use Rattle.std.specs.Option.{option_map}
 use Rattle.std.proofs.lemmas.Bool.{cases_eq, cases_lt, eq-eqb, eqb-true, and_parts, and_from, ltb-true, lt-ltb, leb-true, le-leb, or_cases, or_left, or_right, false_from_ne_true, not-true}
@@ -207,7 +207,10 @@ module _ (o : Origin) (q : State) (kept : Keeps o q) where
       by : (x : Option Drawn) → find (λ (d : Drawn). nat_eq d.commit.timestamp t) (filter (is_chosen q) q.drawn) ≡ x → option_map (λ (d : Drawn). d.commit) x ≡ Some c
           → (d : Drawn) × (drawn_at q t ≡ Some d) × (d.commit ≡ c) × (is_stamped d ≡ true) × (t ≤ reach q)
       by None is e = absurd (cc e)
-      by (Some d) is e = grind (arith, found-unfiltered, rising, and_parts, leb-true, drawn_at-timestamp)
+      by (Some d) is e =
+          let both = found-unfiltered (is_chosen q) q.drawn t d rising is in
+          let parts = and_parts (is_stamped d) (nat_le (time_of d) (reach q)) both.1 in
+          (d, both.0, ap (λ (x : Option Commit). unwrap_or x c) e, parts.0, omega (arith, leb-true (time_of d) (reach q) parts.1, drawn_at-timestamp q t d both.0))
 
   pub chosen-found : (t : ℕ) → has_timestamp (chosen q) t ≡ true → (d : Drawn) × (drawn_at q t ≡ Some d) × (is_stamped d ≡ true) × (t ≤ reach q)
   chosen-found t has = let c = commit_at-has (chosen q) t has in let d = chosen-drawn t c.0 c.1 in (d.0, d.1, d.3, d.4)

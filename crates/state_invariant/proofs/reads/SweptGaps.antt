@@ -158,7 +158,11 @@ module _ (o : Origin) (q : State) (kept : Keeps o q) where
         let shows : IsNewest o q value slot t key (unwrap_or (wanted o q (version_by key (ByCommit t))) []) =
         subst (λ (b : Bool). ShowsAs o q value slot (cond b (Newest t key (unwrap_or (wanted o q (version_by key (ByCommit t))) [])) (Replaced t key (unwrap_or (wanted o q (version_by key (ByCommit t))) [])))) (eq-eqb (last_writer q.history key) t last) w in
         open-out key shows.end
-    newest-out key t held undrawn (inr old) w = grind (arith, ne_eqb, out-above, replaced-above)
+    newest-out key t held undrawn (inr old) w =
+        let row = unwrap_or (wanted o q (version_by key (ByCommit t))) [] in
+        let shows : IsReplaced o q value slot t key row =
+        subst (λ (b : Bool). ShowsAs o q value slot (cond b (Newest t key row) (Replaced t key row))) (ne_eqb (last_writer q.history key) t old) w in
+        λ swept. out-above its_end (replaced-above o q kept value slot lt key t held undrawn row shows old)
 
     drawn-out : (key : Key) (t : ℕ) → q.held slot ≡ Some (version_by key (ByCommit t)) → (d : Option Drawn) → drawn_at q t ≡ d → ShowsAs o q value slot (class_of_drawn q key t (unwrap_or (wanted o q (version_by key (ByCommit t))) []) d) → IsOutOfSwept o q its_end
     drawn-out key t held None undrawn w = newest-out key t held undrawn (cases_eq (last_writer q.history key) t) w

@@ -27,9 +27,13 @@ enum Answer {
     Rows(usize),
     /// It is sound, and opening finds no timestamps left.
     NoTimestamps,
+    /// Neither knows this version of the format.
+    Unknown(u64),
+    /// Both refuse the geometry.
+    Misfit,
 }
 
-use Answer::{Damaged, NoTimestamps, Rows};
+use Answer::{Damaged, Misfit, NoTimestamps, Rows, Unknown};
 
 /// The fault that checking finds, the one that opening finds, and how many rows both find.
 type Found = (Option<Fault>, Option<Fault>, usize);
@@ -42,6 +46,11 @@ fn found_as(answer: Answer) -> Found {
         }
         Rows(rows) => (None, None, rows),
         NoTimestamps => (None, Some(Fault::TimestampsOut), 0),
+        Unknown(version) => {
+            let fault = Some(Fault::Version(version));
+            (fault, fault, 0)
+        }
+        Misfit => (Some(Fault::BadGeometry), Some(Fault::BadGeometry), 0),
     }
 }
 
@@ -162,12 +171,34 @@ const OF_WIDE_COMMIT: &[(Changes, Answer)] = &[
     (&[(88, 1), (90, 7), (91, 131_073), (92, 25_185)], Damaged(3)),
 ];
 
+// Changes of the superblock of a large image with the first commit: word 1 without lines, with 65 and with three, and with two, which
+// make another length. Then 2^24 slots, which make another length too, 2^24 + 1 slots, and each with its own length in word 5. Then a
+// word that is 0. As version 2 it is sound, unless it has 65,537 slots.
+const OF_LARGE: &[(Changes, Answer)] = &[
+    (&[(1, 4)], Unknown(4)),
+    (&[(1, 16_644)], Unknown(16_644)),
+    (&[(1, 772)], Unknown(772)),
+    (&[(1, 261)], Unknown(261)),
+    (&[(1, 516)], Misfit),
+    (&[(2, 16_777_216)], Misfit),
+    (&[(2, 16_777_217)], Misfit),
+    (&[(2, 16_777_216), (5, 134_217_800)], Misfit),
+    (&[(2, 16_777_217), (5, 134_217_808)], Misfit),
+    (&[(6, 1)], Misfit),
+    (&[(7, 1)], Misfit),
+    (&[(1, 2)], Rows(1)),
+    (&[(1, 2), (2, 65_537)], Misfit),
+];
+
 // The version of a fresh image, its first words, and changes of it.
 const TABLES: &[(u64, Changes, &[(Changes, Answer)])] = &[
     (2, &[], OF_FRESH),
     (2, FIRST_COMMIT, OF_FIRST_COMMIT),
     (2, LONG_COMMITS, OF_LONG_COMMITS),
     (3, WIDE_COMMIT, OF_WIDE_COMMIT),
+    (260, FIRST_COMMIT, OF_FIRST_COMMIT),
+    (260, FIRST_COMMIT, OF_LARGE),
+    (516, WIDE_COMMIT, OF_WIDE_COMMIT),
 ];
 
 // An update of key 7, or its first row.

@@ -89,11 +89,8 @@ pub fn crashed(alloc: Global, device: SimPmem, chance: &mut Chance) -> Result<Si
 
 /// A device that was formatted with this version, at rest, and its layout once it is opened.
 pub fn formatted(alloc: Global, version: u64) -> Result<(SimPmem, Geometry), Fault> {
-    let geometry = if version == 3 {
-        Geometry::wide(SLOTS as u64, 2, WINDOW)?
-    } else {
-        Geometry::new(SLOTS as u64, 2, WINDOW)?
-    };
+    let opened = version.max(Geometry::PLAIN_VERSION);
+    let geometry = Geometry::of_version(opened, SLOTS as u64, 2, WINDOW)?;
     let mut words = formatted_words(alloc, geometry)?;
     if let Some(word) = words.get_mut(VERSION) {
         *word = version;

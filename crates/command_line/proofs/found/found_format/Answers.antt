@@ -7,7 +7,7 @@ returns-clause-gives c = (
   refl,
   record {
     file_named = search rules;
-    wide_asked = search rules;
+    width_asked = search rules;
     slots_given = sym c.found_number.ensures ∙ (search rules);
     places_given = sym c.found_number-2.ensures ∙ (search rules);
     window_given = sym c.found_number-3.ensures ∙ (search rules);

@@ -76,3 +76,8 @@ returns-in_err-left-clause-refused g c =
     (file-opened c.args.file.now c.in_ok-words.words.items c.as_slice.result.now (Shows device_of c.in_ok-room.room) c.in_ok-words.ensures.length c.in_ok-words.ensures.ok c.as_slice.ensures.value c.in_ok-room.ensures.opens)
     told.1 told.2 made.1 made.3 made.4 is)
     c.in_err-left.ensures.refused
+
+pub returns-in_err-keeps-clause-refused : goal.returns-in_err-keeps-clause-refused
+returns-in_err-keeps-clause-refused g c =
+    fault-on c.from_residual-in_err-keeps.result _ (λ fault. fault ≡ OutOfMemory) _ c.from_residual-in_err-keeps.ensures.1 (λ fault is. inl is)
+    c.in_err-keeps.ensures.memory

@@ -1,20 +1,30 @@
-use Rattle.std.proofs.Common.{◌≡◌, ◌∙◌, ℕ, refl, subst, rules}
+use Rattle.std.proofs.Common.{◌≡◌, ◌∙◌, ◌+◌, ◌-◌, ℕ, refl, subst, arith, rules}
 use Rattle.database.specs.Obeys.{RepeatsTimes}
 use Rattle.base.specs.declared.step.Step.TheVariants.{Collect}
-use Rattle.session_steps.specs.Collecting.{as_reply as visited}
-use Rattle.database.proofs.Covering.{times-none, times-then}
+use Rattle.database.proofs.Covering.{times-none, times-join}
 use Rattle.database.proofs.steps.collect.Goals as goal
 
-pub loop-made-init : goal.loop-made-init
-loop-made-init g c = record { visits = times-none g.D.Pmem.state c.args.room.now.room Collect (g.met.D.Pmem.orderly c.args.room.now.room.device); ended = refl }
-
-pub loop-made-preserved : goal.loop-made-preserved
-loop-made-preserved g c = record {
-  visits = times-then g.D.Pmem.state c.args.room.now.room c.loop-made.room.room c.visit.new.self.room Collect c.loop-made._made (visited c.visit.result) c.loop-made.invariant.visits c.visit.ensures.step;
-  ended = c.visit.ensures.ended ∙ c.loop-made.invariant.ended;
+pub loop-left-init : goal.loop-left-init
+loop-left-init g c = record {
+  within = omega arith;
+  visits = subst (λ (n : ℕ). RepeatsTimes g.D.Pmem.state c.args.room.now.room c.args.room.now.room Collect n) (omega arith) (times-none g.D.Pmem.state c.args.room.now.room Collect (g.met.D.Pmem.orderly c.args.room.now.room.device));
+  ended = refl;
 }
 
+pub loop-left-preserved : goal.loop-left-preserved
+loop-left-preserved g c =
+    let within = c.loop-left.invariant.within in
+    let most = c.visit_next-left.ensures.most in
+    let more : (c.args.places - c.loop-left.left) + c.visit_next-left.result ≡ c.args.places - (c.loop-left.left - c.visit_next-left.result) = omega (arith, within, most) in
+    record {
+      within = omega (arith, within, most);
+      visits = subst (λ (n : ℕ). RepeatsTimes g.D.Pmem.state c.args.room.now.room c.visit_next-left.new.room.room Collect n) more
+          (times-join g.D.Pmem.state c.args.room.now.room c.loop-left.room.room c.visit_next-left.new.room.room Collect (c.args.places - c.loop-left.left) c.visit_next-left.result c.loop-left.invariant.visits c.visit_next-left.ensures.visits);
+      ended = c.visit_next-left.ensures.ended ∙ c.loop-left.invariant.ended;
+    }
+
 pub returns-clause-visits : goal.returns-clause-visits
-returns-clause-visits g c =
-    let all : c.loop-made._made ≡ c.args.places = search rules in
-    subst (λ (n : ℕ). RepeatsTimes g.D.Pmem.state c.args.room.now.room c.loop-made.room.room Collect n) all c.loop-made.invariant.visits
+returns-clause-visits g c = subst (λ (n : ℕ). RepeatsTimes g.D.Pmem.state c.args.room.now.room c.loop-left.room.room Collect n) all c.loop-left.invariant.visits
+  where
+    all : c.args.places - c.loop-left.left ≡ c.args.places
+    all = search rules

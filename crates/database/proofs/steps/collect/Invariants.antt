@@ -1,11 +1,15 @@
-use Rattle.std.proofs.Common.{◌≡◌}
+use Rattle.std.proofs.Common.{◌≡◌, ◌≤◌, ◌-◌}
 use Rattle.base.specs.declared.step.Step.TheVariants.{Collect}
 use Rattle.database.specs.Obeys.{RepeatsTimes}
 use Rattle.database.proofs.steps.collect.Given as goal
 
--- this many visits are made so far
-abbrev pub invariant-loop-made : goal.invariant-loop-made
-invariant-loop-made g l = record {
-  visits : RepeatsTimes g.D.Pmem.state l.fn.room.room l.room.room Collect l._made;
-  ended : l.room.ended ≡ l.fn.room.ended;
+-- all but this many visits are made
+abbrev pub invariant-loop-left : goal.invariant-loop-left
+invariant-loop-left g l = record {
+  within : l.left ≤ l.places;
+  visits : RepeatsTimes g.D.Pmem.state l.initial.room.room l.room.room Collect (l.places - l.left);
+  ended : l.room.ended ≡ l.initial.room.ended;
 }
+
+abbrev pub decreases-loop-left : goal.decreases-loop-left
+decreases-loop-left g l = l.left

@@ -6,6 +6,7 @@ use Rattle.journal.proofs.Within.{rests_within}
 use Rattle.journal.proofs.Appended.{rests-either, append-either, append-kept}
 use Rattle.journal.proofs.Tails.{names_appended}
 use Rattle.journal.proofs.Places.{places_behind}
+use Rattle.journal.proofs.Decides.{decides_appended, decides_rests}
 use Rattle.journal.proofs.appending.append.Goals as goal
 
 pub returns-in_err-entry-clause-either : goal.returns-in_err-entry-clause-either
@@ -89,3 +90,22 @@ returns-clause-place g c =
     let old = g.S.Storage.may_hold c.args.storage.now in
     let new = g.S.Storage.may_hold c.write.new.self in
     places_behind old new durable (length durable + c.args.position.words) _ (omega arith) c.write.ensures.found
+
+pub returns-in_err-entry-clause-decides : goal.returns-in_err-entry-clause-decides
+returns-in_err-entry-clause-decides g c =
+    let durable = c.args.durable.now in
+    decides_rests (g.S.Storage.may_hold c.args.storage.now) (length durable) c.args.room c.args.position.pass c.args.position.words durable c.requires.known
+
+pub returns-in_err-write-clause-decides : goal.returns-in_err-write-clause-decides
+returns-in_err-write-clause-decides g c =
+    let durable = c.args.durable.now in
+    let old = g.S.Storage.may_hold c.args.storage.now in
+    let new = g.S.Storage.may_hold c.write.new.self in
+    decides_appended old new (length durable) c.args.room c.args.position.pass c.args.position.words durable (length durable + c.args.position.words) _ (omega arith) c.requires.known c.write.ensures.found
+
+pub returns-clause-decides : goal.returns-clause-decides
+returns-clause-decides g c =
+    let durable = c.args.durable.now in
+    let old = g.S.Storage.may_hold c.args.storage.now in
+    let new = g.S.Storage.may_hold c.write.new.self in
+    decides_appended old new (length durable) c.args.room c.args.position.pass c.args.position.words durable (length durable + c.args.position.words) _ (omega arith) c.requires.known c.write.ensures.found

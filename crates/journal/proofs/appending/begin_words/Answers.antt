@@ -3,6 +3,7 @@ use Rattle.std.proofs.lemmas.List.{ext_get_or}
 use Rattle.journal.specs.declared.line.Line.{Line}
 use Rattle.journal.specs.Changes.{AreChanged}
 use Rattle.journal.proofs.Appended.{rests-either}
+use Rattle.journal.proofs.Decides.{decides_rests}
 use Rattle.journal.proofs.appending.begin_words.Goals as goal
 
 pub returns-in_err-changed-clause-either : goal.returns-in_err-changed-clause-either
@@ -24,3 +25,13 @@ returns-clause-durable g c =
 
 pub returns-in_err-check_part-clause-either : goal.returns-in_err-check_part-clause-either
 returns-in_err-check_part-clause-either g c = grind (arith, rests-either)
+
+pub returns-in_err-check_part-clause-decides : goal.returns-in_err-check_part-clause-decides
+returns-in_err-check_part-clause-decides g c =
+    let durable = c.args.durable.now.items in
+    decides_rests (g.S.Storage.may_hold c.args.storage.now) (length durable) c.args.room c.args.position.pass c.args.position.words durable c.requires.known
+
+pub returns-in_err-changed-clause-decides : goal.returns-in_err-changed-clause-decides
+returns-in_err-changed-clause-decides g c =
+    let durable = c.args.durable.now.items in
+    decides_rests (g.S.Storage.may_hold c.args.storage.now) (length durable) c.args.room c.args.position.pass c.args.position.words durable c.requires.known

@@ -7,6 +7,7 @@ use Rattle.journal.specs.States.{Rests}
 use Rattle.journal.proofs.Changes.{unchanged}
 use Rattle.journal.proofs.Within.{rests_within}
 use Rattle.journal.proofs.Appended.{rests-behind, rests-either, opens-either}
+use Rattle.journal.proofs.Decides.{decides_opens, decides_rests}
 use Rattle.journal.proofs.appending.write_changed.Goals as goal
 
 none : (lines : List Line) → length lines ≡ 0 → lines ≡ []
@@ -41,3 +42,17 @@ begin_pass-requires-clause-within g c =
 
 pub returns-in_err-begin_pass-clause-either : goal.returns-in_err-begin_pass-clause-either
 returns-in_err-begin_pass-clause-either g c = grind (arith, opens-either (g.S.Storage.may_hold c.begin_pass.new.storage) (length c.args.durable.now) c.args.room c.args.durable.now c.args.words.now c.begin_pass.ensures.opens, c.begin_pass.ensures.opens)
+
+pub returns-then-is_empty-clause-decides : goal.returns-then-is_empty-clause-decides
+returns-then-is_empty-clause-decides g c =
+    let durable = c.args.durable.now in
+    decides_rests (g.S.Storage.may_hold c.args.storage.now) (length durable) c.args.room c.args.position.pass c.args.position.words durable c.requires.known
+
+pub returns-then-size-room-clause-decides : goal.returns-then-size-room-clause-decides
+returns-then-size-room-clause-decides g c =
+    let durable = c.args.durable.now in
+    decides_rests (g.S.Storage.may_hold c.args.storage.now) (length durable) c.args.room c.args.position.pass c.args.position.words durable c.requires.known
+
+pub returns-in_err-begin_pass-clause-decides : goal.returns-in_err-begin_pass-clause-decides
+returns-in_err-begin_pass-clause-decides g c =
+    decides_opens (g.S.Storage.may_hold c.begin_pass.new.storage) (length c.args.durable.now) c.args.room c.args.durable.now c.begin_pass.ensures.opens

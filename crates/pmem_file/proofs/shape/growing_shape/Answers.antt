@@ -5,6 +5,11 @@ use Rattle.pmem_file.specs.Shapes.{IsImageOf, IsNothingBehind}
 use Rattle.pmem_file.proofs.Shapes.{no-growing, none-of, own-of}
 use Rattle.pmem_file.proofs.shape.growing_shape.Goals as goal
 
+pub returns-in_default-clause-none : goal.returns-in_default-clause-none
+returns-in_default-clause-none c = λ g.
+    let is = c.or.ensures ∙ own-of c.args.asked.now c.own_geometry.result c.args.file.now c.own_geometry.ensures.some c.own_geometry.ensures.limits c.own_geometry.ensures.none g in
+    c.in_default.not-Some g.layout is
+
 pub returns-in-None-clause-none : goal.returns-in-None-clause-none
 returns-in-None-clause-none c =
     let asked = c.args.asked.now in

@@ -10,4 +10,4 @@ returns g c =
     let mid = g.R.Read.remaining c.fill.new.input in
     let came : c.in_ok-fill.field-0 ≡ true = search rules in
     let first : Consumes old mid c.fill.new.buffer = subst (λ (b : Bool). Fills b old mid c.fill.new.buffer) came c.in_ok-fill.ensures in
-    receives-opening-ok c.of.result old mid _ c.receive_name.result (subst (Consumes old mid) (sym c.of.ensures) first) c.receive_name.ensures
+    receives-opening-ok c.of.result old mid _ c.receive_name.result c.of.ensures.head (subst (Consumes old mid) (sym c.of.ensures.bytes) first) c.receive_name.ensures

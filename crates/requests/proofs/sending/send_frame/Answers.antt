@@ -11,6 +11,6 @@ joined : {E : Type 0} (old mid new : Option (List ℕ)) (head payload frame : Li
 joined old mid new head payload frame (Ok done) first second whole = subst (Appends old new) whole (Appends-trans old mid new head payload first second)
 joined old mid new head payload frame (Err error) first second whole = tt
 
-pub returns : goal.returns
-returns g c =
+pub returns-clause-frame : goal.returns-clause-frame
+returns-clause-frame g c =
     joined _ _ _ c.bytes.result c.args.payload.now (frame_bytes c.args.status c.args.number c.args.payload.now) c.write_all-2.result c.in_ok-write_all.ensures.bytes c.write_all-2.ensures.bytes (search rules)

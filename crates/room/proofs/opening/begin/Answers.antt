@@ -1,4 +1,5 @@
-use Rattle.std.proofs.Common.{◌≡◌, ◌<◌, ◌^◌, ℕ, List, map, Bool, length, sym, ◌∙◌, ap, subst, arith}
+use Rattle.std.proofs.Common.{◌≡◌, ◌<◌, ◌^◌, ℕ, List, map, Bool, false, length, sym, ◌∙◌, ap, subst, arith}
+use Rattle.std.specs.Prelude.{replicate}
 use Rattle.base.specs.Layout.{total_words}
 use Rattle.base.specs.declared.fault.Fault.TheVariants.{OutOfMemory}
 use Rattle.pmem.specs.Words.{image_of}
@@ -55,6 +56,25 @@ returns-in-Err-new-2-clause-images g c = images-refused (g.D.Pmem.state c.args.d
 pub returns-in-Err-new-2-clause-version : goal.returns-in-Err-new-2-clause-version
 returns-in-Err-new-2-clause-version g c = version-refused (g.D.Pmem.state c.args.device.now) ((g.met.D.Pmem g.world.𝓛 g.world.𝓜 g.world.𝓡 ((λ s x. x), (λ x. x), (λ x. x), λ x. x)).orderly c.args.device.now) c.requires.at_rest
 
+-- ---- the replaced slots
+
+pub none-requires : goal.none-requires
+none-requires g c =
+    let few = examined-few (g.D.Pmem.state c.args.device.now) c.in-Ok.learnt.found.geometry c.in-Ok.learnt.found.ruling c.in-Ok.learnt.found.gaps c.in-Ok.learnt.found.free.items c.in-Ok.learnt.found.live.items c.in-Ok.ensures.ok.found.examined in
+    let size = c.as_slice.ensures.len in
+    let same = ap (λ (l : List Bool). length l) c.as_slice.ensures.value in
+    omega (arith, few, size, same, c.len.ensures)
+
+pub returns-in-Err-none-clause-log : goal.returns-in-Err-none-clause-log
+returns-in-Err-none-clause-log g c =
+    tells-examined (image_of (g.D.Pmem.state c.args.device.now)) c.in-Ok.learnt.found.geometry c.in-Ok.learnt.found.ruling c.in-Ok.learnt.found.gaps c.in-Ok.learnt.found.free.items c.in-Ok.learnt.found.live.items c.in-Ok.ensures.ok.found.examined OutOfMemory
+
+pub returns-in-Err-none-clause-images : goal.returns-in-Err-none-clause-images
+returns-in-Err-none-clause-images g c = images-refused (g.D.Pmem.state c.args.device.now) ((g.met.D.Pmem g.world.𝓛 g.world.𝓜 g.world.𝓡 ((λ s x. x), (λ x. x), (λ x. x), λ x. x)).orderly c.args.device.now) c.requires.at_rest
+
+pub returns-in-Err-none-clause-version : goal.returns-in-Err-none-clause-version
+returns-in-Err-none-clause-version g c = version-refused (g.D.Pmem.state c.args.device.now) ((g.met.D.Pmem g.world.𝓛 g.world.𝓜 g.world.𝓡 ((λ s x. x), (λ x. x), (λ x. x), λ x. x)).orderly c.args.device.now) c.requires.at_rest
+
 -- ---- the operations
 
 pub returns-in-Err-open-clause-fault : goal.returns-in-Err-open-clause-fault
@@ -71,7 +91,7 @@ returns-in-Err-open-clause-log g c =
 pub of-index-requires : goal.of-index-requires
 of-index-requires g c =
     let found = c.in-Ok.learnt.found in
-    let entries : c.in-Ok.learnt.entries.items ≡ map entry_of found.live.items = c.in-Ok.ensures.ok.entries_are in
+    let entries : c.in-Ok.learnt.entries ≡ map entry_of found.live.items = c.in-Ok.ensures.ok.entries_are in
     let places : c.in-Ok-open.life.places.entries ≡ found.places.entries = ap (λ (m : BTreeMap Key ℕ). m.entries) c.in-Ok-open.ensures.places in
     subst (λ (es : List (Key × Entry)). ArePlaced c.in-Ok-open.life.places.entries es) (sym entries)
     (subst (λ (ps : List (Key × ℕ)). ArePlaced ps (map entry_of found.live.items)) (sym places) (are-placed found.live.items found.places.entries c.in-Ok.ensures.ok.found.placed))
@@ -79,17 +99,25 @@ of-index-requires g c =
 -- ---- the sessions
 
 pub open-sessions-requires : goal.open-sessions-requires
-open-sessions-requires g c = record {
-  slots = ap (λ (l : List Bool). length l) (c.in-Ok-new.ensures ∙ c.as_slice.ensures.value
-      ∙ sym (examined-free-now (g.D.Pmem.state c.args.device.now) c.in-Ok.learnt.found.geometry c.in-Ok.learnt.found.ruling c.in-Ok.learnt.found.gaps c.in-Ok.learnt.found.free.items c.in-Ok.learnt.found.live.items c.in-Ok.ensures.ok.found.examined
-      (g.D.Pmem.state c.open.new.device) c.in-Ok-open.life.geometry c.in-Ok-open.life.ruling c.in-Ok-open.life.next c.in-Ok-open.life.free.items c.in-Ok-open.life.live.items c.in-Ok-open.ensures.ok))
-      ∙ free-counted (g.D.Pmem.state c.args.device.now) (g.D.Pmem.state c.open.new.device) c.in-Ok-open.life.geometry c.in-Ok-open.life.ruling c.in-Ok-open.life.next c.in-Ok-open.life.free.items c.in-Ok-open.life.live.items c.in-Ok-open.ensures.ok;
-  untouched = c.in-Ok-new-2.ensures.touches;
-  sized =
-      let words : (g.D.Pmem.state c.args.device.now).words ≡ total_words c.in-Ok-open.life.geometry =
-      old-words (g.D.Pmem.state c.args.device.now) (g.D.Pmem.state c.open.new.device) c.in-Ok-open.life.geometry c.in-Ok-open.life.ruling c.in-Ok-open.life.next c.in-Ok-open.life.free.items c.in-Ok-open.life.live.items c.in-Ok-open.ensures.ok in
-      omega (arith, words, c.words.ensures, c.in-Ok-new-2.ensures.lines);
-}
+open-sessions-requires g c =
+    let free-now : c.in-Ok.learnt.found.free.items ≡ c.in-Ok-open.life.free.items =
+    sym (examined-free-now (g.D.Pmem.state c.args.device.now) c.in-Ok.learnt.found.geometry c.in-Ok.learnt.found.ruling c.in-Ok.learnt.found.gaps c.in-Ok.learnt.found.free.items c.in-Ok.learnt.found.live.items c.in-Ok.ensures.ok.found.examined
+    (g.D.Pmem.state c.open.new.device) c.in-Ok-open.life.geometry c.in-Ok-open.life.ruling c.in-Ok-open.life.next c.in-Ok-open.life.free.items c.in-Ok-open.life.live.items c.in-Ok-open.ensures.ok) in
+    let counted : length c.in-Ok.learnt.found.free.items ≡ c.in-Ok-open.life.geometry.slots =
+    ap (λ (l : List Bool). length l) free-now
+    ∙ free-counted (g.D.Pmem.state c.args.device.now) (g.D.Pmem.state c.open.new.device) c.in-Ok-open.life.geometry c.in-Ok-open.life.ruling c.in-Ok-open.life.next c.in-Ok-open.life.free.items c.in-Ok-open.life.live.items c.in-Ok-open.ensures.ok in
+    let size = c.as_slice.ensures.len in
+    let same = ap (λ (l : List Bool). length l) c.as_slice.ensures.value in
+    let many : c.len.result ≡ c.in-Ok-open.life.geometry.slots = omega (arith, size, same, counted, c.len.ensures) in
+    record {
+      slots = ap (λ (l : List Bool). length l) (c.in-Ok-new.ensures ∙ c.as_slice.ensures.value) ∙ counted;
+      replaced = c.in-Ok-none.ensures ∙ ap (λ (n : ℕ). replicate n false) many;
+      untouched = c.in-Ok-new-2.ensures.touches;
+      sized =
+          let words : (g.D.Pmem.state c.args.device.now).words ≡ total_words c.in-Ok-open.life.geometry =
+          old-words (g.D.Pmem.state c.args.device.now) (g.D.Pmem.state c.open.new.device) c.in-Ok-open.life.geometry c.in-Ok-open.life.ruling c.in-Ok-open.life.next c.in-Ok-open.life.free.items c.in-Ok-open.life.live.items c.in-Ok-open.ensures.ok in
+          omega (arith, words, c.words.ensures, c.in-Ok-new-2.ensures.lines);
+    }
 
 pub returns-clause-ok : goal.returns-clause-ok
 returns-clause-ok g c =

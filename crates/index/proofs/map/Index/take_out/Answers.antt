@@ -1,13 +1,11 @@
 use Rattle.std.proofs.Common.{◌≡◌, ℕ, ◌-◌, ◌<◌, Some, None, cond, List, length, take, set, get_or, sym, ◌∙◌, ap, subst, arith, rules}
-use Rattle.std.specs.Prelude.{Option, slice_get}
+use Rattle.std.specs.Prelude.{Option, is_some, slice_get}
 use Rattle.std.proofs.lemmas.Option.{slice_get_read, slice_get_within, get_or_from_slice_get}
 use Rattle.base.specs.declared.key.Key.{Key}
-use Rattle.base.specs.Keys.{key_eq}
-use Rattle.base.proofs.KeyOrder.{looked-up}
+use Rattle.base.specs.Keys.{key_eq, lookup_key}
 use Rattle.index.specs.declared.entry.Entry.{Entry}
 use Rattle.index.specs.Entries.{blank, entry_at, IsAt, Sets, LosesRoom}
-use Rattle.index.proofs.Changes.{updated}
-use Rattle.index.proofs.Removals.{removed-placed, removed-sets, removed-loses, updated-out}
+use Rattle.index.proofs.Removals.{removed-placed, removed-sets, removed-loses}
 use Rattle.index.proofs.map.Index.take_out.Goals as goal
 
 abbrev Entries : Type 0
@@ -28,13 +26,25 @@ last-is entries place n x moved lt counted read is =
 left-is : (entries left : Entries) (place : ℕ) (d x : Key × Entry) → slice_get entries (length entries - 1) ≡ Some x → left ≡ take (length entries - 1) (set entries place (get_or entries (length entries - 1) d)) → left ≡ take (length entries - 1) (set entries place x)
 left-is entries left place d x last is = is ∙ ap (λ (y : Key × Entry). take (length entries - 1) (set entries place y)) (get_or_from_slice_get entries (length entries - 1) x d last)
 
-pub unreachable-requires : goal.unreachable-requires
-unreachable-requires c =
+-- the places that are left
+places-left : (places : List (Key × ℕ)) (key moved : Key) (place : ℕ) (left : List (Key × ℕ)) → lookup_key places key ≡ Some place
+    → ((k : Key) → lookup_key left k ≡ cond (key_eq key k) None (cond (key_eq moved k) (lookup_key places key) (lookup_key places k)))
+    → (k : Key) → lookup_key left k ≡ cond (key_eq key k) None (cond (key_eq moved k) (Some place) (lookup_key places k))
+places-left places key moved place left found gives k = gives k ∙ ap (λ (o : Option ℕ). cond (key_eq key k) None (cond (key_eq moved k) o (lookup_key places k))) found
+
+pub give_place-requires-clause-key : goal.give_place-requires-clause-key
+give_place-requires-clause-key c =
+    let entries = c.self.inside.entries.items in
+    let at = here c.args.self.now entries c.args.place c.args.key c.self.view_is c.requires in
+    ap (λ (o : Option ℕ). is_some o) (c.self.invariant.once c.args.key c.args.place (entry_at entries c.args.key) at)
+
+pub give_place-requires-clause-moved : goal.give_place-requires-clause-moved
+give_place-requires-clause-moved c =
     let entries = c.self.inside.entries.items in
     let at = here c.args.self.now entries c.args.place c.args.key c.self.view_is c.requires in
     let counted : c.len-last.result ≡ length entries = search rules in
     let last = last-is entries c.args.place c.len-last.result c.index.result.now c.key-moved.result (within entries c.args.place c.args.key at) counted c.index.ensures c.key-moved.ensures in
-    absurd (cc (sym (c.self.invariant.once c.key-moved.result (length entries - 1) c.index.result.now.1 last) ∙ looked-up c.self.inside.places.entries c.key-moved.result ∙ c.in_default.ensures.absent))
+    ap (λ (o : Option ℕ). is_some o) (c.self.invariant.once c.key-moved.result (length entries - 1) c.index.result.now.1 last)
 
 pub swap_remove-requires : goal.swap_remove-requires
 swap_remove-requires c = grind (arith, within, here)
@@ -47,8 +57,8 @@ invariant_of-self c =
     let counted : c.len-last.result ≡ length entries = search rules in
     let last = last-is entries c.args.place c.len-last.result c.index.result.now c.key-moved.result (within entries c.args.place c.args.key at) counted c.index.ensures c.key-moved.ensures in
     removed-placed places entries c.self.invariant c.args.key c.args.place at c.key-moved.result c.index.result.now.1 last c.swap_remove.new.self.items
-    (left-is entries c.swap_remove.new.self.items c.args.place c.swap_remove.result (c.key-moved.result, c.index.result.now.1) last c.swap_remove.ensures.items) c.remove.new.self.entries
-    (λ k. updated-out c.insert.new.self.entries c.remove.new.self.entries c.args.key c.remove.ensures.updates.0 k ∙ ap (λ (o : Option ℕ). cond (key_eq c.args.key k) None o) (updated places c.insert.new.self.entries c.key-moved.result c.args.place c.in-Ok.ensures.updates.0 k))
+    (left-is entries c.swap_remove.new.self.items c.args.place c.swap_remove.result (c.key-moved.result, c.index.result.now.1) last c.swap_remove.ensures.items) c.give_place.new.places.entries
+    (places-left places c.args.key c.key-moved.result c.args.place c.give_place.new.places.entries (c.self.invariant.once c.args.key c.args.place (entry_at entries c.args.key) at) c.give_place.ensures)
 
 pub returns-clause-entries : goal.returns-clause-entries
 returns-clause-entries c =
@@ -59,8 +69,8 @@ returns-clause-entries c =
     let last = last-is entries c.args.place c.len-last.result c.index.result.now c.key-moved.result (within entries c.args.place c.args.key at) counted c.index.ensures c.key-moved.ensures in
     subst (λ (es : Entries). Sets es c.swap_remove.new.self.items c.args.key blank) c.self.view_is
     (removed-sets places entries c.self.invariant c.args.key c.args.place at c.key-moved.result c.index.result.now.1 last c.swap_remove.new.self.items
-    (left-is entries c.swap_remove.new.self.items c.args.place c.swap_remove.result (c.key-moved.result, c.index.result.now.1) last c.swap_remove.ensures.items) c.remove.new.self.entries
-    (λ k. updated-out c.insert.new.self.entries c.remove.new.self.entries c.args.key c.remove.ensures.updates.0 k ∙ ap (λ (o : Option ℕ). cond (key_eq c.args.key k) None o) (updated places c.insert.new.self.entries c.key-moved.result c.args.place c.in-Ok.ensures.updates.0 k)))
+    (left-is entries c.swap_remove.new.self.items c.args.place c.swap_remove.result (c.key-moved.result, c.index.result.now.1) last c.swap_remove.ensures.items) c.give_place.new.places.entries
+    (places-left places c.args.key c.key-moved.result c.args.place c.give_place.new.places.entries (c.self.invariant.once c.args.key c.args.place (entry_at entries c.args.key) at) c.give_place.ensures))
 
 pub returns-clause-room : goal.returns-clause-room
 returns-clause-room c =
@@ -71,5 +81,5 @@ returns-clause-room c =
     let last = last-is entries c.args.place c.len-last.result c.index.result.now c.key-moved.result (within entries c.args.place c.args.key at) counted c.index.ensures c.key-moved.ensures in
     subst (λ (es : Entries). LosesRoom es c.swap_remove.new.self.items c.args.key) c.self.view_is
     (removed-loses places entries c.self.invariant c.args.key c.args.place at c.key-moved.result c.index.result.now.1 last c.swap_remove.new.self.items
-    (left-is entries c.swap_remove.new.self.items c.args.place c.swap_remove.result (c.key-moved.result, c.index.result.now.1) last c.swap_remove.ensures.items) c.remove.new.self.entries
-    (λ k. updated-out c.insert.new.self.entries c.remove.new.self.entries c.args.key c.remove.ensures.updates.0 k ∙ ap (λ (o : Option ℕ). cond (key_eq c.args.key k) None o) (updated places c.insert.new.self.entries c.key-moved.result c.args.place c.in-Ok.ensures.updates.0 k)))
+    (left-is entries c.swap_remove.new.self.items c.args.place c.swap_remove.result (c.key-moved.result, c.index.result.now.1) last c.swap_remove.ensures.items) c.give_place.new.places.entries
+    (places-left places c.args.key c.key-moved.result c.args.place c.give_place.new.places.entries (c.self.invariant.once c.args.key c.args.place (entry_at entries c.args.key) at) c.give_place.ensures))

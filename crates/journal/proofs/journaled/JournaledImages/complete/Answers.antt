@@ -1,6 +1,17 @@
-use Rattle.std.proofs.Common.{arith}
+use Rattle.std.proofs.Common.{length, arith}
 use Rattle.journal.proofs.Within.{rests_within}
+use Rattle.journal.proofs.Decides.{decides_within}
 use Rattle.journal.proofs.journaled.JournaledImages.complete.Goals as goal
 
 pub invariant_of-self-clause-rests : goal.invariant_of-self-clause-rests
 invariant_of-self-clause-rests g c works done = grind (arith, rests_within)
+
+pub invariant_of-self-clause-decides : goal.invariant_of-self-clause-decides
+invariant_of-self-clause-decides g c =
+    let self = c.args.self.now in
+    decides_within (g.S.Storage.may_hold self.storage) (g.S.Storage.may_hold c.sync.new.self) (length self.written.items) self.room c.sync.ensures.found self.decides
+
+pub invariant_of-self-in-Err-clause-decides : goal.invariant_of-self-in-Err-clause-decides
+invariant_of-self-in-Err-clause-decides g c =
+    let self = c.args.self.now in
+    decides_within (g.S.Storage.may_hold self.storage) (g.S.Storage.may_hold c.sync.new.self) (length self.written.items) self.room c.sync.ensures.found self.decides

@@ -3,6 +3,7 @@ use Rattle.std.proofs.lemmas.Bool.{eq-eqb}
 use Rattle.journal.proofs.Appended.{may-kept}
 use Rattle.journal.proofs.Files.{read-stands, rewritten-stands}
 use Rattle.journal.proofs.Tails.{names_read, first_read, first_pass}
+use Rattle.journal.proofs.Decides.{decides_rests}
 use Rattle.journal.proofs.journaled.JournaledImages.open.Goals as goal
 
 pub returns-in-Ok-rewrite-clause-found : goal.returns-in-Ok-rewrite-clause-found
@@ -39,3 +40,8 @@ returns-in-Err-rewrite-clause-first g c is begins =
     let opens = c.in-Ok.ensures.stands in
     let pass = eq-eqb (get_or file (words + room + 3) 0) 0 (first_pass words room file begins) in
     (rw opens.size at (rw c.as_slice.ensures.value at c.rewrite.ensures.first)) pass (first_read (g.S.Storage.may_hold c.args.storage) words room file (c.requires.back is.size) begins)
+
+pub invariant_of-result-clause-decides : goal.invariant_of-result-clause-decides
+invariant_of-result-clause-decides g c =
+    let durable = c.in-Ok.durable.items in
+    decides_rests (g.S.Storage.may_hold c.rewrite.new.storage) (length durable) c.args.room true 0 durable (rw c.as_slice.ensures.value at c.in-Ok-rewrite.ensures.rests)

@@ -6,6 +6,7 @@ use Rattle.journal.proofs.Files.{only-stands}
 use Rattle.pmem.specs.Device.{restarted}
 use Rattle.pmem.specs.Words.{image_of}
 use Rattle.pmem.proofs.Restarted.{image-restarted}
+use Rattle.pmem_file.specs.Journaled.{places_named}
 use Rattle.pmem_file.specs.Traces.{device_of}
 use Rattle.pmem_file.proofs.journaled.JournaledPmem+JournaledImages+S.over.Goals as goal
 
@@ -30,6 +31,11 @@ pub returns-in-Ok-new-clause-device : goal.returns-in-Ok-new-clause-device
 returns-in-Ok-new-clause-device g c =
     let is : image_of (device_of c.in-Ok-new.device.trace) ≡ c.in-Ok.image.items = ap image_of c.in-Ok-new.ensures.device ∙ image-restarted c.in-Ok.image.items in
     c.in-Ok-new.ensures.device ∙ sym (ap restarted is)
+
+pub returns-in-Ok-new-clause-places : goal.returns-in-Ok-new-clause-places
+returns-in-Ok-new-clause-places g c =
+    let is : image_of (device_of c.in-Ok-new.device.trace) ≡ c.in-Ok.image.items = ap image_of c.in-Ok-new.ensures.device ∙ image-restarted c.in-Ok.image.items in
+    c.in-Ok-new.ensures.places ∙ ap (λ (l : List ℕ). places_named l c.args.places) (sym is)
 
 pub returns-in-Ok-new-clause-works : goal.returns-in-Ok-new-clause-works
 returns-in-Ok-new-clause-works g c = ap (λ i. i.failure) c.in-Ok-new.ensures.keeps ∙ c.in_ok-images.ensures.works

@@ -11,7 +11,7 @@ invariant_of-self-in-Err g c =
     let old = c.args.self.now in
     let h = holds-within (device_of old.trace) old.words.items old.flushed.items old.places old.is_gate_stored (device_of old.kept.value).clock (g.I.Images.may_hold old.images) (g.I.Images.may_hold c.finish.new.self)
     c.finish.ensures.whole (record { shown = old.shown; mirrored = old.mirrored; back = old.since; gates = old.gates }) in
-    record { marked = old.marked; shown = h.shown; mirrored = h.mirrored; since = h.back; gates = h.gates; since_written = λ none. absurd (true≢false none); gates_written = λ none. absurd (true≢false none); noted = λ is. merely c.in-Err.ensures.noted; changes = λ none. absurd (true≢false none) }
+    record { marked = old.marked; named = old.named; shown = h.shown; mirrored = h.mirrored; since = h.back; gates = h.gates; since_written = λ none. absurd (true≢false none); gates_written = λ none. absurd (true≢false none); noted = λ is. merely c.in-Err.ensures.noted; changes = λ none. absurd (true≢false none) }
 
 pub invariant_of-self : goal.invariant_of-self
 invariant_of-self g c =
@@ -30,6 +30,7 @@ invariant_of-self g c =
     let s = subst S (λ i. (device_of (sym c.swap.ensures.y_after i).value).clock) (since-within device (device_of old.kept.value).clock held shows (λ image may. c.finish.ensures.whole image (found image may)) old.since) in
     record {
       marked = old.marked;
+      named = old.named;
       shown = h.shown;
       mirrored = h.mirrored;
       since = h.back;

@@ -1,6 +1,7 @@
-use Rattle.std.proofs.Common.{◌≡◌, Bool, false, sym, ◌∙◌, subst, arith, slice_set}
+use Rattle.std.proofs.Common.{◌≡◌, ℕ, Bool, false, List, sym, ◌∙◌, subst, arith, slice_set}
 use Rattle.std.proofs.lemmas.List.{length-set}
 use Rattle.pmem.specs.Device.{Device, stored}
+use Rattle.pmem_file.specs.Journaled.{NamesPlaces}
 use Rattle.pmem_file.specs.Traces.{device_of}
 use Rattle.pmem_file.proofs.Differences.{differs-stored}
 use Rattle.pmem_file.proofs.Since.{Holds, Written, holds-stored, written-stored}
@@ -22,6 +23,7 @@ invariant_of-self g c =
     let w = subst W (sym c.note.ensures) w0 in
     record {
       marked = (omega (arith, old.marked.0, length-set old.words.items c.args.word c.args.value, c.add.ensures.count), c.add.ensures.places ∙ old.marked.1);
+      named = subst (λ (l : List ℕ). NamesPlaces old.places (slice_set l c.args.word c.args.value)) c.deref.ensures.value (c.keeps_places.ensures.0 c.if-not-keeps_places.false);
       shown = h.shown;
       mirrored = h.mirrored;
       since = h.back;

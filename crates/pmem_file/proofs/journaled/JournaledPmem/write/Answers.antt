@@ -16,7 +16,7 @@ invariant_of-self-in-Err g c =
     let whole : T old.words.items = c.begin.ensures.whole in
     let h = holds-tried (device_of old.trace) old.words.items old.flushed.items old.places old.is_gate_stored (device_of old.kept.value).clock (g.I.Images.may_hold old.images) (g.I.Images.may_hold c.begin.new.self)
     (record { shown = old.shown; mirrored = old.mirrored; back = old.since; gates = old.gates }) whole in
-    record { marked = old.marked; shown = h.shown; mirrored = h.mirrored; since = h.back; gates = h.gates; since_written = λ none. absurd (true≢false none); gates_written = λ none. absurd (true≢false none); noted = λ is. merely c.in-Err.ensures.noted; changes = λ none. absurd (true≢false none) }
+    record { marked = old.marked; named = old.named; shown = h.shown; mirrored = h.mirrored; since = h.back; gates = h.gates; since_written = λ none. absurd (true≢false none); gates_written = λ none. absurd (true≢false none); noted = λ is. merely c.in-Err.ensures.noted; changes = λ none. absurd (true≢false none) }
 
 pub invariant_of-self : goal.invariant_of-self
 invariant_of-self g c =
@@ -33,6 +33,7 @@ invariant_of-self g c =
     let w : Q c.of.result.value = subst Q (sym c.of.ensures) (written-now (device_of old.trace) words old.places shows old.shown begun) in
     record {
       marked = subst (λ (changes : Changes). (length words ≤ 8 * changes.count) × (changes.places ≡ old.places)) (sym c.clear.ensures) old.marked;
+      named = old.named;
       shown = h.shown;
       mirrored = h.mirrored;
       since = h.back;

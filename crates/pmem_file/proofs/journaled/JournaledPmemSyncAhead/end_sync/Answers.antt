@@ -13,6 +13,7 @@ invariant_of-self g c =
     c.take_back.ensures.shown (record { back = old.since_written works; gates = old.gates_written works }) in
     record {
       marked = old.marked;
+      named = old.named;
       shown = h.shown;
       mirrored = h.mirrored;
       since = h.back;

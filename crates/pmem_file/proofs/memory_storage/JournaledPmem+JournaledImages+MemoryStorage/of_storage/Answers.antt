@@ -1,6 +1,18 @@
-use Rattle.journal.proofs.Files.{file-stands}
+use Rattle.std.proofs.Common.{◌≡◌, ◌∙◌, ℕ, List, slice_index, ap, subst, sym}
+use Rattle.std.specs.List.{each_same}
+use Rattle.journal.specs.Files.{StandsAs}
+use Rattle.journal.proofs.Decides.{if_err}
+use Rattle.journal.proofs.Files.{file-stands, held-stands}
 use Rattle.pmem_file.specs.Memory.{stored_in, IsStored}
 use Rattle.pmem_file.proofs.memory_storage.JournaledPmem+JournaledImages+MemoryStorage.of_storage.Goals as goal
 
 pub returns-in-Err-clause-unopened : goal.returns-in-Err-clause-unopened
 returns-in-Err-clause-unopened c = file-stands (IsStored c.args.storage) c.args.words c.args.room (stored_in c.args.storage) (λ word x lt h. h)
+
+pub returns-in-Ok-clause-unopened : goal.returns-in-Ok-clause-unopened
+returns-in-Ok-clause-unopened c =
+    let file : List ℕ = c.as_slice.result.now in
+    let is : file ≡ stored_in c.args.storage = c.as_slice.ensures.value ∙ each_same c.args.storage.words.items c.in-Ok.file.items c.in-Ok.ensures.cases.0 in
+    if_err c.over.result (λ unopened stands.
+    subst (λ (l : List ℕ). StandsAs (IsStored unopened.storage) c.args.words c.args.room l) is
+    (held-stands (IsStored c.args.storage) (IsStored unopened.storage) c.args.words c.args.room file (λ word x lt h. h ∙ sym (ap (λ (l : List ℕ). slice_index l word) is)) stands)) c.over.ensures.unopened

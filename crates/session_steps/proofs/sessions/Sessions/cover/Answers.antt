@@ -25,9 +25,9 @@ snapshot-requires c = ∥∥₁_elim c.requires (Bool-set _ _) (λ some.
 
 pub returns-clause-covers : goal.returns-clause-covers
 returns-clause-covers c = λ h hand may.
-    subst (λ (ts : List (Option Transaction)). HasCovered c.args.self.now (record c.args.self.now { numbers = record { geometry = c.args.self.now.numbers.geometry; «record» = c.args.ruling; next = c.args.self.now.numbers.next }; index = c.cover_commits-sessions.new.index; dirty = c.forget.new.self; drawn = c.cover.new.self; transactions = ts }) h hand) (sym c.cover.ensures.transactions)
-    (has-covered c.args.self.now c.args.ruling h hand may c.cover_commits-sessions.new.index c.forget.new.self c.cover_commits-sessions.result c.cover.new.self
-    (subst (λ (ds : List DrawnCommit). CoversCommits (committed_by c.args.ruling ds) c.args.self.now.index c.cover_commits-sessions.new.index) c.as_slice-commits.ensures.commits c.cover_commits-sessions.ensures.index) c.forget.ensures
+    subst (λ (ts : List (Option Transaction)). HasCovered c.args.self.now (record c.args.self.now { numbers = record { geometry = c.args.self.now.numbers.geometry; «record» = c.args.ruling; next = c.args.self.now.numbers.next }; index = c.cover_commits-sessions.new.index; dirty = c.forget.new.self; drawn = c.cover.new.self; transactions = ts; replaced = c.cover_commits-sessions.new.replaced }) h hand) (sym c.cover.ensures.transactions)
+    (has-covered c.args.self.now c.args.ruling h hand may c.cover_commits-sessions.new.index c.forget.new.self c.cover_commits-sessions.result c.cover.new.self c.cover_commits-sessions.new.replaced
+    (subst (λ (ds : List DrawnCommit). CoversCommits (committed_by c.args.ruling ds) c.args.self.now.index c.cover_commits-sessions.new.index) c.as_slice-commits.ensures.commits c.cover_commits-sessions.ensures.index) c.cover_commits-sessions.ensures.marks c.forget.ensures
     (subst (λ (ds : List DrawnCommit). (n : ℕ) → has c.cover_commits-sessions.result n ≡ has_drawn_by (committed_by c.args.ruling ds) n) c.as_slice-commits.ensures.commits c.cover_commits-sessions.ensures.sessions) left)
   where
     left : c.cover.new.self.commits ≡ left_by c.args.ruling c.args.self.now.drawn.commits

@@ -30,10 +30,10 @@ pub returns-in-Ok-Slot-clause-step : goal.returns-in-Ok-Slot-clause-step
 returns-in-Ok-Slot-clause-step g c =
     collects-tidied c.args.self.now _ c.settle.new.self (g.D.Pmem.state c.args.device.now) (g.D.Pmem.state c.tick.new.device) _ c.settle.ensures
     (collects-shown c.args.self.now _ (g.D.Pmem.state c.args.device.now) (g.D.Pmem.state c.tick.new.device) _
-    (λ h holds. collects-at c.args.self.now h (g.D.Pmem.state c.args.device.now) (g.D.Pmem.state c.tick.new.device) holds (g.met.D.Pmem.orderly _) (g.met.D.Pmem.orderly _) c.in-Ok-Slot.slot (seen_by c.args.self.now.numbers.record) c.tick.new.self c.is_free-was_free.result c.tick.new.slots c.forget_freed-place.new.index
+    (λ h holds. collects-at c.args.self.now h (g.D.Pmem.state c.args.device.now) (g.D.Pmem.state c.tick.new.device) holds (g.met.D.Pmem.orderly _) (g.met.D.Pmem.orderly _) c.in-Ok-Slot.slot (seen_by c.args.self.now.numbers.record) c.tick.new.self c.is_free-was_free.result c.tick.new.slots c.forget_freed-place.new.index c.leave_free.new.self
     refl (sym c.in-Ok-Slot.field-0-is ∙ c.in-Ok-Slot.ensures.visit) c.in-Ok-Slot.ensures.moved c.in-Ok-Slot.ensures.freed
     (subst (λ (ops : List Operation). Runs ops (g.D.Pmem.state c.args.device.now) (g.D.Pmem.state c.tick.new.device)) (same-operations c.args.self.now.numbers.geometry c.of-gaps.result c.args.self.now.numbers.record.gaps c.args.self.now.collector.swept c.args.self.now.collector.place (value_of (g.D.Pmem.state c.args.device.now)) (λ unswept. c.of-gaps.ensures ∙ c.gaps.ensures)) c.in-Ok-Slot.ensures.run)
-    (c.is_free-was_free.ensures ∙ ap (is_free c.args.self.now.slots) c.place.ensures) c.forget_freed-place.ensures.forgets c.forget_freed-place.ensures.room))
+    (c.is_free-was_free.ensures ∙ ap (is_free c.args.self.now.slots) c.place.ensures) c.forget_freed-place.ensures.forgets c.forget_freed-place.ensures.room c.leave_free.ensures))
 
 pub returns-in-Ok-SweepEnd-clause-step : goal.returns-in-Ok-SweepEnd-clause-step
 returns-in-Ok-SweepEnd-clause-step g c =

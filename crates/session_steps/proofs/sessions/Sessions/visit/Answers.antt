@@ -22,10 +22,10 @@ pub returns-in-Slot : goal.returns-in-Slot
 returns-in-Slot g c =
     collects-tidied c.args.self.now _ c.settle.new.self (g.D.Pmem.state c.args.device.now) (g.D.Pmem.state c.args.device.now) _ c.settle.ensures
     (collects-shown c.args.self.now _ (g.D.Pmem.state c.args.device.now) (g.D.Pmem.state c.args.device.now) _
-    (λ h holds. collects-at c.args.self.now h (g.D.Pmem.state c.args.device.now) (g.D.Pmem.state c.args.device.now) holds (g.met.D.Pmem.orderly _) (g.met.D.Pmem.orderly _) c.in-Slot.slot (seen_by c.args.self.now.numbers.record) c.visit.new.self c.is_free-was_free.result c.visit.new.slots c.forget_freed-place.new.index
+    (λ h holds. collects-at c.args.self.now h (g.D.Pmem.state c.args.device.now) (g.D.Pmem.state c.args.device.now) holds (g.met.D.Pmem.orderly _) (g.met.D.Pmem.orderly _) c.in-Slot.slot (seen_by c.args.self.now.numbers.record) c.visit.new.self c.is_free-was_free.result c.visit.new.slots c.forget_freed-place.new.index c.leave_free.new.self
     refl (sym c.in-Slot.is ∙ c.visit.ensures.visit) c.visit.ensures.moved c.visit.ensures.freed
     (swept-runs c.args.self.now.numbers.geometry c.args.self.now.numbers.record.gaps c.args.self.now.collector.swept c.args.self.now.collector.place (g.D.Pmem.state c.args.device.now) (g.met.D.Pmem.orderly _) c.requires.swept)
-    (c.is_free-was_free.ensures ∙ ap (is_free c.args.self.now.slots) c.place.ensures) c.forget_freed-place.ensures.forgets c.forget_freed-place.ensures.room))
+    (c.is_free-was_free.ensures ∙ ap (is_free c.args.self.now.slots) c.place.ensures) c.forget_freed-place.ensures.forgets c.forget_freed-place.ensures.room c.leave_free.ensures))
 
 pub returns-in-SweepEnd : goal.returns-in-SweepEnd
 returns-in-SweepEnd g c =

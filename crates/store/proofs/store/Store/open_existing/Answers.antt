@@ -11,3 +11,9 @@ pub returns-in-Err-open_over-clause-err : goal.returns-in-Err-open_over-clause-e
 returns-in-Err-open_over-clause-err g c =
     let named : string_bytes c.in_ok-name.name ≡ c.args.name.now = search rules in
     subst (λ (file : List ℕ). IsFindingError file c.not_opened.result) named (c.not_opened.ensures.finding (c.in-Err-open_over.ensures.found c.in-Ok.found.1 c.in-Ok.ensures.found))
+
+pub not_opened-requires-clause-layout : goal.not_opened-requires-clause-layout
+not_opened-requires-clause-layout g c = c.in-Err-open_over.ensures.err c.in-Ok.found.1
+
+pub not_opened-requires-clause-fault : goal.not_opened-requires-clause-fault
+not_opened-requires-clause-fault g c = c.in-Err-open_over.ensures.fault c.in-Ok.found.1 c.in-Ok.ensures.found

@@ -1,0 +1,84 @@
+use Rattle.std.proofs.Common.{◌≡◌, inr, ℕ, ◌≤◌, true, List, ◌++◌, map, Some, None, cond, sym, ◌∙◌, ap, subst}
+use Rattle.std.specs.BTreeMap.{get}
+use Rattle.std.specs.BTreeMap.Range.{entries_between}
+use Rattle.std.specs.declared.ops.Bound.TheVariants.{Included}
+use Rattle.std.specs.Map.Iter.{deref_pair}
+use Rattle.std.proofs.lemmas.Map.Iter.{rest_more, rest_all, rest_so_far}
+use Rattle.base.specs.declared.key.Key.{Key}
+use Rattle.base.specs.Keys.{is_rising, lookup_key}
+use Rattle.base.proofs.KeyOrder.{is_at-key}
+use Rattle.pmem.specs.Words.{image_of}
+use Rattle.snapshot.specs.Walks.{IsLinked}
+use Rattle.index.specs.declared.entry.Entry.{Entry}
+use Rattle.index.specs.declared.ranges.KeyRange.TheVariants.{Between}
+use Rattle.index.specs.Entries.{key_cmp}
+use Rattle.index.proofs.Bounds.{HasUpTo, passed-over, put-in, rows-to, all-there, absent-none}
+use Rattle.index.proofs.Changes.{none-at}
+use Rattle.index.proofs.Reaching.{keys, entry-within, stops-at, part-rises}
+use Rattle.index.proofs.map.Index.first_part.Goals as goal
+
+pub loop-key-preserved-else-limit-len : goal.loop-key-preserved-else-limit-len
+loop-key-preserved-else-limit-len g c = λ counts tables agree linked shows.
+    let image = image_of (g.D.Pmem.state c.args.device.now) in
+    let key = c.in-Some.key.now in
+    let e : Key × ℕ = (key, c.in-Some.place.now) in
+    let more = rest_more deref_pair c.loop-key.key-iterator c.next.new.self c.next.result _ c.in-Some.is c.next.ensures.steps in
+    let so_far = subst (λ (rest : List (Key × ℕ)). HasUpTo tables c.into_iter-key-iterator.result rest (get key_cmp c.loop-key.rows)) more (c.loop-key.invariant counts tables agree linked shows) in
+    let told = c.in-Some-follow.ensures.tables counts tables agree (subst (λ (x : Entry). IsLinked c.args.snapshot.now image key x.newest) (sym c.entry-newest.ensures) (linked key)) shows in
+    put-in tables c.into_iter-key-iterator.result e c.next.new.self (get key_cmp c.loop-key.rows) so_far (get key_cmp c.insert.new.self) c.in-Some-follow.found.row (sym told)
+    (λ k. c.in-Ok.ensures.updates.0 k ∙ ap (λ b. cond b (Some c.in-Some-follow.found.row) (get key_cmp c.loop-key.rows k)) (is_at-key key k))
+
+pub loop-key-preserved : goal.loop-key-preserved
+loop-key-preserved g c = λ counts tables agree linked shows.
+    let image = image_of (g.D.Pmem.state c.args.device.now) in
+    let key = c.in-Some.key.now in
+    let e : Key × ℕ = (key, c.in-Some.place.now) in
+    let more = rest_more deref_pair c.loop-key.key-iterator c.next.new.self c.next.result _ c.in-Some.is c.next.ensures.steps in
+    let so_far = subst (λ (rest : List (Key × ℕ)). HasUpTo tables c.into_iter-key-iterator.result rest (get key_cmp c.loop-key.rows)) more (c.loop-key.invariant counts tables agree linked shows) in
+    let told = c.in_default.ensures.tables counts tables agree (subst (λ (x : Entry). IsLinked c.args.snapshot.now image key x.newest) (sym c.entry-newest.ensures) (linked key)) shows in
+    passed-over tables c.into_iter-key-iterator.result e c.next.new.self (get key_cmp c.loop-key.rows) so_far (sym told)
+
+pub returns-then-limit-len-clause-rows : goal.returns-then-limit-len-clause-rows
+returns-then-limit-len-clause-rows g c = λ counts tables agree linked shows.
+    let image = image_of (g.D.Pmem.state c.args.device.now) in
+    let key = c.in-Some.key.now in
+    let e : Key × ℕ = (key, c.in-Some.place.now) in
+    let more = rest_more deref_pair c.loop-key.key-iterator c.next.new.self c.next.result _ c.in-Some.is c.next.ensures.steps in
+    let so_far = subst (λ (rest : List (Key × ℕ)). HasUpTo tables c.into_iter-key-iterator.result rest (get key_cmp c.loop-key.rows)) more (c.loop-key.invariant counts tables agree linked shows) in
+    let told = c.in-Some-follow.ensures.tables counts tables agree (subst (λ (x : Entry). IsLinked c.args.snapshot.now image key x.newest) (sym c.entry-newest.ensures) (linked key)) shows in
+    let rows = rows-to tables c.into_iter-key-iterator.result e c.next.new.self (get key_cmp c.loop-key.rows) so_far (get key_cmp c.insert.new.self) c.in-Some-follow.found.row (sym told)
+    (λ k. c.in-Ok.ensures.updates.0 k ∙ ap (λ b. cond b (Some c.in-Some-follow.found.row) (get key_cmp c.loop-key.rows k)) (is_at-key key k)) in
+    let places = c.self.inside.places.entries in
+    let between : c.into_iter-key-iterator.result ≡ entries_between key_cmp (Included c.args.first) (Included c.args.last) places =
+    c.into_iter-key-iterator.ensures.into_iter_gives ∙ rw c.bounds.ensures at (c.range-key-items.ensures.between tt) in
+    let none : (key : Key) → lookup_key places key ≡ None → lookup_key c.args.self.now key ≡ None = λ key absent.
+    ap (λ (es : List (Key × Entry)). lookup_key es key) (sym c.self.view_is) ∙ none-at places c.self.inside.entries.items c.self.invariant key absent in
+    let rising : is_rising (keys c.into_iter-key-iterator.result) ≡ true = subst (λ (es : List (Key × ℕ)). is_rising (keys es) ≡ true) (sym between) (part-rises c.args.first c.args.last places c.range-key-items.ensures.ordered) in
+    stops-at c.args.first c.args.last places tables (λ key absent. absent-none counts c.args.snapshot.now c.args.geometry image tables c.args.self.now agree shows linked key (none key absent))
+    c.into_iter-key-iterator.result between rising so_far.done e c.next.new.self (get key_cmp c.insert.new.self) so_far.split rows
+
+pub returns-then-limit-len-clause-reached : goal.returns-then-limit-len-clause-reached
+returns-then-limit-len-clause-reached g c =
+    let places = c.self.inside.places.entries in
+    let between : c.into_iter-key-iterator.result ≡ entries_between key_cmp (Included c.args.first) (Included c.args.last) places =
+    c.into_iter-key-iterator.ensures.into_iter_gives ∙ rw c.bounds.ensures at (c.range-key-items.ensures.between tt) in
+    let so_far = rest_so_far deref_pair c.loop-key.yielded c.into_iter-key-iterator.result c.loop-key.key-iterator c.loop-key.yielded_by in
+    let more = rest_more deref_pair c.loop-key.key-iterator c.next.new.self c.next.result _ c.in-Some.is c.next.ensures.steps in
+    inr (
+      entry-within c.args.first c.args.last places c.into_iter-key-iterator.result between (map deref_pair c.loop-key.yielded) (c.in-Some.key.now, c.in-Some.place.now) c.next.new.self
+          (so_far ∙ ap (λ (rest : List (Key × ℕ)). map deref_pair c.loop-key.yielded ++ rest) more),
+      subst (λ (n : ℕ). c.args.limit ≤ n) c.len.ensures.len c.if-limit-len.true,
+    )
+
+pub returns-clause-rows : goal.returns-clause-rows
+returns-clause-rows g c = λ counts tables agree linked shows.
+    let image = image_of (g.D.Pmem.state c.args.device.now) in
+    let over = rest_all deref_pair c.loop-key.key-iterator c.next.new.self c.next.result c.in-None.is c.next.ensures.steps in
+    let so_far = subst (λ (rest : List (Key × ℕ)). HasUpTo tables c.into_iter-key-iterator.result rest (get key_cmp c.loop-key.rows)) over (c.loop-key.invariant counts tables agree linked shows) in
+    let places = c.self.inside.places.entries in
+    let between : c.into_iter-key-iterator.result ≡ entries_between key_cmp (Included c.args.first) (Included c.args.last) places =
+    c.into_iter-key-iterator.ensures.into_iter_gives ∙ rw c.bounds.ensures at (c.range-key-items.ensures.between tt) in
+    let none : (key : Key) → lookup_key places key ≡ None → lookup_key c.args.self.now key ≡ None = λ key absent.
+    ap (λ (es : List (Key × Entry)). lookup_key es key) (sym c.self.view_is) ∙ none-at places c.self.inside.entries.items c.self.invariant key absent in
+    all-there tables (Between c.args.first c.args.last) places c.into_iter-key-iterator.result (get key_cmp c.loop-key.rows) so_far between
+    (λ key absent. absent-none counts c.args.snapshot.now c.args.geometry image tables c.args.self.now agree shows linked key (none key absent))

@@ -1,0 +1,136 @@
+//! Rows of a snapshot, some at a time, so that what is printed takes no memory for all of them.
+
+use crate::command::Range;
+use base::fault::Fault;
+use base::key::Key;
+use base::row::Row;
+use database::Transaction;
+use std::alloc::Global;
+use std::sync::Wait;
+use store::Device;
+
+/// The most rows that are read at once. A page may have a few more: those that a transaction has written itself.
+const MOST_ROWS: usize = 256;
+
+const FIRST_KEY: Key = Key { table: 0, key: 0 };
+
+const LAST_KEY: Key = Key {
+    table: u16::MAX,
+    key: u64::MAX,
+};
+
+/// What is left of a range of one table.
+#[derive(Clone, Copy)]
+pub struct RangePages {
+    range: Range,
+    is_over: bool,
+}
+
+impl RangePages {
+    pub fn new(range: Range) -> RangePages {
+        RangePages {
+            range,
+            is_over: false,
+        }
+    }
+
+    /// The next rows, or none at the end.
+    pub fn next<R: Wait + Drop>(
+        &mut self,
+        alloc: Global,
+        transaction: &Transaction<'_, Device, R>,
+    ) -> Result<Vec<(Key, Row)>, Fault> {
+        let most = (MOST_ROWS as u64).min(self.range.limit) as usize;
+        if self.is_over || most == 0 {
+            return Ok(Vec::new(alloc));
+        }
+        let Range { table, lo, hi, .. } = self.range;
+        let rows = if self.range.is_reverse {
+            transaction.last_rows(table, lo, hi, most)?
+        } else {
+            transaction.first_rows(table, lo, hi, most)?
+        };
+        match rows.last() {
+            Some((key, _)) => self.go_on(key.key, rows.len()),
+            None => self.is_over = true,
+        }
+        Ok(rows)
+    }
+
+    // Goes on behind this key, at which that many rows end.
+    fn go_on(&mut self, key: u64, count: usize) {
+        let behind = if self.range.is_reverse {
+            key.checked_sub(1)
+        } else {
+            key.checked_add(1)
+        };
+        match behind {
+            Some(next) if self.range.is_reverse => self.range.hi = next,
+            Some(next) => self.range.lo = next,
+            None => self.is_over = true,
+        }
+        self.range.limit = self.range.limit.saturating_sub(count as u64);
+        self.is_over = self.is_over || self.range.hi < self.range.lo;
+    }
+}
+
+/// How many rows a table has.
+pub fn count_rows<R: Wait + Drop>(
+    alloc: Global,
+    transaction: &Transaction<'_, Device, R>,
+    table: u16,
+) -> Result<usize, Fault> {
+    let mut pages = RangePages::new(Range::whole(table));
+    let mut count: usize = 0;
+    for _ in 0..u64::MAX {
+        let rows = pages.next(alloc, transaction)?;
+        if rows.is_empty() {
+            break;
+        }
+        count = count.saturating_add(rows.len());
+    }
+    Ok(count)
+}
+
+/// What is left of all tables.
+#[derive(Clone, Copy)]
+pub struct AllPages {
+    // The key to go on at, unless the last one was reached.
+    first: Option<Key>,
+}
+
+impl AllPages {
+    pub fn new() -> AllPages {
+        AllPages {
+            first: Some(FIRST_KEY),
+        }
+    }
+
+    /// The next rows by rising key, or `None` at the end. There may be no rows before the end, too.
+    pub fn next<R: Wait + Drop>(
+        &mut self,
+        transaction: &Transaction<'_, Device, R>,
+    ) -> Result<Option<Vec<(Key, Row)>>, Fault> {
+        let Some(first) = self.first else {
+            return Ok(None);
+        };
+        let page = transaction.page(first, LAST_KEY, MOST_ROWS)?;
+        self.first = key_behind(page.reached);
+        Ok(Some(page.rows.into_items()))
+    }
+}
+
+// The key behind this one: of its table, or the first of the next one.
+fn key_behind(key: Key) -> Option<Key> {
+    let Key { table, key } = key;
+    match key.checked_add(1) {
+        Some(next) => Some(Key { table, key: next }),
+        None => match table.checked_add(1) {
+            Some(next) => Some(Key {
+                table: next,
+                key: 0,
+            }),
+            None => None,
+        },
+    }
+}
