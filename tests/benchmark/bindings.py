@@ -56,7 +56,7 @@ def measure_nipamast(path, seconds, by_stack):
 def measure_committers(path, seconds, by_stack, count):
     import nipamast
 
-    with nipamast.open(path, slots=16_384, by_stack=by_stack) as store:
+    with nipamast.open(path, slots=16_384, channels=count, by_stack=by_stack) as store:
         works = [lambda i, first=number * 8: store.put(1, first + i % 8, ROW) for number in range(count)]
         measure_threads("commit-own", works, seconds)
 
