@@ -462,7 +462,7 @@ class Store:
 
 
 def open(
-    path: Path, *, slots: Optional[int] = None, wide: bool = False, places: int = 2, window: int = 1024, channels: int = 16,
+    path: Path, *, slots: Optional[int] = None, wide: bool = False, places: int = 2, window: int = 1024, channels: int = 32,
     create: bool = True, by_stack: bool = False,
 ) -> Store:
     """Opens the store in this file.
@@ -470,7 +470,8 @@ def open(
     Without `slots` it is opened with the layout that it has. If the file is missing or empty, a store of 65,536 rows of up to 32 bytes is
     made there, unless `create` is false. With `slots`, and the numbers that go with it, the store has to have this layout, or is made.
 
-    `channels` is how many transactions may be open at once, 1 to 62. `by_stack` makes calls far faster, as nipamast.h explains.
+    `channels` is how many transactions may be open at once, 1 to 62: as many commits share a sync at most. `by_stack` makes calls far
+    faster, as nipamast.h explains.
     """
     numbers = (("slots", 1 if slots is None else slots, 65_536), ("places", places, 64), ("window", window, 1_024), ("channels", channels, 62))
     for what, number, most in numbers:
