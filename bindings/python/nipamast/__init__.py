@@ -397,11 +397,17 @@ class Store:
 
     def put(self, table: int, key: int, row: Row) -> int:
         """Commits a row."""
-        return self.write([(table, key, _bytes_of(row))])
+        data = _bytes_of(row)
+        return self._write_one(_Write(_key_of(key), data, len(data), _table_of(table), 0))
 
     def delete(self, table: int, key: int) -> int:
         """Commits the deletion of a row."""
-        return self.write([(table, key, None)])
+        return self._write_one(_Write(_key_of(key), None, 0, _table_of(table), 0))
+
+    def _write_one(self, write: _Write) -> int:
+        timestamp = c_uint64()
+        _must(_apply(self._handle, byref(write), 1, byref(timestamp)))
+        return timestamp.value
 
     def get(self, table: int, key: int, default: Optional[T] = None) -> Union[bytes, Optional[T]]:
         """The row as it is committed now, or the default if there is none."""
