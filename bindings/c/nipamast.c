@@ -845,6 +845,13 @@ int nipamast_apply(nipamast_store *store, const nipamast_write *writes, size_t c
     return result;
 }
 
+int nipamast_write_row(nipamast_store *store, uint16_t table, uint64_t key, const void *row, size_t length, uint64_t *timestamp) {
+    if (!row && length) return NIPAMAST_MISUSE;
+    if (length > ROW) return refuse(NIPAMAST_ROW_TOO_LONG);
+    nipamast_write w = { key, row, (uint32_t)length, table, 0 };
+    return nipamast_apply(store, &w, 1, timestamp);
+}
+
 int nipamast_stat(nipamast_store *store, nipamast_status *status) {
     struct store *s;
     struct reply r;

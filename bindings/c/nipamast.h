@@ -134,6 +134,10 @@ typedef struct nipamast_write {
  * null. These writes read nothing, and can meet a conflict all the same: call it again. */
 NIPAMAST_API NIPAMAST_CHECK int nipamast_apply(nipamast_store *store, const nipamast_write *writes, size_t count, uint64_t *timestamp);
 
+/* The same of one row of `length` bytes, or of its deletion if `row` is null and `length` is 0. */
+NIPAMAST_API NIPAMAST_CHECK int nipamast_write_row(nipamast_store *store, uint16_t table, uint64_t key, const void *row, size_t length,
+                                                   uint64_t *timestamp);
+
 /* Reads a row as it is committed now: at most `*length` bytes into `row`. Its length is then in `*length`. */
 NIPAMAST_API NIPAMAST_CHECK int nipamast_read(nipamast_store *store, uint16_t table, uint64_t key, void *row, size_t *length);
 

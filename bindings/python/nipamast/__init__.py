@@ -74,6 +74,7 @@ _errmsg = _declare("errmsg", c_size_t, c_void_p, c_size_t)
 _open = _declare("open", c_int, c_char_p, POINTER(_Options), POINTER(c_void_p))
 _close = _declare("close", c_int, c_void_p)
 _apply = _declare("apply", c_int, c_void_p, POINTER(_Write), c_size_t, POINTER(c_uint64))
+_write_row = _declare("write_row", c_int, c_void_p, c_uint16, c_uint64, c_char_p, c_size_t, c_void_p)
 _read = _declare("read", c_int, c_void_p, c_uint16, c_uint64, c_void_p, c_void_p)
 _begin = _declare("begin", c_int, c_void_p, POINTER(c_void_p))
 _get = _declare("get", c_int, c_void_p, c_uint16, c_uint64, c_void_p, c_void_p)
@@ -397,16 +398,14 @@ class Store:
 
     def put(self, table: int, key: int, row: Row) -> int:
         """Commits a row."""
-        data = _bytes_of(row)
-        return self._write_one(_Write(_key_of(key), data, len(data), _table_of(table), 0))
+        data, timestamp = _bytes_of(row), c_uint64()
+        _must(_write_row(self._handle, _table_of(table), _key_of(key), data, len(data), byref(timestamp)))
+        return timestamp.value
 
     def delete(self, table: int, key: int) -> int:
         """Commits the deletion of a row."""
-        return self._write_one(_Write(_key_of(key), None, 0, _table_of(table), 0))
-
-    def _write_one(self, write: _Write) -> int:
         timestamp = c_uint64()
-        _must(_apply(self._handle, byref(write), 1, byref(timestamp)))
+        _must(_write_row(self._handle, _table_of(table), _key_of(key), None, 0, byref(timestamp)))
         return timestamp.value
 
     def get(self, table: int, key: int, default: Optional[T] = None) -> Union[bytes, Optional[T]]:
