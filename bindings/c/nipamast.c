@@ -104,7 +104,7 @@ static long processors;
 static _Atomic int under_way; /* how many callers wait for replies */
 
 /* How often a thread looks before it waits. It gains by that only if it and the one that it waits for have a processor each. */
-static int looks(void) { return 2 * atomic_load(&under_way) <= processors ? 500 : 0; }
+static int looks(void) { return processors > 1 && 2 * atomic_load(&under_way) <= processors ? 500 : 0; }
 
 static int await_not(_Atomic int *at, int value) {
     int now;
