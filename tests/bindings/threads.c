@@ -117,7 +117,8 @@ static void write_own(struct worker *w, uint64_t count) {
 /* Moves money between two accounts, which other threads do too. */
 static int move(void *context, nipamast_txn *t) {
     struct worker *w = context;
-    uint64_t sum = 0, left = 0, there = 0, source = (unsigned)rand_r(&w->seed) % ACCOUNTS, target = (source + 1 + (unsigned)rand_r(&w->seed) % (ACCOUNTS - 1)) % ACCOUNTS;
+    uint64_t sum = 0, left = 0, there = 0, source = (unsigned)rand_r(&w->seed) % ACCOUNTS;
+    uint64_t target = (source + 1 + (unsigned)rand_r(&w->seed) % (ACCOUNTS - 1)) % ACCOUNTS;
     size_t length = 8;
     int result = nipamast_for_each(t, SHARED, 0, UINT64_MAX, add_number, &sum);
     if (!result && sum != ACCOUNTS * MONEY) wrong(w, "the accounts have %lu", sum);
