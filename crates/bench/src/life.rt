@@ -1,4 +1,6 @@
+ghost use Rattle.std.specs.Prelude.{IfOk};
 ghost use Rattle.pmem.specs.Words.{IsAtRest};
+ghost use Rattle.pmem_file.specs.Traces.{device_of};
 
 use crate::engine::{Load, close, closed, commit_batch, file_device, open};
 use crate::print::{print_each, print_memory};
@@ -35,24 +37,25 @@ pub fn live<H: Print + Files<File = File> + Clock + Threads + Sync>(
     name: &str,
     load: &Load,
 ) -> Result<(), Error> {
-    let (device, took) = open_file(rt, alloc, name)?;
-    print_each(rt, "file", 1, took)?;
+    let device = open_file(rt, alloc, name)?;
     let device = live_over(rt, alloc, device, load)?;
     let start = Instant::now(rt)?;
     device.close()?;
     Ok(print_each(rt, "close", 1, start.elapsed(rt)?.as_nanos())?)
 }
 
-// The device of the file, and how long it took to open it.
-fn open_file<H: Files<File = File> + Clock>(
+// Opens the file, and prints how long that took.
+fn open_file<H: Print + Files<File = File> + Clock>(
     rt: &H,
     alloc: Global,
     name: &str,
-) -> Result<(FileDevice, u128), Error> {
+) -> Result<FileDevice, Error>
+    ensures { IfOk result (λ device. IsAtRest (device_of device.trace)) }
+{
     let start = Instant::now(rt)?;
     let device = FileDevice::open_existing(rt, alloc, name)?;
-    let took = start.elapsed(rt)?.as_nanos();
-    Ok((device, took))
+    print_each(rt, "file", 1, start.elapsed(rt)?.as_nanos())?;
+    Ok(device)
 }
 
 // Opens a room over the device, runs the load in it, and closes it. Returns the device.
