@@ -58,7 +58,7 @@ impl Index {
             });
         }
         for (key, place) in self.places.range(range.bounds()) {
-            let newest = self.entry(*key, Some(*place)).newest;
+            let newest = self.entry(*key, Some(*place as usize)).newest;
             if let Some(found) = follow(device, geometry, snapshot, newest, *key) {
                 let Ok(_) = rows.insert(*key, found.row) else {
                     return Err(AllocError);
@@ -105,7 +105,7 @@ impl Index {
             });
         }
         for (key, place) in self.places.range(range.bounds()).rev() {
-            let newest = self.entry(*key, Some(*place)).newest;
+            let newest = self.entry(*key, Some(*place as usize)).newest;
             if let Some(found) = follow(device, geometry, snapshot, newest, *key) {
                 let Ok(_) = rows.insert(*key, found.row) else {
                     return Err(AllocError);

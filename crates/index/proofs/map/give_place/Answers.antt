@@ -16,8 +16,8 @@ returns-then-eq c =
     given-none c.args.places.now.entries c.remove.new.self.entries c.args.key c.args.moved (sym c.eq.ensures ∙ c.if-eq.true)
     (updated-out c.args.places.now.entries c.remove.new.self.entries c.args.key c.remove.ensures.updates.0)
 
-pub unreachable-2-requires : goal.unreachable-2-requires
-unreachable-2-requires c =
+pub unreachable-requires-in_default-insert : goal.unreachable-requires-in_default-insert
+unreachable-requires-in_default-insert c =
     let off : key_eq c.args.key c.args.moved ≡ false = key_eq-swap c.args.key c.args.moved ∙ sym c.eq.ensures ∙ c.if-eq.false in
     let was : lookup_key c.remove.new.self.entries c.args.moved ≡ lookup_key c.args.places.now.entries c.args.moved =
     updated-out c.args.places.now.entries c.remove.new.self.entries c.args.key c.remove.ensures.updates.0 c.args.moved ∙ ap (λ (b : Bool). cond b None (lookup_key c.args.places.now.entries c.args.moved)) off in

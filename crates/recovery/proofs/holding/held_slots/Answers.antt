@@ -1,5 +1,6 @@
-use Rattle.std.proofs.Common.{◌≡◌, ◌∙◌, ℕ, None, List, ap, sym, subst, arith}
+use Rattle.std.proofs.Common.{◌≡◌, ◌∙◌, ℕ, None, List, ap, sym, subst, arith, rules}
 use Rattle.std.specs.BTreeMap.{IsFromIterResult}
+use Rattle.base.proofs.Layouts.{few_slots}
 use Rattle.base.specs.declared.key.Key.{Key}
 use Rattle.recovery.specs.Held.{placed, numbered}
 use Rattle.recovery.specs.Slots.{bad_below, key_cmp}
@@ -26,3 +27,6 @@ returns-clause-held g c = λ image are.
           none-bad image n readings are live made.0 told.live placed-so (omega (arith, c.len.ensures.len, c.len-2.ensures, w.if-len.false)) (told.are_fit.0 (w.are_fit.ensures.0 (cc))) told.each
     ] in
     are-held image n readings are live made.0 told.live placed-so good made.1.free told.free
+
+pub side_by_side-requires-after_bounds : goal.side_by_side-requires-after_bounds
+side_by_side-requires-after_bounds g c κs within = omega (arith, c.requires.size, few_slots c.args.geometry (search rules))

@@ -1,4 +1,4 @@
-use Rattle.std.proofs.Common.{ℕ, List, IfOk, length, refl, rules, tests, subst}
+use Rattle.std.proofs.Common.{ℕ, List, IfOk, length, rules, tests, subst, arith}
 use Rattle.std.specs.BTreeMap.{IsFromIterResult}
 use Rattle.std.proofs.lemmas.Iterator.{YieldsList-from_range, YieldsList-from_slice, YieldsList-from_zip}
 use Rattle.std.proofs.lemmas.Iterator.Consumers.{YieldsList-at, YieldsList-from_filter_map}
@@ -18,4 +18,4 @@ returns c =
     (YieldsList-from_zip
     (YieldsList-at c.zip.ensures.first
     (YieldsList-from_filter_map _ (λ (reading : SlotReading). held_key reading.found) (YieldsList-at c.filter_map.ensures.source (YieldsList-from_slice readings (cc))) c.filter_map.ensures.closure (λ x r q k. search (rules, tests))))
-    (YieldsList-at c.zip.ensures.second (YieldsList-from_range 0 (length readings) (length readings) (cc) refl))))
+    (YieldsList-at c.zip.ensures.second (YieldsList-from_range 0 (length readings) (length readings) (cc) (omega arith)))))
