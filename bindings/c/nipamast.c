@@ -100,11 +100,15 @@ static int refuse(int result) {
 /* Whose the buffers of a channel are: the program's, also until it reads for the first time, or the caller's. */
 enum { PROGRAM, CALLER, ENDS };
 
-static int spins; /* how often a thread looks before it waits: not at all on one processor */
+static long processors;
+static _Atomic int under_way; /* how many callers wait for replies */
+
+/* How often a thread looks before it waits. It gains by that only if it and the one that it waits for have a processor each. */
+static int looks(void) { return processors > 1 && 2 * atomic_load(&under_way) <= processors ? 500 : 0; }
 
 static int await_not(_Atomic int *at, int value) {
     int now;
-    for (int i = 0; i < spins; i++) {
+    for (int i = 0, most = looks(); i < most; i++) {
         if ((now = atomic_load_explicit(at, memory_order_acquire)) != value) return now;
 #if defined(__x86_64__)
         __builtin_ia32_pause();
@@ -245,8 +249,10 @@ static int hand_over(struct channel *c) {
     if (c->by_stack) {
         call_by_stack(c);
     } else {
+        atomic_fetch_add(&under_way, 1);
         become(&c->turn, PROGRAM);
         await_not(&c->turn, PROGRAM);
+        atomic_fetch_sub(&under_way, 1);
     }
     return NIPAMAST_OK;
 }
@@ -367,7 +373,8 @@ static void free_channel(struct store *s, int channel, int was_open) {
     s->free[s->free_count++] = (uint8_t)channel;
     s->taken_count--;
     s->open_count -= was_open;
-    pthread_cond_broadcast(&s->freed);
+    if (s->closes) pthread_cond_broadcast(&s->freed);
+    else pthread_cond_signal(&s->freed);
     pthread_mutex_unlock(&s->lock);
 }
 
@@ -544,11 +551,12 @@ static void in_child(void) {
         }
     }
     for (int i = 0; i < CURSORS; i++) close_odd(&cursors[i].generation, &cursors[i].busy);
+    atomic_store(&under_way, 0);
     after_fork();
 }
 
 __attribute__((constructor)) static void begin_library(void) {
-    spins = sysconf(_SC_NPROCESSORS_ONLN) > 1 ? 500 : 0;
+    processors = sysconf(_SC_NPROCESSORS_ONLN);
     for (int i = 0; i < STORES; i++) {
         pthread_mutex_init(&stores[i].lock, NULL);
         pthread_cond_init(&stores[i].freed, NULL);
@@ -835,6 +843,13 @@ int nipamast_apply(nipamast_store *store, const nipamast_write *writes, size_t c
     free_channel(s, i, 0);
     if (timestamp) *timestamp = result ? 0 : number;
     return result;
+}
+
+int nipamast_write_row(nipamast_store *store, uint16_t table, uint64_t key, const void *row, size_t length, uint64_t *timestamp) {
+    if (!row && length) return NIPAMAST_MISUSE;
+    if (length > ROW) return refuse(NIPAMAST_ROW_TOO_LONG);
+    nipamast_write w = { key, row, (uint32_t)length, table, 0 };
+    return nipamast_apply(store, &w, 1, timestamp);
 }
 
 int nipamast_stat(nipamast_store *store, nipamast_status *status) {

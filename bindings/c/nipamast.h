@@ -99,16 +99,16 @@ typedef struct nipamast_options {
     uint16_t places;     /* places for records of its log: 2 to 64 */
     uint16_t window;     /* how many commits may be drawn ahead: 4 to 1024 */
     uint8_t wide;        /* 1: rows of up to 96 bytes; 0: of up to 32 */
-    uint8_t channels;    /* transactions that may be open at once, and calls without one: 1 to 62 */
+    uint8_t channels;    /* transactions that may be open at once, and calls without one: 1 to 62. As many commits share a sync at most */
     uint8_t calls;       /* NIPAMAST_BY_THREAD or NIPAMAST_BY_STACK */
     uint8_t reserved;    /* 0 */
 } nipamast_options;
 
 /* The standard layout: the file then has 4 MB. */
-#define NIPAMAST_OPTIONS { sizeof(nipamast_options), 65536, 2, 1024, 0, 16, NIPAMAST_BY_THREAD, 0 }
+#define NIPAMAST_OPTIONS { sizeof(nipamast_options), 65536, 2, 1024, 0, 32, NIPAMAST_BY_THREAD, 0 }
 
 /* The store that is there. No file is made. */
-#define NIPAMAST_EXISTING { sizeof(nipamast_options), 0, 0, 0, 0, 16, NIPAMAST_BY_THREAD, 0 }
+#define NIPAMAST_EXISTING { sizeof(nipamast_options), 0, 0, 0, 0, 32, NIPAMAST_BY_THREAD, 0 }
 
 /* Opens the store in the file, whose path is text in UTF-8, and locks the file against other processes. It is made if it is missing or
  * empty, unless the options say 0 slots. Null options are those of NIPAMAST_OPTIONS. As many threads are started as there are channels,
@@ -133,6 +133,10 @@ typedef struct nipamast_write {
 /* Writes all of them, at most 32 keys, and returns once they are durable. Commits of several threads share a sync. `timestamp` may be
  * null. These writes read nothing, and can meet a conflict all the same: call it again. */
 NIPAMAST_API NIPAMAST_CHECK int nipamast_apply(nipamast_store *store, const nipamast_write *writes, size_t count, uint64_t *timestamp);
+
+/* The same of one row of `length` bytes, or of its deletion if `row` is null and `length` is 0. */
+NIPAMAST_API NIPAMAST_CHECK int nipamast_write_row(nipamast_store *store, uint16_t table, uint64_t key, const void *row, size_t length,
+                                                   uint64_t *timestamp);
 
 /* Reads a row as it is committed now: at most `*length` bytes into `row`. Its length is then in `*length`. */
 NIPAMAST_API NIPAMAST_CHECK int nipamast_read(nipamast_store *store, uint16_t table, uint64_t key, void *row, size_t *length);

@@ -10,7 +10,7 @@
 #include <time.h>
 #include <unistd.h>
 
-enum { KEYS = 1024, ROWS = 32, THREADS = 8, MOST_THREADS = 64 };
+enum { KEYS = 1024, ROWS = 32, THREADS = 8, MOST_THREADS = 62 };
 
 static const char *path;
 static double seconds;
@@ -113,16 +113,18 @@ static void measure_nipamast(int calls) {
     must(!nipamast_close(store), "close");
 }
 
-/* The keys 8 n to 8 n + 7 are the thread's whose context is n. */
+/* The keys 8 n to 8 n + 7 are the thread's whose context is n. Each thread has a channel, since a commit keeps its channel up to its sync:
+ * with fewer of them than threads, the others' commits would wait for the next group. */
 static void n_commit_own(void *context, long i) { n_write(*(long *)context * 8 + i % 8, 1); }
 
 static void measure_committers(int calls, long count) {
     nipamast_options o = NIPAMAST_OPTIONS;
     long numbers[MOST_THREADS];
     void *contexts[MOST_THREADS];
+    must(count > 0 && count <= MOST_THREADS, "1 to 62 threads:");
     o.slots = 16384;
+    o.channels = (uint8_t)count;
     o.calls = (uint8_t)calls;
-    must(count > 0 && count <= MOST_THREADS, "1 to 64 threads:");
     must(!nipamast_open(path, &o, &store), "open");
     for (long i = 0; i < count; i++) {
         numbers[i] = i;

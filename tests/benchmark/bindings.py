@@ -1,4 +1,6 @@
-"""bindings.py thread|stack|sqlite FOLDER SECONDS [THREADS]: the same work as bindings.c, from Python, with as many lines of output."""
+"""bindings.py thread|stack|sqlite FOLDER SECONDS [THREADS]: the same work as bindings.c, from Python, with as many lines of output.
+bindings.py LIBRARY MICROSECONDS ROUNDS THREADS: calls of together.c in place of commits."""
+import ctypes
 import os
 import sqlite3
 import sys
@@ -56,9 +58,26 @@ def measure_nipamast(path, seconds, by_stack):
 def measure_committers(path, seconds, by_stack, count):
     import nipamast
 
-    with nipamast.open(path, slots=16_384, by_stack=by_stack) as store:
+    with nipamast.open(path, slots=16_384, channels=count, by_stack=by_stack) as store:
         works = [lambda i, first=number * 8: store.put(1, first + i % 8, ROW) for number in range(count)]
         measure_threads("commit-own", works, seconds)
+
+
+def measure_waits(library, microseconds, rounds, count):
+    """Each thread makes as many calls, since each call waits for all threads."""
+    waits = ctypes.CDLL(library)
+    waits.wait_of(count)
+
+    def run():
+        for _ in range(rounds):
+            waits.wait_together(microseconds)
+
+    threads, start = [threading.Thread(target=run) for _ in range(count)], time.perf_counter()
+    for thread in threads:
+        thread.start()
+    for thread in threads:
+        thread.join()
+    print("commit-own", f"{rounds * count / (time.perf_counter() - start):.0f}", flush=True)
 
 
 def connect(path):
@@ -96,6 +115,9 @@ def measure_sqlite(path, seconds):
 
 
 def main():
+    if sys.argv[1].endswith(".so"):
+        measure_waits(sys.argv[1], *map(int, sys.argv[2:]))
+        return
     engine, folder, seconds = sys.argv[1], sys.argv[2], float(sys.argv[3])
     path = os.path.join(folder, "bindings.db")
     if len(sys.argv) > 4:

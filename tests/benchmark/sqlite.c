@@ -39,7 +39,7 @@ static void make(uint64_t keys) {
     sqlite3 *it = connect_to();
     if (sqlite3_exec(it, "CREATE TABLE rows (key INTEGER PRIMARY KEY, row BLOB); BEGIN", 0, 0, 0)) fail("the table");
     sqlite3_stmt *insert = prepared(it, "INSERT INTO rows VALUES (?1, ?2)");
-    for (uint64_t key = 0; key < keys; key++) put(insert, key, ~key);
+    for (uint64_t key = 0; key < keys; key++) put(insert, key_of(key), ~key);
     sqlite3_finalize(insert);
     if (sqlite3_exec(it, "COMMIT", 0, 0, 0) || sqlite3_close(it)) fail("the rows");
 }
@@ -60,7 +60,7 @@ void store_join(void) {
 
 void store_commit(uint64_t first, uint64_t end, uint64_t keys) {
     step(begin);
-    for (uint64_t number = first; number < end; number++) put(update, number % keys, number);
+    for (uint64_t number = first; number < end; number++) put(update, next_key(number, keys), number);
     step(commit);
 }
 
@@ -75,7 +75,7 @@ int64_t store_read(uint64_t reads, uint64_t keys) {
     sqlite3_stmt *select = prepared(writer, "SELECT row FROM rows WHERE key = ?1");
     int64_t found = 0;
     step(begin);
-    for (uint64_t number = 0; number < reads; number++) found += found_in(select, number % keys);
+    for (uint64_t number = 0; number < reads; number++) found += found_in(select, next_key(number, keys));
     step(commit);
     return found;
 }

@@ -14,6 +14,22 @@ struct work {
     uint64_t keys, commits, group, reads;
 };
 
+// Whether the keys are numbers as if by chance from all over 64 bits, in an order in which none is near the one before, as in
+// crates/bench/src/keys.rt. Otherwise they are counted.
+static int random_keys;
+
+static inline uint64_t key_of(uint64_t number) {
+    if (!random_keys) return number;
+    number *= 0x9E3779B97F4A7C15;
+    number = (number ^ number >> 32) * 0xBF58476D1CE4E5B9;
+    return number ^ number >> 29;
+}
+
+// The key that comes next once that many have come.
+static inline uint64_t next_key(uint64_t number, uint64_t keys) {
+    return key_of((random_keys ? number * 2654435761 : number) % keys);
+}
+
 // A store is opened in an empty folder, with a row of eight bytes under each key.
 void store_open(const char *folder, uint64_t keys);
 // A thread that commits calls this first.
@@ -106,8 +122,9 @@ static void run_committers(uint64_t threads) {
     print_rate("commits", threads * each.commits, now() - start);
 }
 
-// FOLDER engine KEYS COMMITS GROUP READS, FOLDER readers N READS, or FOLDER committers KEYS N COMMITS
+// FOLDER engine KEYS COMMITS GROUP READS [random], FOLDER readers N READS, or FOLDER committers KEYS N COMMITS
 int main(int count, char **words) {
+    if (count == 8 && !strcmp(words[7], "random")) random_keys = 1, count = 7;
     if (count == 7 && !strcmp(words[2], "engine")) {
         struct work work = {strtoull(words[3], 0, 10), strtoull(words[4], 0, 10), strtoull(words[5], 0, 10),
                             strtoull(words[6], 0, 10)};

@@ -185,6 +185,25 @@ static void many_writes_are_kept_together_or_not_at_all(void) {
     OK(nipamast_close(s));
 }
 
+static void a_row_is_written_or_deleted_by_one_call(void) {
+    nipamast_store *s = fresh(64, 2);
+    char row[97] = { 0 };
+    uint64_t at = 0;
+    OK(nipamast_write_row(s, 1, 5, "row", 3, &at));
+    EXPECT(at == 1 && has(s, 5, "row"));
+    OK(nipamast_write_row(s, 1, 6, "", 0, NULL));
+    EXPECT(has(s, 6, "") && has(s, 5, "row"));
+    IS(nipamast_write_row(s, 1, 5, row, 33, &at), NIPAMAST_ROW_TOO_LONG);
+    EXPECT(!at && has(s, 5, "row"));
+    at = 7;
+    IS(nipamast_write_row(s, 1, 5, row, 97, &at), NIPAMAST_ROW_TOO_LONG);
+    IS(nipamast_write_row(s, 1, 5, row, (size_t)1 << 32, &at), NIPAMAST_ROW_TOO_LONG);
+    EXPECT(at == 7 && has(s, 5, "row"));
+    OK(nipamast_write_row(s, 1, 5, NULL, 0, &at));
+    EXPECT(at == 3 && lacks(s, 5) && has(s, 6, ""));
+    OK(nipamast_close(s));
+}
+
 static void a_full_store_refuses_a_put(void) {
     nipamast_store *s = fresh(4, 2);
     nipamast_write w[5];
@@ -311,6 +330,7 @@ static void refuses(const void *handle, int as_store, int as_txn, int as_rows) {
         EXPECT(!t);
         MISUSED(nipamast_read(h, 1, 1, row, &length));
         MISUSED(nipamast_apply(h, &w, 1, NULL));
+        MISUSED(nipamast_write_row(h, 1, 1, "row", 3, NULL));
         MISUSED(nipamast_stat(h, &status));
         MISUSED(nipamast_transact(h, 0, add_one, &b, NULL));
         MISUSED(nipamast_close(h));
@@ -391,6 +411,7 @@ static void null_pointers_and_wrong_numbers_are_refused(void) {
     MISUSED(nipamast_put(t, 1, 1, NULL, 3));
     OK(nipamast_put(t, 1, 1, NULL, 0));
     MISUSED(nipamast_apply(s, NULL, 1, NULL));
+    MISUSED(nipamast_write_row(s, 1, 1, NULL, 3, NULL));
     nipamast_write w = { 1, "row", 3, 1, 1 };
     MISUSED(nipamast_apply(s, &w, 1, NULL));
     MISUSED(nipamast_scan(t, 1, 0, 9, 0, 0, NULL));
@@ -823,6 +844,7 @@ static const struct { const char *name; void (*run)(void); int is_long; } tests[
     TEST(a_transaction_sees_its_writes_and_one_instant),
     TEST(rows_have_their_lengths),
     TEST(many_writes_are_kept_together_or_not_at_all),
+    TEST(a_row_is_written_or_deleted_by_one_call),
     TEST(a_full_store_refuses_a_put),
     TEST(ranges_have_an_order_a_limit_and_ends),
     TEST(a_conflict_is_tried_again),

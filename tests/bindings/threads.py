@@ -1,9 +1,12 @@
-"""Kills a process of 16 threads at random, opens its store again, and compares it with a model: threads.py FOLDER SECONDS SEED [stack].
+"""Kills a process of 16 threads at random, opens its store again, and compares it with a model.
 
-Each thread has keys of its own, which no other writes, and moves money between accounts that all share. Before a commit it says what it
-will write, and afterwards that the commit was acknowledged. It reads its own keys, which have to be as the model says, and the sum of
-all accounts. The process is killed without warning, and the next one has to find each thread's keys as its last acknowledged commit left
-them, or as the one after that would have. It prints how many commits were acknowledged and how many kills there were.
+    threads.py FOLDER SECONDS SEED thread|stack [PROGRAM]
+
+The process is this file again, or the program, which is made of threads.c. Each thread has keys of its own, which no other writes, and
+moves money between accounts that all share. Before a commit it says what it will write, and afterwards that the commit was acknowledged.
+It reads its own keys, which have to be as the model says, and the sum of all accounts. The process is killed without warning, and the
+next one has to find each thread's keys as its last acknowledged commit left them, or as the one after that would have. It prints how many
+commits were acknowledged and how many kills there were.
 """
 import os
 import random
@@ -158,8 +161,8 @@ def printed_until(process, end):
     return b"".join(parts)
 
 
-def live(model, words, seconds):
-    process = subprocess.Popen([sys.executable, "-B", __file__, "work", *words], stdout=subprocess.PIPE, bufsize=0)
+def live(model, command, seconds):
+    process = subprocess.Popen(command, stdout=subprocess.PIPE, bufsize=0)
     printed = printed_until(process, time.monotonic() + seconds)
     process.stdout.close()
     ended = process.wait()
@@ -172,15 +175,16 @@ def live(model, words, seconds):
 
 def main():
     if sys.argv[1] == "work":
-        work(sys.argv[2], int(sys.argv[3]), sys.argv[4:] == ["stack"])
+        work(sys.argv[2], int(sys.argv[3]), sys.argv[4] == "stack")
         return
-    folder, seconds, seed, *more = sys.argv[1:]
+    folder, seconds, seed, calls, *program = sys.argv[1:]
     path, model, chance = os.path.join(folder, "threads.store"), Model(), random.Random(int(seed))
+    program = program or [sys.executable, "-B", __file__, "work"]
     if os.path.exists(path):
         os.unlink(path)
     end = time.monotonic() + float(seconds)
     while time.monotonic() < end:
-        live(model, (path, str(chance.randrange(1 << 30)), *more), 0.3 + chance.random() * LONGEST)
+        live(model, [*program, path, str(chance.randrange(1 << 30)), calls], 0.3 + chance.random() * LONGEST)
     print(f"{model.commits} commits were acknowledged, {model.kills} kills, {model.unacknowledged} commits were kept unacknowledged")
 
 

@@ -74,6 +74,7 @@ _errmsg = _declare("errmsg", c_size_t, c_void_p, c_size_t)
 _open = _declare("open", c_int, c_char_p, POINTER(_Options), POINTER(c_void_p))
 _close = _declare("close", c_int, c_void_p)
 _apply = _declare("apply", c_int, c_void_p, POINTER(_Write), c_size_t, POINTER(c_uint64))
+_write_row = _declare("write_row", c_int, c_void_p, c_uint16, c_uint64, c_char_p, c_size_t, c_void_p)
 _read = _declare("read", c_int, c_void_p, c_uint16, c_uint64, c_void_p, c_void_p)
 _begin = _declare("begin", c_int, c_void_p, POINTER(c_void_p))
 _get = _declare("get", c_int, c_void_p, c_uint16, c_uint64, c_void_p, c_void_p)
@@ -397,11 +398,15 @@ class Store:
 
     def put(self, table: int, key: int, row: Row) -> int:
         """Commits a row."""
-        return self.write([(table, key, _bytes_of(row))])
+        data, timestamp = _bytes_of(row), c_uint64()
+        _must(_write_row(self._handle, _table_of(table), _key_of(key), data, len(data), byref(timestamp)))
+        return timestamp.value
 
     def delete(self, table: int, key: int) -> int:
         """Commits the deletion of a row."""
-        return self.write([(table, key, None)])
+        timestamp = c_uint64()
+        _must(_write_row(self._handle, _table_of(table), _key_of(key), None, 0, byref(timestamp)))
+        return timestamp.value
 
     def get(self, table: int, key: int, default: Optional[T] = None) -> Union[bytes, Optional[T]]:
         """The row as it is committed now, or the default if there is none."""
@@ -462,7 +467,7 @@ class Store:
 
 
 def open(
-    path: Path, *, slots: Optional[int] = None, wide: bool = False, places: int = 2, window: int = 1024, channels: int = 16,
+    path: Path, *, slots: Optional[int] = None, wide: bool = False, places: int = 2, window: int = 1024, channels: int = 32,
     create: bool = True, by_stack: bool = False,
 ) -> Store:
     """Opens the store in this file.
@@ -470,7 +475,8 @@ def open(
     Without `slots` it is opened with the layout that it has. If the file is missing or empty, a store of 65,536 rows of up to 32 bytes is
     made there, unless `create` is false. With `slots`, and the numbers that go with it, the store has to have this layout, or is made.
 
-    `channels` is how many transactions may be open at once, 1 to 62. `by_stack` makes calls far faster, as nipamast.h explains.
+    `channels` is how many transactions may be open at once, 1 to 62: as many commits share a sync at most. `by_stack` makes calls far
+    faster, as nipamast.h explains.
     """
     numbers = (("slots", 1 if slots is None else slots, 65_536), ("places", places, 64), ("window", window, 1_024), ("channels", channels, 62))
     for what, number, most in numbers:

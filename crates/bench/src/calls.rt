@@ -1,8 +1,8 @@
-use crate::engine::key_in;
 use crate::kinds::{begin, draw, end, get, poll, put, stamp, visit};
 use crate::slow::is_covered;
 use anyhow::Error;
 use base::fault::Fault;
+use base::key::Key;
 use pmem::Pmem;
 use room::{Room, Tick};
 use std::rt::Clock;
@@ -185,6 +185,14 @@ pub fn time_reads<H: Clock, D: Pmem + Drop>(
         absent,
         old,
     })
+}
+
+// The key whose turn it is, out of `keys` keys of the table.
+fn key_in(table: u16, number: u64, keys: u64) -> Key {
+    Key {
+        table,
+        key: number % keys.max(1),
+    }
 }
 
 // Reads `reads` times, from `keys` keys of the table in turn. Returns how long that takes.

@@ -2,12 +2,12 @@ ghost use Rattle.std.specs.Prelude.{IfOk, OnOk};
 ghost use Rattle.pmem.specs.Words.{IsAtRest};
 ghost use Rattle.pmem_file.specs.Traces.{device_of};
 
+use crate::keys::Order;
 use crate::kinds;
-use crate::kinds::{begin, collect, cover, draw, get, put, stamp};
+use crate::kinds::{begin, collect, cover, draw, get, put, stamp, visit};
 use anyhow::Error;
 use base::fault::Fault;
 use base::geometry::Geometry;
-use base::key::Key;
 use pmem::Pmem;
 use pmem_file::{FileDevice, JournaledPmem, Nowhere};
 use pmem_model::{Operations, SimPmem};
@@ -19,8 +19,8 @@ use std::rt::{Clock, Files};
 use std::thread::Threads;
 use std::time::{Duration, Instant};
 
-/// How many slots there are, how many keys have rows, and how many commits update one key each. `batch` of these commits are stamped
-/// before each cycle, and `reads` rows are read at the end.
+/// How many slots there are, how many keys have rows and which, and how many commits update one key each. `batch` of these commits are
+/// stamped before each cycle, and `reads` rows are read at the end.
 #[derive(Clone, Copy)]
 pub struct Load {
     pub slots: u64,
@@ -28,6 +28,7 @@ pub struct Load {
     pub commits: u64,
     pub batch: u64,
     pub reads: u64,
+    pub order: Order,
 }
 
 /// What a run did, and how long it took.
@@ -89,8 +90,8 @@ pub fn image_of_keys<H: Threads + Sync>(
     Ok(closed(rt, alloc, device, load)?.image()?)
 }
 
-// The device of a room that was closed once each key had a row.
-fn closed<H: Threads + Sync, D: Pmem + Drop + Send + Sync>(
+/// The device of a room that was closed once each key had a row.
+pub fn closed<H: Threads + Sync, D: Pmem + Drop + Send + Sync>(
     rt: &H,
     alloc: Global,
     device: D,
@@ -103,7 +104,8 @@ fn closed<H: Threads + Sync, D: Pmem + Drop + Send + Sync>(
     }
 }
 
-fn close<D: Pmem + Drop>(room: Room<D>) -> Result<D, Fault> {
+/// Closes the room.
+pub fn close<D: Pmem + Drop>(room: Room<D>) -> Result<D, Fault> {
     match room.close() {
         Ok(device) => Ok(device),
         Err((fault, _device)) => Err(fault),
@@ -128,7 +130,12 @@ pub fn file_device<H: Files<File = File>>(
 
 // The layout of an image with the slots of the load.
 fn geometry_of(load: &Load) -> Result<Geometry, Fault> {
-    Geometry::new(load.slots, Geometry::LEAST_PLACES, Geometry::MOST_WINDOW)
+    let places = Geometry::LEAST_PLACES;
+    let window = Geometry::MOST_WINDOW;
+    if load.slots > Geometry::MOST_SLOTS {
+        return Geometry::large(1, load.slots, places, window);
+    }
+    Geometry::new(load.slots, places, window)
 }
 
 /// The words of an image of this layout before it is formatted.
@@ -174,8 +181,8 @@ fn format_for<D: Pmem>(device: &mut D, load: &Load) -> Result<(), Fault>
     format(device, geometry_of(load)?)
 }
 
-// A room over the device.
-fn open<H: Threads + Sync, D: Pmem + Drop + Send + Sync>(
+/// A room over the device.
+pub fn open<H: Threads + Sync, D: Pmem + Drop + Send + Sync>(
     rt: &H,
     alloc: Global,
     device: D,
@@ -193,6 +200,7 @@ pub fn put_each_key<D: Pmem + Drop>(room: &mut Room<D>, load: &Load) -> Result<(
     let each = Load {
         commits: load.keys,
         batch: 32,
+        order: load.order.in_turn(),
         ..*load
     };
     for cycle in 0..cycles(&each) {
@@ -252,11 +260,20 @@ fn time_reads<H: Clock, D: Pmem + Drop>(
 
 /// Makes the round that sweeps, and then this many more rounds, in a room whose slots are free.
 pub fn visit_free<D: Pmem + Drop>(room: &mut Room<D>, rounds: u64) -> Result<(), Fault> {
-    let slots = room.geometry().slots();
-    collect(room, slots)?;
+    visit_each(room)?;
     for _ in 0..rounds {
-        collect(room, slots)?;
+        visit_each(room)?;
     }
+    Ok(())
+}
+
+// A visit to each slot, and to the closing place.
+fn visit_each<D: Pmem + Drop>(room: &mut Room<D>) -> Result<(), Fault> {
+    let slots = room.geometry().slots();
+    for _ in 0..slots {
+        visit(room)?;
+    }
+    visit(room)?;
     Ok(())
 }
 
@@ -298,17 +315,21 @@ fn collect_if_due<D: Pmem + Drop>(
     let (first, end) = numbers_in(load, cycle);
     let fourth = (load.slots / 4).max(1);
     if first / fourth < end / fourth {
-        collect(room, load.slots)?;
+        collect(room)?;
     }
     Ok(())
 }
 
-// Updates one key in each session of a batch, and covers all of them with one record. Returns how many ticks that took.
-fn commit_batch<D: Pmem + Drop>(room: &mut Room<D>, load: &Load, cycle: u64) -> Result<u64, Fault> {
+/// Updates one key in each session of a batch, and covers all of them with one record. Returns how many ticks that took.
+pub fn commit_batch<D: Pmem + Drop>(
+    room: &mut Room<D>,
+    load: &Load,
+    cycle: u64,
+) -> Result<u64, Fault> {
     let (first, end) = numbers_in(load, cycle);
     for number in first..end {
         let session = begin(room)?;
-        put(room, session, key_of(number, load), number)?;
+        put(room, session, load.order.key(number, load.keys), number)?;
         draw(room, session)?;
         stamp(room, session)?;
     }
@@ -328,7 +349,7 @@ fn commit_together<D: Pmem + Drop>(
     let (first, end) = numbers_in(load, cycle);
     let session = begin(room)?;
     for number in first..end {
-        put(room, session, key_of(number, load), number)?;
+        put(room, session, load.order.key(number, load.keys), number)?;
     }
     draw(room, session)?;
     for _ in first..end {
@@ -338,24 +359,12 @@ fn commit_together<D: Pmem + Drop>(
     kinds::end(room, session)
 }
 
-fn key_of(number: u64, load: &Load) -> Key {
-    key_in(1, number, load.keys)
-}
-
-/// The key whose turn it is, out of `keys` keys of the table.
-pub fn key_in(table: u16, number: u64, keys: u64) -> Key {
-    Key {
-        table,
-        key: number % keys.max(1),
-    }
-}
-
 // Makes the reads in one session. Returns how many rows it found.
 fn read_rows<D: Pmem + Drop>(room: &mut Room<D>, load: &Load) -> Result<u64, Fault> {
     let mut rows: u64 = 0;
     let session = begin(room)?;
     for number in 0..load.reads {
-        if get(room, session, key_of(number, load))? {
+        if get(room, session, load.order.key(number, load.keys))? {
             rows = rows.saturating_add(1);
         }
     }

@@ -4,7 +4,7 @@ use base::key::Key;
 use base::row::Row;
 use base::step::Stage;
 use pmem::Pmem;
-use room::{CommitStatus, Room, Tick};
+use room::{CommitStatus, Room, Tick, Visit};
 
 // Each kind of call has a function of its own, which isn't inlined, since its instructions are counted by its name.
 
@@ -57,19 +57,21 @@ pub fn get<D: Pmem + Drop>(room: &Room<D>, session: u8, key: Key) -> Result<bool
     }
 }
 
-/// The collector makes a visit.
+/// The collector makes a visit. Returns whether it ended a round.
 #[inline(never)]
-pub fn visit<D: Pmem + Drop>(room: &mut Room<D>) -> Result<(), Fault> {
-    room.collect()?;
-    Ok(())
+pub fn visit<D: Pmem + Drop>(room: &mut Room<D>) -> Result<bool, Fault> {
+    Ok(matches!(room.collect()?, Visit::SweepEnd))
 }
 
-/// A round of the collector: a visit to each slot, and to the closing place.
-pub fn collect<D: Pmem + Drop>(room: &mut Room<D>, slots: u64) -> Result<(), Fault> {
-    for _ in 0..slots {
-        visit(room)?;
+/// The rest of the collector's round: a visit to each slot, and to the closing place. Those that change nothing are made at once.
+pub fn collect<D: Pmem + Drop>(room: &mut Room<D>) -> Result<(), Fault> {
+    for _ in 0..u64::MAX {
+        room.pass(u64::MAX);
+        if visit(room)? {
+            break;
+        }
     }
-    visit(room)
+    Ok(())
 }
 
 // A tick that stores a word of the record's body.

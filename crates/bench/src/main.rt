@@ -7,7 +7,16 @@
 //! - `engine SLOTS KEYS COMMITS BATCH READS` runs only the engine.
 //! - `plain` takes the same numbers and runs the engine over a device that keeps no history.
 //! - `together` does so too, with the updates of a batch in one transaction.
-//! - `file NAME` takes them too, and runs the engine over a device whose image is kept in that file.
+//! - `far` takes them too: the first row is deleted, and then COMMITS pairs of rows are put and rolled back, of which one takes that row's
+//!   slot and the next a slot that is far from it.
+//! - `full` takes them too, with as many KEYS as SLOTS: COMMITS puts find no free slot, each before a round of the collector and after it.
+//! - `fill NAME` takes them too, and creates that file, with a row for each key.
+//! - `life NAME` takes them too: it opens that file, makes a first and a second commit, runs the engine, and closes the file. It prints how
+//!   long each part took, and the memory of the process once the file was open.
+//!
+//! After these numbers the word `random` may come. Then the keys are numbers from all over 64 bits, in an order in which none is near the
+//! one before; otherwise they are counted from 0 on.
+//!
 //! - `readers N` makes the reads of N readers, each in a thread of its own.
 //! - `open SLOTS` times opening a full image, and `openings SLOTS TIMES` opens it TIMES times.
 //! - `visits SLOTS ROUNDS` makes ROUNDS rounds of the collector over free slots.
@@ -20,8 +29,11 @@ ghost use Rattle.pmem_model.specs.Sim.{device_of};
 
 mod calls;
 mod engine;
+mod keys;
 mod kinds;
+mod life;
 mod opening;
+mod places;
 mod print;
 mod readers;
 mod rounds;
@@ -31,7 +43,9 @@ mod work;
 
 use anyhow::{Error, ensure};
 use base::geometry::Geometry;
-use engine::{Load, file_device, image_of_keys, plain_device, run_modelled};
+use engine::{Load, image_of_keys, plain_device, run_modelled};
+use keys::Order;
+use life::{fill, live};
 use opening::{open_often, time_opening};
 use pmem::Pmem;
 use pmem_model::SimPmem;
@@ -57,6 +71,7 @@ const SMALL: Load = Load {
     commits: 1_600,
     batch: 4,
     reads: 1_000,
+    order: Order::Counted,
 };
 
 const FEW_READERS: usize = 2;
@@ -89,7 +104,8 @@ fn measure<H: Print + Files<File = File> + Clock + Threads + Wait + Sync>(
 ) -> Result<(), Error> {
     match measure {
         Measure::Engine(load) => measure_engine(rt, alloc, &load, timed),
-        Measure::File(name, load) => measure_file(rt, alloc, name, &load, timed),
+        Measure::Fill(name, load) => fill(rt, alloc, name, &load),
+        Measure::Life(name, load) => live(rt, alloc, name, &load),
         Measure::Plain(work) => measure_plain(rt, alloc, work, timed),
         Measure::Readers(readers) => measure_readers(rt, alloc, readers, timed),
         Measure::Opening(slots) => measure_opening(rt, alloc, slots),
@@ -172,18 +188,6 @@ fn measure_engine<H: Print + Clock + Threads + Sync>(
         print_rates(rt, load, &made)?;
     }
     Ok(())
-}
-
-// The same over a device whose image is kept in the file of this name, which is formatted.
-fn measure_file<H: Print + Files<File = File> + Clock + Threads + Sync>(
-    rt: &H,
-    alloc: Global,
-    name: &str,
-    load: &Load,
-    timed: bool,
-) -> Result<(), Error> {
-    let device = file_device(rt, alloc, name, load)?;
-    measure_work(rt, alloc, device, Work::Run(*load), timed)
 }
 
 // The same over a device that keeps neither its history nor its lines, and counts nothing.

@@ -1,7 +1,10 @@
 use crate::calls::{CYCLES, READS_OF_A_KIND, Reading, Spent, TOGETHER};
 use crate::engine::{Load, Made};
 use pmem_model::Operations;
+use std::alloc::Global;
+use std::fs::File;
 use std::io;
+use std::rt::Files;
 use std::time::Duration;
 
 /// The load, and what its run did.
@@ -69,4 +72,15 @@ pub fn print_rate<H: Print>(rt: &H, name: &str, count: u64, took: Duration) -> i
         took.as_secs(),
         took.subsec_micros()
     )
+}
+
+/// How much memory the process has, and the most that it had.
+pub fn print_memory<H: Print + Files<File = File>>(rt: &H, alloc: Global) -> io::Result<()> {
+    let status = io::read_to_string(alloc, File::open(rt, "/proc/self/status")?)?;
+    for line in status.lines() {
+        if line.starts_with("VmRSS") || line.starts_with("VmHWM") {
+            println!(rt; "{line}")?;
+        }
+    }
+    Ok(())
 }

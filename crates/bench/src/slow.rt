@@ -16,9 +16,8 @@ pub fn covered_beside_a_slow_one<D: Pmem + Drop>(
     let slow = begin(room)?;
     put(room, slow, SLOW, 0)?;
     draw(room, slow)?;
-    let slots = room.geometry().slots();
     for number in 0..commits {
-        collect(room, slots)?;
+        collect(room)?;
         if !is_covered(room, number)? {
             return Ok(number);
         }

@@ -1,4 +1,5 @@
 use crate::engine::Load;
+use crate::keys::Order;
 use anyhow::{Error, bail};
 use std::num::ParseIntError;
 
@@ -7,8 +8,10 @@ use std::num::ParseIntError;
 pub enum Measure<'a> {
     /// A load on the modelled device.
     Engine(Load),
-    /// A load on a device whose image is kept in the file of this name.
-    File(&'a str, Load),
+    /// The file of this name is created, with a row for each key of the load.
+    Fill(&'a str, Load),
+    /// A load on a device whose image is kept in the file of this name, from opening it to closing it.
+    Life(&'a str, Load),
     /// Work on a device that keeps neither its history nor its image.
     Plain(Work),
     Readers(usize),
@@ -26,6 +29,10 @@ pub enum Work {
     Together(Load),
     /// One commit after the other, while a commit that was drawn before them is never stamped.
     Slow(Load),
+    /// Pairs of puts, of which one takes the slot of a row that was deleted, and the next one a slot that is far from it.
+    Far(Load),
+    /// Puts for which no slot is free, since each has a row.
+    Full(Load),
     /// This many rounds of the collector over free slots.
     Visits { slots: u64, rounds: u64 },
     /// Sessions that update a key each.
@@ -39,7 +46,10 @@ pub fn measure_of<'a>(words: &[&'a str]) -> Result<Measure<'a>, Error> {
         ["engine", load @ ..] => Ok(Measure::Engine(load_of(load)?)),
         ["plain", load @ ..] => Ok(Measure::Plain(Work::Run(load_of(load)?))),
         ["together", load @ ..] => Ok(Measure::Plain(Work::Together(load_of(load)?))),
-        ["file", name, load @ ..] => Ok(Measure::File(name, load_of(load)?)),
+        ["far", load @ ..] => Ok(Measure::Plain(Work::Far(load_of(load)?))),
+        ["full", load @ ..] => Ok(Measure::Plain(Work::Full(load_of(load)?))),
+        ["fill", name, load @ ..] => Ok(Measure::Fill(name, load_of(load)?)),
+        ["life", name, load @ ..] => Ok(Measure::Life(name, load_of(load)?)),
         _ => Ok(calls_of(words)?),
     }
 }
@@ -49,7 +59,11 @@ fn load_of(words: &[&str]) -> Result<Load, Error> {
         [slots, keys, commits, batch, reads] => {
             Ok(parse_load(slots, keys, commits, batch, reads)?)
         }
-        _ => bail!("a load is SLOTS KEYS COMMITS BATCH READS"),
+        [slots, keys, commits, batch, reads, "random"] => Ok(Load {
+            order: Order::Random,
+            ..parse_load(slots, keys, commits, batch, reads)?
+        }),
+        _ => bail!("a load is SLOTS KEYS COMMITS BATCH READS [random]"),
     }
 }
 
@@ -66,6 +80,7 @@ fn parse_load(
         commits: commits.parse::<u64>()?,
         batch: batch.parse::<u64>()?,
         reads: reads.parse::<u64>()?,
+        order: Order::Counted,
     })
 }
 

@@ -1,6 +1,10 @@
 use crate::calls::{CYCLES, READS_OF_A_KIND, time_reads, time_steps};
 use crate::engine::{Load, new_room, put_each_key, run_load, run_together, visit_free};
-use crate::print::{print_covered, print_rate, print_rates, print_reading, print_run, print_spent};
+use crate::keys::Order;
+use crate::places::{free_first_slot, put_into_full, put_pairs};
+use crate::print::{
+    print_covered, print_each, print_rate, print_rates, print_reading, print_run, print_spent,
+};
 use crate::slow::covered_beside_a_slow_one;
 use crate::words::Work;
 use anyhow::Error;
@@ -9,6 +13,7 @@ use room::Room;
 use std::alloc::Global;
 use std::rt::Clock;
 use std::thread::Threads;
+use std::time::Instant;
 
 // How many keys are updated, and how many slots are kept for newer versions of the keys that are read.
 const UPDATED_KEYS: u64 = 256;
@@ -19,7 +24,11 @@ impl Work {
     /// The load for which the room is created.
     pub fn load(&self) -> Load {
         match self {
-            Work::Run(load) | Work::Together(load) | Work::Slow(load) => *load,
+            Work::Run(load)
+            | Work::Together(load)
+            | Work::Slow(load)
+            | Work::Far(load)
+            | Work::Full(load) => *load,
             Work::Visits { slots, .. } => load_in(*slots, 0),
             Work::Steps(slots) => load_in(*slots, UPDATED_KEYS),
             Work::Reads(slots) => load_in(*slots, slots.saturating_sub(LEFT_SLOTS)),
@@ -35,6 +44,7 @@ pub fn load_in(slots: u64, keys: u64) -> Load {
         commits: 0,
         batch: 1,
         reads: 0,
+        order: Order::Counted,
     }
 }
 
@@ -61,14 +71,16 @@ fn work_in<H: Print + Clock, D: Pmem + Drop>(
         Work::Run(load) => measure_run(rt, room, &load, timed),
         Work::Together(load) => measure_together(rt, room, &load, timed),
         Work::Slow(load) => count_beside_a_slow_one(rt, room, &load),
+        Work::Far(load) => measure_pairs(rt, room, &load),
+        Work::Full(load) => measure_puts(rt, room, &load),
         Work::Visits { rounds, .. } => Ok(visit_free(room, rounds)?),
         Work::Steps(_) => measure_steps(rt, room, &work.load()),
         Work::Reads(_) => measure_reads(rt, room, &work.load()),
     }
 }
 
-// Runs the load, and prints what it did.
-fn measure_run<H: Print + Clock, D: Pmem + Drop>(
+/// Runs the load, and prints what it did.
+pub fn measure_run<H: Print + Clock, D: Pmem + Drop>(
     rt: &H,
     room: &mut Room<D>,
     load: &Load,
@@ -102,6 +114,29 @@ fn count_beside_a_slow_one<H: Print, D: Pmem + Drop>(
 ) -> Result<(), Error> {
     let covered = covered_beside_a_slow_one(room, load.commits)?;
     Ok(print_covered(rt, covered, load)?)
+}
+
+fn measure_pairs<H: Print + Clock, D: Pmem + Drop>(
+    rt: &H,
+    room: &mut Room<D>,
+    load: &Load,
+) -> Result<(), Error> {
+    free_first_slot(room, load)?;
+    let start = Instant::now(rt)?;
+    put_pairs(room, load)?;
+    let took = start.elapsed(rt)?.as_nanos();
+    Ok(print_each(rt, "pair", load.commits, took)?)
+}
+
+fn measure_puts<H: Print + Clock, D: Pmem + Drop>(
+    rt: &H,
+    room: &mut Room<D>,
+    load: &Load,
+) -> Result<(), Error> {
+    let start = Instant::now(rt)?;
+    put_into_full(room, load)?;
+    let took = start.elapsed(rt)?.as_nanos();
+    Ok(print_each(rt, "put", load.commits, took)?)
 }
 
 fn measure_steps<H: Print + Clock, D: Pmem + Drop>(

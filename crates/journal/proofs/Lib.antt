@@ -10,6 +10,7 @@ pub mod LineRuns
 pub mod Files
 pub mod Changes
 pub mod Appended
+pub mod Placings
 pub mod Placed
 pub mod Settled
 pub mod Within

@@ -12,6 +12,7 @@ pub mod ReadBack
 pub mod States
 pub mod Tails
 pub mod Places
+pub mod Unplaced
 pub mod Lives
 pub mod Changes
 pub mod Images

@@ -5,6 +5,7 @@ ghost use Rattle.journal.specs.Places.{IsPart, PlacesOnly};
 ghost use Rattle.journal.specs.ReadBack.{JournalDecides};
 ghost use Rattle.journal.specs.Tails.{NamesAsBefore};
 ghost use Rattle.journal.specs.Changes.{AreChanged, AreFound, DiffersIn};
+ghost use Rattle.journal.specs.Unplaced.{IsPlacedBut};
 
 use crate::eight::eight_at;
 use crate::file_image::put_each;
@@ -13,6 +14,7 @@ use crate::part::check_part;
 use crate::position::Position;
 use crate::rewriting::begin_pass;
 use crate::storage::Storage;
+use crate::unplaced::mark_each;
 use std::alloc::Global;
 use std::io;
 use std::io::ErrorKind;
@@ -21,11 +23,12 @@ use std::io::ErrorKind;
 /// of the journal, and returns the position behind it. It is one write: a sync makes them durable. If the entry has no room, the
 /// image is put in place before, and it begins the next pass. At each instant, and also if a write fails, the file stands for the
 /// durable words or for these, and once it is synced for these. An image that says that it has as many words as the whole file is
-/// refused, and nothing is written.
+/// refused, and nothing is written. The marks say which lines may not be in place.
 pub(crate) fn begin_words<S: Storage>(
     alloc: Global,
     storage: &mut S,
     durable: &mut Vec<u64>,
+    unplaced: &mut Vec<bool>,
     words: &[u64],
     numbers: &[usize],
     room: usize,
@@ -35,6 +38,8 @@ pub(crate) fn begin_words<S: Storage>(
     requires whole { length durable.old.items % 8 ≡ 0 }
     requires fits { length durable.old.items + room + 8 < 2 ^ 58 }
     requires known { ∥ Rests (S.may_hold storage.old) (length durable.old.items) room position.pass position.words durable.old.items ∥₁ }
+    requires lines { 8 * length unplaced.old.items ≡ length durable.old.items }
+    requires placed { IsPlacedBut (S.may_hold storage.old) unplaced.old.items durable.old.items }
     ensures either { FoundEither (S.may_hold storage.new) (length durable.old.items) room durable.old.items words.now }
     ensures rests { IfOk result (λ next. ∥ Rests (S.shows storage.new) (length durable.old.items) room next.pass next.words words.now ∥₁) }
     ensures durable { OnOk result (durable.new.items ≡ words.now) }
@@ -43,6 +48,8 @@ pub(crate) fn begin_words<S: Storage>(
     ensures place { PlacesOnly (S.may_hold storage.old) (S.may_hold storage.new) durable.old.items }
     ensures decides { JournalDecides (S.may_hold storage.new) (length durable.old.items) room }
     ensures part { OnOk result (IsPart room words.now) }
+    ensures marks { length unplaced.new.items ≡ length unplaced.old.items }
+    ensures placed { OnOk result (IsPlacedBut (S.may_hold storage.new) unplaced.new.items words.now) }
 {
     check_part(words, room)?;
     let changed = changed_lines(alloc, durable.as_slice(), words, numbers)?;
@@ -50,12 +57,14 @@ pub(crate) fn begin_words<S: Storage>(
         alloc,
         storage,
         durable.as_slice(),
+        unplaced,
         words,
         changed.as_slice(),
         room,
         position,
     )?;
     put_each(durable, changed.as_slice());
+    mark_each(unplaced, changed.as_slice());
     Ok(next)
 }
 
@@ -108,6 +117,7 @@ fn write_changed<S: Storage>(
     alloc: Global,
     storage: &mut S,
     durable: &[u64],
+    unplaced: &mut Vec<bool>,
     words: &[u64],
     changed: &[Line],
     room: usize,
@@ -118,11 +128,15 @@ fn write_changed<S: Storage>(
     requires fits { length durable.now + room + 8 < 2 ^ 58 }
     requires changed { AreChanged changed.now durable.now words.now }
     requires known { ∥ Rests (S.may_hold storage.old) (length durable.now) room position.pass position.words durable.now ∥₁ }
+    requires lines { 8 * length unplaced.old.items ≤ length durable.now }
+    requires placed { IsPlacedBut (S.may_hold storage.old) unplaced.old.items durable.now }
     ensures either { FoundEither (S.may_hold storage.new) (length durable.now) room durable.now words.now }
     ensures rests { IfOk result (λ next. ∥ Rests (S.shows storage.new) (length durable.now) room next.pass next.words words.now ∥₁) }
     ensures tail { NamesAsBefore (S.may_hold storage.old) (S.may_hold storage.new) (length durable.now) room }
     ensures place { PlacesOnly (S.may_hold storage.old) (S.may_hold storage.new) durable.now }
     ensures decides { JournalDecides (S.may_hold storage.new) (length durable.now) room }
+    ensures marks { length unplaced.new.items ≡ length unplaced.old.items }
+    ensures placed { OnOk result (IsPlacedBut (S.may_hold storage.new) unplaced.new.items durable.now) }
 {
     if changed.is_empty() {
         return Ok(position);
@@ -134,7 +148,8 @@ fn write_changed<S: Storage>(
     if position.words <= room - size {
         return append(alloc, storage, durable, words, changed, room, position);
     }
-    begin_pass(alloc, storage, durable, room, position)?;
+    begin_pass(alloc, storage, durable, unplaced.as_slice(), room, position)?;
+    unplaced.as_mut_slice().fill(false);
     let begun = Position {
         pass: !position.pass,
         words: 0,

@@ -1,10 +1,11 @@
-ghost use Rattle.std.specs.Prelude.{◌≡◌, ℕ, List, ◌+◌, ◌%◌, ◌<◌, ◌^◌, true, false, None, length, is_some, IfErr, IfOk, IsErr, IsSome, OnErr, OnOk};
+ghost use Rattle.std.specs.Prelude.{◌≡◌, ℕ, List, ◌+◌, ◌*◌, ◌%◌, ◌<◌, ◌^◌, true, false, None, length, is_some, IfErr, IfOk, IsErr, IsSome, OnErr, OnOk};
 ghost use Rattle.std.proofs.Common.{inl};
 ghost use Rattle.journal.specs.Files.{Opens};
 ghost use Rattle.journal.specs.Places.{HoldsPart, IsPart, PartAsBefore};
 ghost use Rattle.journal.specs.ReadBack.{IsReadBack, JournalDecides, StandsAsBefore};
 ghost use Rattle.journal.specs.States.{Rests};
 ghost use Rattle.journal.specs.Tails.{BeginsAsRead, NamesAsRead, NamesBoth};
+ghost use Rattle.journal.specs.Unplaced.{IsPlacedBut};
 
 use crate::appending::begin_words;
 use crate::file_image::image_in;
@@ -26,6 +27,10 @@ pub struct JournaledImages<S: Storage> {
     // The image that was written last.
     written: Vec<u64>,
 
+    // Which of its lines may not be in place: those of the entries of this pass. When the journal is full, and at the end, these
+    // are written there.
+    unplaced: Vec<bool>,
+
     // How many words the journal has, and how far it is written.
     room: usize,
     position: Position,
@@ -45,6 +50,8 @@ pub struct JournaledImages<S: Storage> {
     ghost part: { IsPart room written.items },
     ghost holds: { HoldsPart (S.may_hold storage) (length written.items) room },
     ghost decides: { JournalDecides (S.may_hold storage) (length written.items) room },
+    ghost lines: { 8 * length unplaced.items ≡ length written.items },
+    ghost placed: { failed ≡ false → IsPlacedBut (S.may_hold storage) unplaced.items written.items },
 }
 
 /// Why a file isn't opened, and the file.
@@ -109,6 +116,12 @@ impl<S: Storage> JournaledImages<S> {
             Ok(durable) => durable,
             Err(error) => return Err(Unopened { error, storage }),
         };
+        let Ok(unplaced) = Vec::from_elem(alloc, false, durable.len() / 8) else {
+            return Err(Unopened {
+                error: io::Error::from(ErrorKind::OutOfMemory),
+                storage,
+            });
+        };
         let pass = file[words + room + 3] == 0;
         let mut storage = storage;
         match rewrite(alloc, &mut storage, durable.as_slice(), room, pass) {
@@ -116,6 +129,7 @@ impl<S: Storage> JournaledImages<S> {
                 alloc,
                 storage,
                 written: durable,
+                unplaced,
                 room,
                 position: Position {
                     pass: true,
@@ -179,6 +193,7 @@ impl<S: Storage> JournaledImages<S> {
         match settle(
             &mut storage,
             self.written.as_slice(),
+            self.unplaced.as_slice(),
             self.room,
             self.position.pass,
         ) {
@@ -242,6 +257,7 @@ impl<S: Storage> Images for JournaledImages<S> {
             self.alloc,
             &mut self.storage,
             &mut self.written,
+            &mut self.unplaced,
             words.as_slice(),
             lines,
             self.room,

@@ -18,6 +18,7 @@ mod part;
 mod position;
 mod rewriting;
 mod storage;
+mod unplaced;
 
 pub use entry::read_entry;
 pub use file_image::{extent_of, image_in};

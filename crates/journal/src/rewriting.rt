@@ -1,14 +1,16 @@
-ghost use Rattle.std.specs.Prelude.{◌≡◌, ◌⊎◌, ℕ, ◌+◌, ◌≤◌, ◌<◌, ◌^◌, true, not, length, OnOk};
+ghost use Rattle.std.specs.Prelude.{◌≡◌, ◌⊎◌, ℕ, ◌+◌, ◌*◌, ◌≤◌, ◌<◌, ◌^◌, true, not, length, OnOk};
 ghost use Rattle.journal.specs.Files.{tail_of, FoundOpens};
 ghost use Rattle.journal.specs.Places.{HoldsPart, IsPart, PartAsBefore, PlacesOnly};
 ghost use Rattle.journal.specs.ReadBack.{Covers};
 ghost use Rattle.journal.specs.States.{Knows, KnowsJournal, IsInPlace, IsOff, IsClear, IsFull, Rests};
 ghost use Rattle.journal.specs.Tails.{HoldsFirst, NamesBoth, NamesAsBefore};
+ghost use Rattle.journal.specs.Unplaced.{IsPlacedBut};
 
 use crate::entry::bit_of;
 use crate::part::check_part;
 use crate::position::Position;
 use crate::storage::{Storage, put};
+use crate::unplaced::put_unplaced;
 use std::alloc::Global;
 use std::io;
 
@@ -63,26 +65,30 @@ pub fn rewrite<S: Storage>(
     turn_on(storage, image, room)
 }
 
-/// Brings the image in place, after which the journal no longer counts: the file's first words are the image then, whatever is
-/// behind them. At each instant, and also if a write fails, the file stands for this image. Two writes, and a wait after each.
+/// Brings the image in place, by the lines that may not be there, after which the journal no longer counts: the file's first words
+/// are the image then, whatever is behind them. At each instant, and also if a write fails, the file stands for this image. Two
+/// waits: for the lines, and for the tail.
 pub(crate) fn settle<S: Storage>(
     storage: &mut S,
     image: &[u64],
+    unplaced: &[bool],
     room: usize,
     pass: bool,
 ) -> io::Result<()>
     requires fits { length image.now + room < 2 ^ 63 }
+    requires lines { 8 * length unplaced.now ≤ length image.now }
+    requires placed { IsPlacedBut (S.may_hold storage.old) unplaced.now image.now }
     requires known { ∥ Knows (S.may_hold storage.old) (length image.now) room pass image.now ∥₁ }
     ensures opens { FoundOpens (S.may_hold storage.new) (length image.now) room image.now }
     ensures off { OnOk result (∥ IsOff (S.may_hold storage.new) (length image.now) room image.now ∥₁) }
     ensures tail { NamesAsBefore (S.may_hold storage.old) (S.may_hold storage.new) (length image.now) room }
     ensures place { PlacesOnly (S.may_hold storage.old) (S.may_hold storage.new) image.now }
 {
-    put_in_place(storage, image, room, pass)?;
+    put_unplaced(storage, image, unplaced)?;
     turn_off(storage, image, room, pass)
 }
 
-// Puts the image in place: then each word of it is known, whatever it was.
+// Puts all of the image in place: then each word of it is known, whatever it was.
 fn put_in_place<S: Storage>(
     storage: &mut S,
     image: &[u64],
@@ -143,17 +149,20 @@ fn turn_on<S: Storage>(storage: &mut S, image: &[u64], room: usize) -> io::Resul
     put(storage, words + room, &tail(MAGIC, words, room, true))
 }
 
-/// Begins the next pass over the journal of a file at rest: its image is in place then, and nothing in the journal. At each instant,
-/// and also if a write fails, the file stands for this image. Two waits: for the image in place, with the rest of the journal filled,
-/// and for the tail, which names the other pass.
+/// Begins the next pass over the journal of a file at rest: its image is in place then, and nothing in the journal. Of the image the
+/// lines are written that may not be in place. At each instant, and also if a write fails, the file stands for this image. Two waits:
+/// for these lines, with the rest of the journal filled, and for the tail, which names the other pass.
 pub(crate) fn begin_pass<S: Storage>(
     alloc: Global,
     storage: &mut S,
     image: &[u64],
+    unplaced: &[bool],
     room: usize,
     position: Position,
 ) -> io::Result<()>
     requires fits { length image.now + room + 8 < 2 ^ 58 }
+    requires lines { 8 * length unplaced.now ≤ length image.now }
+    requires placed { IsPlacedBut (S.may_hold storage.old) unplaced.now image.now }
     requires within { position.words ≤ room }
     requires known { ∥ Rests (S.may_hold storage.old) (length image.now) room position.pass position.words image.now ∥₁ }
     ensures opens { FoundOpens (S.may_hold storage.new) (length image.now) room image.now }
@@ -161,7 +170,7 @@ pub(crate) fn begin_pass<S: Storage>(
     ensures tail { NamesAsBefore (S.may_hold storage.old) (S.may_hold storage.new) (length image.now) room }
     ensures place { PlacesOnly (S.may_hold storage.old) (S.may_hold storage.new) image.now }
 {
-    fill(alloc, storage, image, room, position)?;
+    fill(alloc, storage, image, unplaced, room, position)?;
     turn(storage, image, room, position.pass)
 }
 
@@ -170,10 +179,13 @@ fn fill<S: Storage>(
     alloc: Global,
     storage: &mut S,
     image: &[u64],
+    unplaced: &[bool],
     room: usize,
     position: Position,
 ) -> io::Result<()>
     requires fits { length image.now + room + 8 < 2 ^ 58 }
+    requires lines { 8 * length unplaced.now ≤ length image.now }
+    requires placed { IsPlacedBut (S.may_hold storage.old) unplaced.now image.now }
     requires within { position.words ≤ room }
     requires known { ∥ Rests (S.may_hold storage.old) (length image.now) room position.pass position.words image.now ∥₁ }
     ensures opens { FoundOpens (S.may_hold storage.new) (length image.now) room image.now }
@@ -183,7 +195,7 @@ fn fill<S: Storage>(
 {
     let rest = Vec::from_elem(alloc, bit_of(position.pass), room - position.words)?;
     storage.write(image.len() + position.words, rest.as_slice())?;
-    put(storage, 0, image)
+    put_unplaced(storage, image, unplaced)
 }
 
 // From now on the other pass counts, of which the journal has no word.

@@ -1,4 +1,4 @@
-use Rattle.std.proofs.Common.{◌≡◌, ◌∙◌, ℕ, ◌-◌, List, [], ◌∷◌, length, refl, sym, subst, arith}
+use Rattle.std.proofs.Common.{◌≡◌, ◌∙◌, ℕ, ◌-◌, not, List, [], ◌∷◌, length, refl, sym, subst, arith}
 use Rattle.std.proofs.Math.Logic.{∥∥₁_elim}
 use Rattle.std.proofs.Math.Nat.{ℕ_set}
 use Rattle.std.proofs.lemmas.Bool.{eqb-true}
@@ -8,6 +8,7 @@ use Rattle.journal.proofs.Changes.{unchanged}
 use Rattle.journal.proofs.Within.{rests_within}
 use Rattle.journal.proofs.Appended.{rests-behind, rests-either, opens-either}
 use Rattle.journal.proofs.Decides.{decides_opens, decides_rests}
+use Rattle.journal.proofs.Placings.{any_ok, placed-still, rests-placed}
 use Rattle.journal.proofs.appending.write_changed.Goals as goal
 
 none : (lines : List Line) → length lines ≡ 0 → lines ≡ []
@@ -56,3 +57,10 @@ returns-then-size-room-clause-decides g c =
 pub returns-in_err-begin_pass-clause-decides : goal.returns-in_err-begin_pass-clause-decides
 returns-in_err-begin_pass-clause-decides g c =
     decides_opens (g.S.Storage.may_hold c.begin_pass.new.storage) (length c.args.durable.now) c.args.room c.args.durable.now c.begin_pass.ensures.opens
+
+pub returns-clause-placed : goal.returns-clause-placed
+returns-clause-placed g c =
+    let durable = c.args.durable.now in
+    let mid = g.S.Storage.may_hold c.begin_pass.new.storage in
+    let new = g.S.Storage.may_hold c.append-2.new.storage in
+    any_ok c.append-2.result (placed-still mid new _ durable c.append-2.ensures.place (rests-placed mid c.args.room (not c.args.position.pass) _ durable c.in_ok-begin_pass.ensures.rests))

@@ -4,6 +4,7 @@ use Rattle.journal.proofs.Appended.{may-kept}
 use Rattle.journal.proofs.Files.{read-stands, rewritten-stands}
 use Rattle.journal.proofs.Tails.{names_read, first_read, first_pass}
 use Rattle.journal.proofs.Decides.{decides_rests}
+use Rattle.journal.proofs.Placings.{rests-placed}
 use Rattle.journal.proofs.journaled.JournaledImages.open.Goals as goal
 
 pub returns-in-Ok-rewrite-clause-found : goal.returns-in-Ok-rewrite-clause-found
@@ -45,3 +46,13 @@ pub invariant_of-result-clause-decides : goal.invariant_of-result-clause-decides
 invariant_of-result-clause-decides g c =
     let durable = c.in-Ok.durable.items in
     decides_rests (g.S.Storage.may_hold c.rewrite.new.storage) (length durable) c.args.room true 0 durable (rw c.as_slice.ensures.value at c.in-Ok-rewrite.ensures.rests)
+
+pub returns-in_default-clause-unopened : goal.returns-in_default-clause-unopened
+returns-in_default-clause-unopened g c = read-stands (g.S.Storage.may_hold c.args.storage) c.args.words c.args.room c.args.file.now c.requires.back
+
+pub returns-in_default-clause-tail : goal.returns-in_default-clause-tail
+returns-in_default-clause-tail g c is has = names_read (g.S.Storage.may_hold c.args.storage) c.args.words c.args.room c.args.file.now (c.requires.back is.size) has
+
+pub invariant_of-result-clause-placed : goal.invariant_of-result-clause-placed
+invariant_of-result-clause-placed g c works =
+    rests-placed (g.S.Storage.may_hold c.rewrite.new.storage) c.args.room true c.in-Ok-from_elem.unplaced.items c.in-Ok.durable.items (rw c.as_slice.ensures.value at c.in-Ok-rewrite.ensures.rests)
