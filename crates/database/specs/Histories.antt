@@ -120,12 +120,10 @@ pub record Known : Type 0 where
   pub begun : List Step
   pub seen : List Step
 
--- the history up to its begin, if it is known
 abbrev pub begun_in : Option Known → Option (List Step)
 begun_in (Some known) = Some known.begun
 begun_in None = None
 
--- the history up to its last step, if it is known
 abbrev pub seen_in : Option Known → Option (List Step)
 seen_in (Some known) = Some known.seen
 seen_in None = None
@@ -146,8 +144,7 @@ BeginsAt opened true s None = ⊥
 BeginsAt opened false s log = log ≡ None
 
 -- If the history is kept, the transaction knows it up to its begin, and has made no step since.
--- Excluded: a session that another transaction has open there; a step that was made since. Not excluded: an older history, which a thread finds by
--- comparing fronts.
+-- Excluded: a transaction that is told an older history, or one of another session.
 abbrev pub HasBegun : Device → Bool → ℕ → Option Known → Type 0
 HasBegun opened true s (Some known) = (known.seen ≡ known.begun) × IsBegunAt opened s known.begun
 HasBegun opened true s None = ⊥

@@ -97,8 +97,6 @@ impl<'a, D: SyncAhead + Drop, R: Wait, J: Origin> Transaction<'a, D, R, J> {
     fn keep(&mut self, desk: &Desk<D, J>)
         ensures session { self.new.session ≡ self.old.session }
         ensures trace { KeepsUp self.old.trace (log_in desk.now.room) self.new.trace }
-
-        // If it isn't kept, the transaction is what it was, at Err too.
         ensures same { J.kept ≡ false → self.new ≡ self.old }
     {
         if let Some(trace) = &mut self.trace {
@@ -174,8 +172,6 @@ impl<'a, D: SyncAhead + Drop, R: Wait, J: Origin> Transaction<'a, D, R, J> {
         // other step.
         ensures session { self.new.session ≡ self.old.session }
         ensures does { Does self.old.session (made_if (is_ok result) (Put self.old.session key row)) self.old.trace self.new.trace }
-
-        // If it isn't kept, the transaction is what it was, at Err too.
         ensures same { J.kept ≡ false → self.new ≡ self.old }
     {
         let mut desk = self.shared.desk(self.rt);
@@ -197,8 +193,6 @@ impl<'a, D: SyncAhead + Drop, R: Wait, J: Origin> Transaction<'a, D, R, J> {
         // other step.
         ensures session { self.new.session ≡ self.old.session }
         ensures does { Does self.old.session (made_if (is_ok result) (Delete self.old.session key)) self.old.trace self.new.trace }
-
-        // If it isn't kept, the transaction is what it was, at Err too.
         ensures same { J.kept ≡ false → self.new ≡ self.old }
     {
         let mut desk = self.shared.desk(self.rt);
@@ -223,8 +217,6 @@ impl<'a, D: SyncAhead + Drop, R: Wait, J: Origin> Transaction<'a, D, R, J> {
         // other step.
         ensures session { self.new.session ≡ self.old.session }
         ensures does { DoesWrites self.old.session writes.now result self.old.trace self.new.trace }
-
-        // If it isn't kept, the transaction is what it was, at Err too.
         ensures same { J.kept ≡ false → self.new ≡ self.old }
     {
         let mut desk = self.shared.desk(self.rt);

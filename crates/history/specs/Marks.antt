@@ -1,4 +1,4 @@
--- At which place of a log each session's own last step is.
+-- Where each session's own last step stands in a log.
 use Rattle.std.specs.Prelude.{ℕ, ◌≡◌, ◌<◌, List, length, slice_index}
 use Rattle.base.specs.declared.step.Step.{Step}
 use Rattle.session_laws.specs.Logs.{IsQuietSince}

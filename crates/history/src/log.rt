@@ -1,4 +1,4 @@
-//! What lies under a lock beside the room: the history's book, what it has seen, and at which place each session's own last step is.
+//! What lies under a lock beside the room: the history's book, what it has seen, and where each session's own last step stands.
 
 ghost use Rattle.std.specs.Prelude.{◌≡◌, ◌++◌, ◌∷◌, [], MatchBool, IfSome};
 ghost use Rattle.std.specs.Bool.{OnTrue};
@@ -68,7 +68,7 @@ impl<J: Origin> Log<J> {
         if at < 64 { Some(self.last[at]) } else { None }
     }
 
-    /// Adds a step, and returns whether it did. It does, unless the history has grown past what it has seen, which doesn't happen.
+    /// Adds a step. `false` if the history has grown past what it has seen, which doesn't happen.
     pub fn add(&mut self, step: &Step) -> bool
         ensures { MatchBool result (self.new ≡ self.old ++ step.now ∷ []) (self.new ≡ self.old) }
     {

@@ -1,4 +1,4 @@
-//! The name of a history. It is in a type, since nothing else is known of a value that comes out of a lock.
+//! The name of a history. It stands in a type, since nothing else is known of a value that comes out of a lock.
 
 use std::marker::Brand;
 

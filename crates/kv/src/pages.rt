@@ -74,24 +74,6 @@ impl RangePages {
     }
 }
 
-/// How many rows a table has.
-pub fn count_rows<R: Wait + Drop>(
-    alloc: Global,
-    transaction: &Transaction<'_, Device, R>,
-    table: u16,
-) -> Result<usize, Fault> {
-    let mut pages = RangePages::new(Range::whole(table));
-    let mut count: usize = 0;
-    for _ in 0..u64::MAX {
-        let rows = pages.next(alloc, transaction)?;
-        if rows.is_empty() {
-            break;
-        }
-        count = count.saturating_add(rows.len());
-    }
-    Ok(count)
-}
-
 /// What is left of all tables.
 #[derive(Clone, Copy)]
 pub struct AllPages {

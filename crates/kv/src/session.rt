@@ -5,7 +5,7 @@ ghost use Rattle.kv.specs.declared.session.Answer.TheVariants.{Begun, Aborted, R
 ghost use Rattle.kv.specs.declared.statistics.Statistics.{Statistics};
 
 use crate::command::{Range, Request};
-use crate::pages::{RangePages, count_rows};
+use crate::pages::RangePages;
 use crate::refusal::{Refusal, Stop};
 use crate::statistics::Statistics;
 use base::Ts;
@@ -206,12 +206,17 @@ impl<'a, R: Wait + Drop> Session<'a, R> {
     fn count(&mut self, table: u16) -> Result<Answer, Failed>
         ensures { IfOk result (λ answer. (count : ℕ) × (answer ≡ Counted count)) }
     {
-        self.test_whole()?;
-        if let Some(transaction) = &self.open {
-            return Ok(Answer::Count(count_rows(self.alloc, transaction, table)?));
+        let reads = self.reads()?;
+        let mut pages = RangePages::new(Range::whole(table));
+        let mut count: usize = 0;
+        for _ in 0..u64::MAX {
+            let rows = pages.next(self.alloc, reads.transaction())?;
+            if rows.is_empty() {
+                break;
+            }
+            count = count.saturating_add(rows.len());
         }
-        let transaction = self.database.begin()?;
-        Ok(Answer::Count(count_rows(self.alloc, &transaction, table)?))
+        Ok(Answer::Count(count))
     }
 
     /// What rows are read from: the transaction that is open, or one of its own.

@@ -134,7 +134,7 @@ fn is_same(one: &Geometry, other: &Geometry) -> bool
 }
 
 // The same as `open_file`, with all that is known about the device in one fact.
-fn open_found<R: Files<File = File>>(
+pub fn open_found<R: Files<File = File>>(
     rt: &R,
     alloc: Global,
     name: &str,
@@ -195,7 +195,7 @@ pub fn open_over<R: Threads + Wait + Copy + Drop + Send + Sync + 'static>(
 }
 
 // If a write or a sync of the file failed, the cause. Otherwise the fault with which opening was refused; then the file is closed.
-fn refusal_of(device: Device, fault: Fault) -> Refusal
+pub fn refusal_of(device: Device, fault: Fault) -> Refusal
     ensures layout { (layout : Layout) → ReportsLayout layout result }
 
     // If a write or a sync of the file failed, that is reported, and otherwise the fault.

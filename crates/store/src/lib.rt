@@ -27,6 +27,7 @@
 
 mod error;
 mod files;
+mod kept;
 mod layout;
 mod ranges;
 mod reading;
@@ -39,9 +40,10 @@ pub use base::Ts;
 pub use base::geometry::Geometry;
 pub use base::key::Key;
 pub use base::row::Row;
-pub use database::Page;
+pub use database::{Committed, Front, Origin, Page};
 pub use error::{Layout, Part, StoreError};
 pub use files::{Device, Refusal, find_file, open_database, open_file};
+pub use kept::{Program, run};
 pub use layout::standard_layout;
 pub use reading::Snapshot;
 pub use row::{RowExt, key};

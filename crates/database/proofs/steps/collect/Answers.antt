@@ -1,4 +1,4 @@
-use Rattle.std.proofs.Common.{◌≡◌, ◌∙◌, ◌+◌, ◌-◌, ℕ, [], refl, subst, arith, rules}
+use Rattle.std.proofs.Common.{◌≡◌, ◌∙◌, ◌+◌, ◌-◌, ℕ, [], refl, sym, subst, arith, rules}
 use Rattle.database.specs.Obeys.{RepeatsTimes}
 use Rattle.base.specs.declared.step.Step.TheVariants.{Collect}
 use Rattle.session_laws.specs.Logs.{own}
@@ -17,14 +17,14 @@ loop-left-init g c = record {
 pub loop-left-preserved : goal.loop-left-preserved
 loop-left-preserved g c =
     let within = c.loop-left.invariant.within in
-    let most = c.visit_next-left.ensures.most in
-    let more : (c.args.places - c.loop-left.left) + c.visit_next-left.result ≡ c.args.places - (c.loop-left.left - c.visit_next-left.result) = omega (arith, within, most) in
+    let most = c.visit_next.ensures.most in
+    let more : (c.args.places - c.loop-left.left) + c.visit_next.result ≡ c.args.places - (c.loop-left.left - c.visit_next.result) = omega (arith, within, most) in
     record {
       within = omega (arith, within, most);
-      visits = subst (λ (n : ℕ). RepeatsTimes g.D.Pmem.state c.args.room.now.room c.visit_next-left.new.room.room Collect n) more
-          (times-join g.D.Pmem.state c.args.room.now.room c.loop-left.room.room c.visit_next-left.new.room.room Collect (c.args.places - c.loop-left.left) c.visit_next-left.result c.loop-left.invariant.visits c.visit_next-left.ensures.visits);
-      ended = c.visit_next-left.ensures.ended ∙ c.loop-left.invariant.ended;
-      log = quiet-join c.args.room.now.log c.loop-left.room.log c.visit_next-left.new.room.log c.loop-left.invariant.log c.visit_next-left.ensures.log;
+      visits = subst (λ (n : ℕ). RepeatsTimes g.D.Pmem.state c.args.room.now.room c.visit_next.new.room.room Collect n) more
+          (times-join g.D.Pmem.state c.args.room.now.room c.loop-left.room.room c.visit_next.new.room.room Collect (c.args.places - c.loop-left.left) c.visit_next.result c.loop-left.invariant.visits c.visit_next.ensures.visits);
+      ended = c.visit_next.ensures.ended ∙ c.loop-left.invariant.ended;
+      log = quiet-join c.args.room.now.log c.loop-left.room.log c.visit_next.new.room.log c.loop-left.invariant.log c.visit_next.ensures.log;
     }
 
 pub returns-clause-visits : goal.returns-clause-visits

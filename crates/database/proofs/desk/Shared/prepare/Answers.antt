@@ -4,7 +4,8 @@ use Rattle.base.specs.declared.fault.Fault.TheVariants.{WindowFull}
 use Rattle.database.specs.declared.error.CommitError.TheVariants.{Refused}
 use Rattle.database.specs.Obeys.{Prepares}
 use Rattle.database.proofs.Reporting.{is-prepared, prepared-ok, prepared-err, conflicts-at}
-use Rattle.database.proofs.Histories.{prepares-in}
+use Rattle.database.specs.Histories.{DrewNext, LogsPrepared}
+use Rattle.database.proofs.Histories.{in-room, prepares-after}
 use Rattle.database.proofs.desk.Shared.prepare.Goals as goal
 
 pub returns-then-not-is_full-clause-ok : goal.returns-then-not-is_full-clause-ok
@@ -31,5 +32,6 @@ returns-then-lacks_memory-clause-err g c = inr (inr (
 
 pub returns-then-not-is_full-clause-history : goal.returns-then-not-is_full-clause-history
 returns-then-not-is_full-clause-history g c =
-    prepares-in g.J.Origin.opened c.args.session c.args.trace.now c.prepare-prepared.result c.known_if-front.result _ _ _ c.in-Some-room.room c.prepare-prepared.new.room c.attend.ensures c.known_if-front.ensures c.in-Some-room.is
-    c.prepare-prepared.ensures.log c.prepare-prepared.ensures.next (cc) (cc)
+    prepares-after g.J.Origin.opened c.args.session c.args.trace.now c.prepare-prepared.result _ c.prepare-prepared.new.room.log c.known_if-front.result c.attend.ensures
+    (in-room (λ log. LogsPrepared c.args.session c.prepare-prepared.result log c.prepare-prepared.new.room.log) _ c.in-Some-room.room c.in-Some-room.is c.prepare-prepared.ensures.log)
+    (in-room (λ log. DrewNext g.J.Origin.opened log c.prepare-prepared.result) _ c.in-Some-room.room c.in-Some-room.is c.prepare-prepared.ensures.next) c.known_if-front.ensures

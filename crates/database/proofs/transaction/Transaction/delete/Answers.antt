@@ -1,9 +1,10 @@
 use Rattle.database.specs.Replies.{done_of}
 use Rattle.database.proofs.Runs.{answers-step}
 use Rattle.std.specs.Prelude.{is_ok}
-use Rattle.base.specs.declared.step.Step.TheVariants.{Delete}
-use Rattle.database.specs.Histories.{made_if}
-use Rattle.database.proofs.Histories.{does-in, delete-own}
+use Rattle.base.specs.declared.step.Step.TheVariants.{Put, Delete}
+use Rattle.database.specs.Histories.{LogsOwn, made_if}
+use Rattle.database.specs.Obeys.{log_in}
+use Rattle.database.proofs.Histories.{in-room, does-turn, delete-own}
 use Rattle.database.proofs.transaction.Transaction.delete.Goals as goal
 
 pub returns-clause-made : goal.returns-clause-made
@@ -13,5 +14,5 @@ returns-clause-made g c =
 pub returns-clause-does : goal.returns-clause-does
 returns-clause-does g c =
     let steps = made_if (is_ok c.delete-returned.result) (Delete c.args.self.now.session c.args.key) in
-    does-in c.args.self.now.session steps c.args.self.now.trace _ _ _ _ c.in-Some.room c.delete-returned.new.room c.attend.ensures c.keep.ensures.trace c.in-Some.is
-    (delete-own c.args.self.now.session c.args.key c.delete-returned.result _ _ c.delete-returned.ensures.log) (cc) (cc)
+    does-turn c.args.self.now.session steps c.args.self.now.trace _ _ _ c.attend.ensures
+    (in-room (λ log. LogsOwn c.args.self.now.session steps log c.delete-returned.new.room.log) _ c.in-Some.room c.in-Some.is (delete-own c.args.self.now.session c.args.key c.delete-returned.result _ _ c.delete-returned.ensures.log)) c.keep.ensures.trace

@@ -1,6 +1,7 @@
 use Rattle.database.specs.Committing.{AreWrites}
 use Rattle.room.proofs.Runs.{ends-run}
-use Rattle.database.proofs.Histories.{does-writes-in}
+use Rattle.database.specs.Histories.{LogsWrites}
+use Rattle.database.proofs.Histories.{in-room, does-writes}
 use Rattle.database.proofs.transaction.Transaction.write.Goals as goal
 
 pub returns-clause-made : goal.returns-clause-made
@@ -10,4 +11,5 @@ returns-clause-made g c =
 
 pub returns-clause-does : goal.returns-clause-does
 returns-clause-does g c =
-    does-writes-in c.args.self.now.session c.args.writes.now c.write_all-returned.result c.args.self.now.trace _ _ _ _ c.in-Some.room c.write_all-returned.new.room c.attend.ensures c.keep.ensures.trace c.in-Some.is c.write_all-returned.ensures.log (cc) (cc)
+    does-writes c.args.self.now.session c.args.writes.now c.write_all-returned.result c.args.self.now.trace _ _ _ c.attend.ensures
+    (in-room (λ log. LogsWrites c.args.self.now.session c.args.writes.now c.write_all-returned.result log c.write_all-returned.new.room.log) _ c.in-Some.room c.in-Some.is c.write_all-returned.ensures.log) c.keep.ensures.trace
