@@ -19,13 +19,16 @@ use journal::{
     JournaledImages, Nowhere, Storage, extent_of, image_in, left_files_name_their_shape,
 };
 use log_area::read_geometry;
-use std::alloc::Global;
+use std::alloc::{AllocError, Global};
 use std::fs::File;
 use std::io;
 use std::io::{ErrorKind, Read};
 
 // The longest file that is read: an image of 2,147,500,096 bytes, and a journal that an entry of all its lines fits into.
 const MOST_BYTES: u64 = 4_563_437_952;
+
+// The part of a file that is read at once.
+const PART_BYTES: u64 = 65_536;
 
 // A journal of 1 MiB has room for two thousand commits of a row each, and only then the image is written in place.
 const LEAST_ROOM: usize = 131_072;
@@ -145,13 +148,22 @@ impl Found {
     ghost use Rattle.pmem_file.specs.declared.opening.OpenError.{OpenError};
     ghost use Rattle.pmem_file.specs.Shapes.{HasShape, IsForMemory, IsOurs, KeepsNames, padded, whole};
 
+    /// Reads the file part by part, so that only its words are held.
     pub(crate) fn read(alloc: Global, file: &File) -> io::Result<Found> {
         let length = file.metadata()?.len();
-        let mut bytes = Vec::new(alloc);
-        file.take(MOST_BYTES).read_to_end(&mut bytes)?;
-        let count = bytes.len() / 8;
-        let mut words = Vec::from_elem(alloc, 0, count)?;
-        LittleEndian::read_u64_into(&bytes[..8 * count], words.as_mut_slice());
+        let mut words = Vec::with_capacity(alloc, (length.min(MOST_BYTES) / 8) as usize)?;
+        let mut bytes = Vec::with_capacity(alloc, PART_BYTES as usize)?;
+        let mut left = MOST_BYTES;
+        while left > 0 {
+            let size = left.min(PART_BYTES);
+            bytes.clear();
+            file.take(size).read_to_end(&mut bytes)?;
+            push_words(&mut words, bytes.as_slice())?;
+            if (bytes.len() as u64) < size {
+                return Ok(Found { words, length });
+            }
+            left -= size;
+        }
         Ok(Found { words, length })
     }
 
@@ -253,6 +265,15 @@ impl Found {
             None => false,
         }
     }
+}
+
+// Adds the whole words of these bytes.
+fn push_words(words: &mut Vec<u64>, bytes: &[u8]) -> Result<(), AllocError> {
+    let start = words.len();
+    let count = bytes.len() / 8;
+    words.resize(start.saturating_add(count), 0)?;
+    LittleEndian::read_u64_into(&bytes[..8 * count], &mut words.as_mut_slice()[start..]);
+    Ok(())
 }
 
 // Of a file without words.
