@@ -4,9 +4,8 @@
 use anyhow;
 use base::fault::Fault;
 use base::geometry::Geometry;
-use pmem_file::OpenError;
 use std::io;
-use store::StoreError;
+use store::{OpenError, StoreError};
 use thiserror::Error;
 
 const LARGER: &str = ", or copy all rows into a store with more slots, as help shows";

@@ -7,14 +7,13 @@ use crate::options::{Options, command_line, read_options};
 use crate::shell::{Outcome, answer_command, answer_lines};
 use base::fault::Fault;
 use clap::error::ErrorKind;
-use pmem_file::OpenError;
 use std::alloc::Global;
 use std::fs::File;
 use std::io;
 use std::rt::{Clock, Files};
 use std::sync::Wait;
 use std::thread::Threads;
-use store::StoreError;
+use store::{OpenError, StoreError};
 
 const DONE: u8 = 0;
 

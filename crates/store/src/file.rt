@@ -1,6 +1,8 @@
 //! Opening a store writes to its file. A caller that takes only some layouts looks at the file's layout first.
 
-ghost use Rattle.pmem_file.specs.Devices.{state_of};
+ghost use Rattle.pmem.specs.Device.{restarted};
+ghost use Rattle.pmem.specs.Words.{image_of};
+ghost use Rattle.pmem_file.specs.Devices.{places_of, state_of};
 ghost use Rattle.store.specs.Files.{IsFoundWith};
 
 use crate::error::StoreError;
@@ -36,6 +38,12 @@ impl StoreFile {
         alloc: Global,
         name: &str,
     ) -> Result<StoreFile, StoreError>
+        // A device was opened over it that is at rest. Its image has the layout that `layout` returns, and it has that layout's places.
+        // Nothing was done to it since it was opened.
+        ensures found { IfOk result (λ file. IsFoundWith file.layout (state_of file.device)) }
+        ensures places { IfOk result (λ file. places_of file.device ≡ file.layout.places) }
+        ensures untouched { IfOk result (λ file. state_of file.device ≡ restarted (image_of (state_of file.device))) }
+
         // The file keeps the name.
         ensures name { IfOk result (λ file. string_bytes file.name ≡ name.now) }
 
@@ -56,8 +64,8 @@ impl StoreFile {
 
     /// The layout of the store.
     pub fn layout(&self) -> Geometry
-        // The device that was opened over the file is at rest, and its image has this layout.
-        ensures { IsFoundWith result (state_of self.now.device) }
+        // That of the device's image.
+        ensures { result ≡ self.now.layout }
     {
         self.layout
     }

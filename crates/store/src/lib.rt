@@ -45,6 +45,7 @@ pub use error::{Layout, Part, StoreError};
 pub use file::StoreFile;
 pub use files::{Device, Refusal, open_database};
 pub use layout::standard_layout;
+pub use pmem_file::OpenError;
 pub use reading::Snapshot;
 pub use row::{RowExt, key};
 pub use status::Status;
