@@ -51,12 +51,8 @@ pub fn open_file<R: Files<File = File>>(
     // It has the places of its image's layout.
     ensures places { IfOk result (λ device. (found : Layout) × IsLaidOut found (image_of (state_of device)) × (places_of device ≡ found.places)) }
 
-    // Another layout is reported only if a device at rest has it, and it isn't the one that was asked for.
+    // As for `open_database`.
     ensures other { IfErr result (ReportsLayout geometry) }
-
-    // A fault is reported only if it keeps a device at rest from being opened. Either that device isn't formatted with the layout
-    // because of this fault, or its superblock is wrong in this way. Or it has the layout that was asked for, and opening it as a
-    // database is refused with this fault. That a file failed is reported only if a write or a sync of one did, for that cause.
     ensures fault { IfErr result (ReportsFault geometry) }
 {
     let device = match open_formatted(rt, alloc, name, geometry) {
@@ -134,8 +130,12 @@ pub fn open_database<R: Files<File = File> + Threads + Wait + Copy + Drop + Send
     // A device was opened that was at rest, whose image has the layout that was asked for and isn't refused.
     ensures ok { OnOk result (OpensLayout geometry) }
 
-    // As for `open_file`.
+    // Another layout is reported only if a device at rest has it, and it isn't the one that was asked for.
     ensures err { IfErr result (ReportsLayout geometry) }
+
+    // A fault is reported only if it keeps a device at rest from being opened. Either that device isn't formatted with the layout
+    // because of this fault, or its superblock is wrong in this way. Or it has the layout that was asked for, and opening it as a
+    // database is refused with this fault. That a file failed is reported only if a write or a sync of one did, for that cause.
     ensures fault { IfErr result (ReportsFault geometry) }
 {
     match open_file(rt, alloc, name, geometry) {
