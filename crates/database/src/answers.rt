@@ -6,8 +6,11 @@ ghost use Rattle.std.specs.Prelude.{◌<◌, IfSome, IfNone};
 ghost use Rattle.std.specs.Result.{ForOk, ForErr};
 ghost use Rattle.database.specs.Committing.{IsAcknowledged, GivesUp, IsAnswered, IsAnsweredAt, AnswersTo, AnswersAnother};
 
+use crate::ending::Ending;
 use crate::error::CommitError;
 use base::Ts;
+use history::Origin;
+use std::array::from_fn;
 
 /// What became of a commit of this session.
 #[derive(Clone, Copy, Drop)]
@@ -30,14 +33,17 @@ enum Place {
 
 /// What became of commits that threads wait for.
 #[derive(Drop)]
-pub struct Answers {
+pub struct Answers<J: Origin> {
     places: [Place; 64],
+    // At each place how the session ended, if its commit was acknowledged and its history is kept.
+    endings: [Option<Ending<J>>; 64],
 }
 
-impl Answers {
-    pub fn new() -> Answers {
+impl<J: Origin> Answers<J> {
+    pub fn new() -> Answers<J> {
         Answers {
             places: [Place::Free; 64],
+            endings: from_fn(|_| None),
         }
     }
 
@@ -52,10 +58,17 @@ impl Answers {
         None
     }
 
-    /// Leaves the answer to this session's commit there.
-    pub fn put(&mut self, place: usize, session: u8, answer: Result<Ts, CommitError>)
+    /// Leaves the answer to this session's commit there, and how the session ended.
+    pub fn put(
+        &mut self,
+        place: usize,
+        session: u8,
+        answer: Result<Ts, CommitError>,
+        ending: Option<Ending<J>>,
+    )
         requires { IsAnswered session answer }
     {
+        self.endings[place % 64] = ending;
         self.places[place % 64] = Place::Answered(Answer {
             session,
             result: answer,
@@ -79,6 +92,11 @@ impl Answers {
         }
         self.places[place % 64] = Place::Free;
         answer_to(timestamp, answer.result)
+    }
+
+    /// Takes how the session ended whose answer was taken from there.
+    pub fn take_ending(&mut self, place: usize) -> Option<Ending<J>> {
+        self.endings[place % 64].take()
     }
 }
 
