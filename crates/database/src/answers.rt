@@ -10,7 +10,7 @@ use crate::ending::Ending;
 use crate::error::CommitError;
 use base::Ts;
 use history::Origin;
-use std::array::from_fn;
+use std::alloc::{AllocError, Global};
 
 /// What became of a commit of this session.
 #[derive(Clone, Copy, Drop)]
@@ -36,15 +36,19 @@ enum Place {
 pub struct Answers<J: Origin> {
     places: [Place; 64],
     // At each place how the session ended, if its commit was acknowledged and its history is kept.
-    endings: [Option<Ending<J>>; 64],
+    endings: Vec<Option<Ending<J>>>,
 }
 
 impl<J: Origin> Answers<J> {
-    pub fn new() -> Answers<J> {
-        Answers {
-            places: [Place::Free; 64],
-            endings: from_fn(|_| None),
+    pub fn new(alloc: Global) -> Result<Answers<J>, AllocError> {
+        let mut endings = Vec::with_capacity(alloc, 64)?;
+        for _place in 0..64 {
+            endings.push(None)?;
         }
+        Ok(Answers {
+            places: [Place::Free; 64],
+            endings,
+        })
     }
 
     /// A place for an answer, if one is free.
@@ -68,7 +72,9 @@ impl<J: Origin> Answers<J> {
     )
         requires { IsAnswered session answer }
     {
-        self.endings[place % 64] = ending;
+        if let Some(last) = self.endings.get_mut(place % 64) {
+            *last = ending;
+        }
         self.places[place % 64] = Place::Answered(Answer {
             session,
             result: answer,
@@ -96,7 +102,10 @@ impl<J: Origin> Answers<J> {
 
     /// Takes how the session ended whose answer was taken from there.
     pub fn take_ending(&mut self, place: usize) -> Option<Ending<J>> {
-        self.endings[place % 64].take()
+        match self.endings.get_mut(place % 64) {
+            Some(last) => last.take(),
+            None => None,
+        }
     }
 }
 

@@ -145,7 +145,7 @@ impl<
         ensures images { (history drawn : List Commit) (next : ℕ) → Stands (image_of (D.state device)) history drawn next
             → IfErr result (λ e. KeepsHistory (D.state device) (D.state e.device) history next) }
     {
-        let Ok(shared) = Arc::new(alloc, Shared::new()) else {
+        let Ok(shared) = Shared::new(alloc) else {
             return Err(Refused {
                 fault: Fault::OutOfMemory,
                 device,

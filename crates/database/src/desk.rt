@@ -21,8 +21,9 @@ use base::row::Row;
 use history::{Front, Origin};
 use pmem::Pmem;
 use roles::Roles;
+use std::alloc::{AllocError, Global};
 use std::hint::spin_loop;
-use std::sync::{Condvar, Mutex, MutexGuard, Wait};
+use std::sync::{Arc, Condvar, Mutex, MutexGuard, Wait};
 use std::thread;
 
 // How often in a row the committer may be refused memory while somebody waits for it.
@@ -487,8 +488,9 @@ impl<D: Pmem + Drop, J: Origin> Shared<D, J> {
     ghost use Rattle.database.specs.Opening.{IsFresh};
 
     /// There is no room yet.
-    pub fn new() -> Shared<D, J> {
-        Shared {
+    pub fn new(alloc: Global) -> Result<Arc<Shared<D, J>, Global>, AllocError> {
+        let answers = Answers::new(alloc)?;
+        let shared = Shared {
             desk: Mutex::new(Desk {
                 group: Group::new(),
                 roles: Roles::new(),
@@ -501,8 +503,12 @@ impl<D: Pmem + Drop, J: Origin> Shared<D, J> {
             commits: Condvar::new(),
             rounds: Condvar::new(),
             moved: Condvar::new(),
-            answers: Mutex::new(Answers::new()),
+            answers: Mutex::new(answers),
             answered: Condvar::new(),
+        };
+        match Arc::new(alloc, shared) {
+            Ok(shared) => Ok(shared),
+            Err(_) => Err(AllocError),
         }
     }
 
