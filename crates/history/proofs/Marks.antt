@@ -1,17 +1,40 @@
 -- What one step more leaves of the marks.
-use Rattle.std.proofs.Common.{◌≡◌, ◌≢◌, ℕ, ◌<◌, ◌≤◌, true, false, nat_eq, List, [], ◌∷◌, ◌++◌, length, replicate, slice_index, slice_set, ◌⊎◌, inl, inr, refl, ap, sym, ◌∙◌, subst, arith, Some, None}
-use Rattle.std.proofs.lemmas.List.{get_or-replicate, get_or-set_same, get_or-set_other, length-set}
+use Rattle.std.proofs.Common.{◌≡◌, ◌≢◌, ℕ, ◌<◌, ◌≤◌, Bool, true, false, nat_eq, List, [], ◌∷◌, ◌++◌, length, replicate, slice_index, slice_set, ◌⊎◌, inl, inr, refl, ap, sym, ◌∙◌, subst, arith, length-append, Some, None, drop}
+use Rattle.std.specs.Prelude.{MatchBool}
+use Rattle.std.specs.Bool.{OnTrue}
+use Rattle.std.proofs.lemmas.List.{get_or-replicate, get_or-set_same, get_or-set_other, length-set, drop-append-le}
+use Rattle.std.proofs.Math.Seq.{drop-append_seam}
 use Rattle.std.proofs.lemmas.Bool.Decides.{eqb_tells}
 use mathlib.Core.List.{IsPrefix}
 use Rattle.base.specs.declared.step.Step.{Step}
 use Rattle.machine.specs.Machine.{session_of}
 use Rattle.session_laws.specs.Logs.{is_own, own, Follows, IsQuietSince}
-use Rattle.session_laws.proofs.Logs.{mark-quiet, mark-other, mark-moved}
+use Rattle.session_laws.proofs.Logs.{own-append, mark-quiet, mark-other, mark-moved}
 use Rattle.history.specs.Marks.{AreMarked}
 
--- a mark that is where something seen ends tells that the session was quiet since
-pub follows : (s at : ℕ) (seen log : List Step) → at ≡ length seen → IsPrefix seen log → IsQuietSince s at log → Follows s seen log
-follows s at seen log is (more, whole) quiet = subst (Follows s seen) whole (mark-quiet s at seen more is (subst (IsQuietSince s at) (sym whole) quiet))
+nothing : (x y : List Step) → x ++ y ≡ [] → y ≡ []
+nothing [] y is = is
+nothing (x ∷ xs) y is = absurd (cc is)
+
+-- a session is quiet since each later place too
+later : (s at : ℕ) (seen more : List Step) → at ≤ length seen → IsQuietSince s at (seen ++ more) → IsQuietSince s (length seen) (seen ++ more)
+later s at seen more le quiet = (
+  omega (arith, length-append seen more),
+  ap (own s) (drop-append_seam seen more) ∙ nothing (own s (drop at seen)) (own s more) (sym (own-append s (drop at seen) more) ∙ (ap (own s) (sym (drop-append-le at seen more le)) ∙ quiet.1)),
+)
+
+-- a mark that isn't behind the end of something seen tells that the session was quiet since
+follows : (s at : ℕ) (seen log : List Step) → at ≤ length seen → IsPrefix seen log → IsQuietSince s at log → Follows s seen log
+follows s at seen log le (more, whole) quiet =
+    subst (Follows s seen) whole (mark-quiet s (length seen) seen more refl (later s at seen more le (subst (IsQuietSince s at) (sym whole) quiet)))
+
+-- the test of a mark
+pub follows-test : (s at n : ℕ) (last : List ℕ) (seen log front : List Step) (is : Bool) → at ≡ s → at < 64 → n ≡ length seen → slice_index last at ≤ n → AreMarked last front → front ≡ log → MatchBool is (IsPrefix seen front) (IsPrefix front seen)
+    → OnTrue is (Follows s seen log)
+follows-test s at n last seen log front true here few len low marked same begins =
+    let le : slice_index last s ≤ length seen = subst (λ (k : ℕ). slice_index last k ≤ length seen) here (subst (λ (k : ℕ). slice_index last at ≤ k) len low) in
+    subst (Follows s seen) same (follows s (slice_index last s) seen front le begins (marked.quiet s (subst (λ (k : ℕ). k < 64) here few)))
+follows-test s at n last seen log front false here few len low marked same begins = tt
 
 -- a step of no session is not its own
 of_none : (s : ℕ) (step : Step) → session_of step ≡ None → is_own s step ≡ false

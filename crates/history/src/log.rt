@@ -57,7 +57,13 @@ impl<J: Origin> Log<J> {
         ensures { OnTrue result (Follows session seen.now self.now) }
     {
         let at = usize::from(session);
-        at < 64 && self.last[at] == seen.len() && seen.begins(&self.front)
+        if at < 64 {
+            let last = self.last[at];
+            if last <= seen.len() {
+                return seen.begins(&self.front);
+            }
+        }
+        false
     }
 
     /// How long the history was after the session's last step, if that is kept: the session has made none since.

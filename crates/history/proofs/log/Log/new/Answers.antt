@@ -1,4 +1,4 @@
-use Rattle.std.proofs.Common.{ℕ, List, replicate, sym, subst}
+use Rattle.std.proofs.Common.{List, replicate, sym, subst}
 use Rattle.base.specs.declared.step.Step.{Step}
 use Rattle.history.specs.Marks.{AreMarked}
 use Rattle.history.proofs.Marks.{marked-start}
