@@ -101,8 +101,12 @@ impl<'a, D: SyncAhead + Drop, R: Wait, J: Origin> Transaction<'a, D, R, J> {
         // If it isn't kept, the transaction is what it was, at Err too.
         ensures same { J.kept ≡ false → self.new ≡ self.old }
     {
+        let seen = match &self.trace {
+            Some(_) => desk.known(self.rt),
+            None => return,
+        };
         if let Some(trace) = &mut self.trace {
-            trace.seen = desk.known(self.rt);
+            trace.seen = seen;
         }
     }
 
