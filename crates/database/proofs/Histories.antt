@@ -542,7 +542,7 @@ committed-none opened s (Some known) (Some log) p = p
 committed-none opened s (Some known) None p = p
 committed-none opened s None front p = p
 
--- the end, from where its last step before stood
+-- the end, from the place of its last step before
 pub ends-if : (s : ℕ) (last : Option ℕ) (before after : Option (List Step)) → IfSome last (λ at. IfSome before (IsQuietSince s at)) → Logs (End s ∷ []) before after → IfSome last (λ at. IfSome after (EndsOnly s at))
 ends-if s (Some at) before after quiet logs = ends-only s at before after quiet logs
 ends-if s None before after quiet logs = tt

@@ -233,7 +233,7 @@ EndsAfter opened s None log = log ≡ None
 -- Whatever the device opened as, this history can be made from there. It goes on from what the transaction had seen, and of the session it then
 -- has the draw of this timestamp, its stamps and its end, and no other step. So its commit has exactly what the session wrote since its begin
 -- (`transactions_add_up` of `session_laws`).
--- Excluded: a commit of a session that was aborted and begun anew; a timestamp that another draw drew; a write behind the caller's back.
+-- Excluded: a commit of a session that was aborted and begun again; a timestamp that another draw drew; a write behind the caller's back.
 abbrev pub CommitsIn : Device → ℕ → Known → ℕ → List Step → Type 0
 CommitsIn opened s known t log =
     OfEachStart opened (λ history start. IsFirst history start × AreMade start log × Commits start (record { session = s; begun = known.begun; seen = known.seen }) t log)
@@ -245,7 +245,7 @@ HasCommitted opened s (Some known) None (Some log) = GoesOnWith s (Draw s ∷ En
 HasCommitted opened s (Some known) t None = ⊥
 HasCommitted opened s None t log = log ≡ None
 
--- ---- a close
+-- ---- closing
 
 -- If the history is kept, it can be made from whatever the device opened as, and each image that a crash now leaves covers all that was covered and
 -- drawn in the state that it leads to.
