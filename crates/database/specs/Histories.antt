@@ -1,6 +1,5 @@
 -- How the history goes on: the log of the steps that the room under the lock has made since its device was opened.
-use Rattle.std.specs.Prelude.{ℕ, ◌≡◌, ◌≤◌, Bool, true, false, List, [], ◌∷◌, ◌++◌, map, replicate, length, drop, IsTrue, Option, Some, None, Result, Ok, Err, ⊤}
-use Rattle.std.specs.List.{list_all}
+use Rattle.std.specs.Prelude.{ℕ, ◌≡◌, ◌≤◌, Bool, true, false, List, [], ◌∷◌, ◌++◌, map, replicate, length, drop, Option, Some, None, Result, Ok, Err, ⊤}
 use Rattle.base.specs.declared.fault.Fault.{Fault}
 use Rattle.base.specs.declared.key.Key.{Key}
 use Rattle.base.specs.declared.step.Step.{Step}
@@ -13,10 +12,9 @@ use Rattle.pmem.specs.Words.{image_of}
 use Rattle.room.specs.Runs.{InEach}
 use Rattle.session_laws.specs.Laws.{IsFirst}
 use Rattle.session_laws.specs.Logs.{state_after, AreMade, own, Follows}
-use Rattle.session_laws.specs.Transactions.{Open, Commits}
+use Rattle.session_laws.specs.Transactions.{Commits}
 use Rattle.database.specs.Closing.{IsClosed}
 use Rattle.database.specs.declared.error.CommitError.{CommitError}
-use Rattle.database.specs.declared.error.CommitError.TheVariants.{Refused, Open as IsOpen}
 
 -- ---- under the lock
 
