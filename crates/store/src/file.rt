@@ -1,7 +1,8 @@
 //! Opening a store writes to its file. A caller that takes only some layouts looks at the file's layout first.
 
 ghost use Rattle.pmem.specs.Device.{restarted};
-ghost use Rattle.pmem.specs.Words.{image_of};
+ghost use Rattle.log_area.specs.Rulings.{IsLaidOut};
+ghost use Rattle.pmem.specs.Words.{IsAtRest, image_of};
 ghost use Rattle.pmem_file.specs.Devices.{places_of, state_of};
 ghost use Rattle.store.specs.Files.{IsFoundWith};
 
@@ -23,7 +24,8 @@ pub struct StoreFile {
     name: String,
     device: Device,
     layout: Geometry,
-    ghost found: { IsFoundWith layout (state_of device) },
+    ghost rest: { IsAtRest (state_of device) },
+    ghost laid_out: { IsLaidOut layout (image_of (state_of device)) },
 }
 
 impl StoreFile {

@@ -83,6 +83,8 @@ pub fn find_file<R: Files<File = File>>(
     // The device is at rest and its image has the layout that is handed out. Nothing was done to it since it was opened. It has
     // the places of that layout.
     ensures found { IfOk result (λ found. IsFoundWith found.1 (state_of found.0)) }
+    ensures rest { IfOk result (λ found. IsAtRest (state_of found.0)) }
+    ensures layout { IfOk result (λ found. IsLaidOut found.1 (image_of (state_of found.0))) }
     ensures untouched { IfOk result (λ found. state_of found.0 ≡ restarted (image_of (state_of found.0))) }
     ensures places { IfOk result (λ found. places_of found.0 ≡ found.1.places) }
 {
