@@ -24,7 +24,9 @@ impl<R: Wait + Drop> Program<Device, R> for Twice {
     ) -> Result<Saw, Fault> {
         let (begun, first, ended) = commit_once(&database, 1)?;
         let (begun_later, second, ended_later) = commit_once(&database, 2)?;
-        let is_one = begun.begins(&ended) && ended.begins(&begun_later) && begun_later.begins(&ended_later);
+        let is_one = begun.begins(&ended)
+            && ended.begins(&begun_later)
+            && begun_later.begins(&ended_later);
         let lengths = [
             begun.len(),
             ended.len(),
@@ -45,7 +47,10 @@ fn commit_once<R: Wait + Drop, J: Origin>(
         return Err(Fault::WrongState);
     };
     transaction.put(KEY, row(number)?)?;
-    let done = transaction.commit_known()?;
+    let done = match transaction.commit_known() {
+        Ok(done) => done,
+        Err(refused) => return Err(refused.fault()),
+    };
     let Some(ended) = done.front else {
         return Err(Fault::WrongState);
     };

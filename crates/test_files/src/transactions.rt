@@ -50,8 +50,9 @@ pub fn found(alloc: Global, storage: MemoryStorage, file: (usize, usize)) -> Res
 pub fn fresh(alloc: Global, slots: u64) -> Result<Vec<u64>, Fault> {
     let geometry = Geometry::new(slots, PLACES as u64, 64)?;
     let words = geometry.words() as usize;
-    let room = words / 8 * 9 + 16;
-    let Ok(zeros) = vec![in alloc; 0; words + room + 8] else {
+    let room = (words / 8).saturating_mul(9).saturating_add(16);
+    let length = words.saturating_add(room).saturating_add(8);
+    let Ok(zeros) = vec![in alloc; 0; length] else {
         return Err(Fault::OutOfMemory);
     };
     let mut device = found(alloc, MemoryStorage::new(zeros), (words, room))?;
