@@ -16,12 +16,16 @@ struct Twice;
 type Saw = (Option<Ts>, Option<Ts>, [u64; 4], bool);
 
 impl<R: Wait + Drop> Program<Device, R> for Twice {
+    ghost use Rattle.std.specs.Prelude.{◌≡◌, true};
+
     type Answer = Result<Saw, Fault>;
 
     fn run<J: Origin + Send + Sync + 'static>(
         self,
         database: Database<Device, R, J>,
-    ) -> Result<Saw, Fault> {
+    ) -> Result<Saw, Fault>
+        requires kept { J.kept ≡ true }
+    {
         let (begun, first, ended) = commit_once(&database, 1)?;
         let (begun_later, second, ended_later) = commit_once(&database, 2)?;
         let is_one = begun.begins(&ended)
