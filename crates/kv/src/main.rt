@@ -4,7 +4,6 @@
 
 mod answers;
 mod command;
-mod failure;
 mod help;
 mod input;
 mod listing;
@@ -14,9 +13,11 @@ mod opening;
 mod options;
 mod pages;
 mod progress;
+mod refusal;
 mod rows;
 mod session;
 mod shell;
+mod statistics;
 mod words;
 mod work;
 

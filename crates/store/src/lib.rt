@@ -26,7 +26,6 @@
 #![tactic(auto)]
 
 mod error;
-mod file;
 mod files;
 mod layout;
 mod ranges;
@@ -42,10 +41,8 @@ pub use base::key::Key;
 pub use base::row::Row;
 pub use database::Page;
 pub use error::{Layout, Part, StoreError};
-pub use file::StoreFile;
-pub use files::{Device, Refusal, open_database};
+pub use files::{Device, Refusal, find_file, open_database, open_file};
 pub use layout::standard_layout;
-pub use pmem_file::OpenError;
 pub use reading::Snapshot;
 pub use row::{RowExt, key};
 pub use status::Status;
