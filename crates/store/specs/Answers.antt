@@ -14,6 +14,7 @@ use Rattle.database.specs.Obeys.{AnswersStep}
 use Rattle.database.specs.declared.error.CommitError.{CommitError}
 use Rattle.database.specs.declared.error.CommitError.TheVariants.{Refused, Open}
 use Rattle.database.specs.Committing.{AnswersPut, AnswersWrites, IsPrepared, MeetsConflictOn, ReportsError, ReportsUnwritten}
+use Rattle.database.specs.Histories.{Known, DoesWrites}
 use Rattle.store.specs.declared.error.StoreError.{StoreError}
 use Rattle.store.specs.Errors.{error_of, commit_error}
 
@@ -55,6 +56,11 @@ Puts session key row limit (Err error) = (fault : Fault) × (error ≡ put_error
 abbrev pub MakesWrites : ℕ → List (Key × Option (List ℕ)) → ℕ → Result ⊤ StoreError → Type 0
 MakesWrites session writes limit (Ok done) = AnswersWrites session writes (Ok done)
 MakesWrites session writes limit (Err error) = (fault : Fault) × (error ≡ put_error limit fault) × AnswersWrites session writes (Err fault)
+
+-- Of the session the history has these writes, or those before the one that was refused, and no other step
+abbrev pub WritesIn : ℕ → List (Key × Option (List ℕ)) → Result ⊤ StoreError → Option Known → Option Known → Type 0
+WritesIn session writes (Ok done) old new = DoesWrites session writes (Ok done) old new
+WritesIn session writes (Err error) old new = (fault : Fault) × DoesWrites session writes (Err fault) old new
 
 -- the error for writes that aren't kept, or of which only the next opening shows whether they are
 abbrev pub write_error : ℕ → CommitError → StoreError

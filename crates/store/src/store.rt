@@ -24,9 +24,10 @@ use base::fault::Fault;
 use base::geometry::Geometry;
 use base::key::Key;
 use base::row::Row;
-use database::{CommitError, Database, Refused};
+use database::{CommitError, Database, Origin, Refused};
 use std::alloc::Global;
 use std::fs::File;
+use std::marker::Brand;
 use std::rt::Files;
 use std::sync::Wait;
 use std::thread::Threads;
@@ -44,10 +45,10 @@ enum Attempt<T> {
 
 /// A store of rows in a file. Threads share it by reference. A drop leaves the file as a crash would: what was committed is kept.
 #[derive(Drop)]
-pub struct Store<R: Wait + Drop> {
+pub struct Store<R: Wait + Drop, J: Origin = Brand> {
     alloc: Global,
     name: String,
-    database: Database<Device, R>,
+    database: Database<Device, R, J>,
     // It never changes, so a begin takes no lock for it.
     layout: Geometry,
     ghost laid_out: { ComesTo (λ q. layout ≡ q.layout) },
@@ -105,7 +106,11 @@ impl<R: Files<File = File> + Threads + Wait + Copy + Drop + Send + Sync + 'stati
 }
 
 /// The store over this database.
-pub fn over<R: Wait + Drop>(alloc: Global, name: String, database: Database<Device, R>) -> Store<R>
+pub fn over<R: Wait + Drop, J: Origin>(
+    alloc: Global,
+    name: String,
+    database: Database<Device, R, J>,
+) -> Store<R, J>
     ensures { result.name ≡ name }
 {
     let layout = database.geometry();
@@ -152,12 +157,13 @@ fn refused(name: String, geometry: Geometry, fault: Fault) -> StoreError
     }
 }
 
-impl<R: Wait + Drop> Store<R> {
+impl<R: Wait + Drop, J: Origin> Store<R, J> {
     ghost use Rattle.std.specs.Prelude.{◌≡◌, ◌-◌, Ok, Err, IfOk, IfErr, OnOk};
     ghost use Rattle.std.specs.String.{string_bytes};
     ghost use Rattle.base.specs.Layout.{row_limit};
     ghost use Rattle.base.specs.declared.step.Step.TheVariants.{Begin};
     ghost use Rattle.room.specs.Runs.{ComesTo};
+    ghost use Rattle.database.specs.Histories.{HasBegun};
     ghost use Rattle.database.specs.Replies.{began_of};
     ghost use Rattle.database.specs.Committing.{ReportsWritten};
     ghost use Rattle.store.specs.Answers.{Answers, IsUnwritten};
@@ -169,7 +175,7 @@ impl<R: Wait + Drop> Store<R> {
     /// nothing was written. After a conflict it tries again, on the rows as the other commit left them. After any other error,
     /// including the changes' own, nothing is kept, unless the error is `Unknown`. It waits for a sync of the file, as a commit
     /// does.
-    pub fn transact<T: Drop, F: Drop + FnMut(&mut Transaction<'_, R>) -> Result<T, StoreError>>(
+    pub fn transact<T: Drop, F: Drop + FnMut(&mut Transaction<'_, R, J>) -> Result<T, StoreError>>(
         &self,
         changes: F,
     ) -> Result<(T, Option<Ts>), StoreError>
@@ -193,7 +199,7 @@ impl<R: Wait + Drop> Store<R> {
     /// The same with at most this many tries instead of a thousand. If the number is 0, it tries once.
     pub fn transact_within<
         T: Drop,
-        F: Drop + FnMut(&mut Transaction<'_, R>) -> Result<T, StoreError>,
+        F: Drop + FnMut(&mut Transaction<'_, R, J>) -> Result<T, StoreError>,
     >(&self, tries: u64, mut changes: F) -> Result<(T, Option<Ts>), StoreError>
         requires callable { F.IsAlwaysCallable changes }
 
@@ -216,7 +222,7 @@ impl<R: Wait + Drop> Store<R> {
     }
 
     // One try: makes the changes in a transaction of their own, and commits it.
-    fn attempt<T: Drop, F: Drop + FnMut(&mut Transaction<'_, R>) -> Result<T, StoreError>>(
+    fn attempt<T: Drop, F: Drop + FnMut(&mut Transaction<'_, R, J>) -> Result<T, StoreError>>(
         &self,
         changes: &mut F,
     ) -> Result<Attempt<T>, StoreError>
@@ -243,9 +249,13 @@ impl<R: Wait + Drop> Store<R> {
 
     /// Begins a transaction, which reads the rows that are committed now, and what it writes itself. At most 62 transactions and snapshots
     /// can be open: another one is refused with `TooManyTransactions`. It waits as a read does.
-    pub fn begin(&self) -> Result<Transaction<'_, R>, StoreError>
+    pub fn begin(&self) -> Result<Transaction<'_, R, J>, StoreError>
         // A run ends in this call's Begin, and its reply has the number of the session.
         ensures ok { IfOk result (λ transaction. Answers Begin began_of (Ok transaction.snapshot.reads.session)) }
+
+        // If the history is kept, the transaction knows it up to this Begin, and its session is the one that was free then. It has
+        // made no step since.
+        ensures begun { IfOk result (λ transaction. HasBegun J.opened J.kept transaction.snapshot.reads.session transaction.snapshot.reads.trace) }
 
         // The transaction knows the greatest length of a row in a state that a run comes to.
         ensures limit { IfOk result (λ transaction. ComesTo (λ q. transaction.row_limit ≡ row_limit q.layout.version)) }
@@ -261,10 +271,13 @@ impl<R: Wait + Drop> Store<R> {
 
     /// A snapshot of the rows that are committed now, which can be read until it is dropped. It counts among the 62 too. It waits as a
     /// read does.
-    pub fn read(&self) -> Result<Snapshot<'_, R>, StoreError>
+    pub fn read(&self) -> Result<Snapshot<'_, R, J>, StoreError>
         // A run ends in this call's Begin. Its reply has the number of the session, or the fault from which the error is made.
         ensures ok { IfOk result (λ snapshot. Answers Begin began_of (Ok snapshot.reads.session)) }
         ensures err { IfErr result (λ error. Answers Begin began_of (Err error)) }
+
+        // As for `begin`.
+        ensures begun { IfOk result (λ snapshot. HasBegun J.opened J.kept snapshot.reads.session snapshot.reads.trace) }
     {
         Ok(Snapshot {
             alloc: self.alloc,
