@@ -610,12 +610,12 @@ does-writes-in s writes result old new here mid there before after attends keeps
     does-writes s writes result old new (log_in here) (log_in there) attends (turned (LogsWrites s writes result) here mid there before after is logs same gone) keeps
 
 -- a preparation
-pub prepares-in : {D J : Type 0} {G : Ghosts D} {O : Origins J} (opened : Device) (s : ℕ) (known : Option Known) (result : Result (Option ℕ) CommitError) (front : Option (List Step)) (here mid there : Option (OpenedRoom D J G O)) (before after : OpenedRoom D J G O)
-    → Attends s known (log_in here) → KnownIf (is_some known) (log_in there) front → mid ≡ Some before → LogsPrepared s result before.log after.log → DrewNext opened before.log result → here ≡ mid → there ≡ Some after
+pub prepares-in : {D J : Type 0} {G : Ghosts D} {O : Origins J} (opened : Device) (s : ℕ) (known : Option Known) (result : Result (Option ℕ) CommitError) (is_kept : Bool) (front : Option (List Step)) (here mid there : Option (OpenedRoom D J G O)) (before after : OpenedRoom D J G O)
+    → Attends s known (log_in here) → KnownIf is_kept (log_in there) front → is_kept ≡ is_some known → mid ≡ Some before → LogsPrepared s result before.log after.log → DrewNext opened before.log result → here ≡ mid → there ≡ Some after
     → IfOk result (λ drawn. PreparesAfter opened s known drawn front)
-prepares-in opened s known result front here mid there before after attends kept is logs next same gone =
+prepares-in opened s known result is_kept front here mid there before after attends kept so is logs next same gone =
     prepares-after opened s known result (log_in here) (log_in there) front attends (turned (LogsPrepared s result) here mid there before after is logs same gone)
-    (in-log (λ (l : Option (List Step)). DrewNext opened l result) (Some before) here next (sym (same ∙ is))) kept
+    (in-log (λ (l : Option (List Step)). DrewNext opened l result) (Some before) here next (sym (same ∙ is))) (subst (λ (b : Bool). KnownIf b (log_in there) front) so kept)
 
 -- a begin
 pub begins-in : {D J : Type 0} {G : Ghosts D} {O : Origins J} (opened : Device) (is_kept : Bool) (n : ℕ) (before front : Option (List Step)) (here there : Option (OpenedRoom D J G O)) → Logs (Begin ∷ []) before (log_in here) → TookFree opened before (Ok n)

@@ -1,4 +1,4 @@
-use Rattle.std.proofs.Common.{◌∙◌, inr, refl, subst, sym, true≢false}
+use Rattle.std.proofs.Common.{◌∙◌, ap, inr, refl, subst, sym, true≢false}
 use Rattle.std.specs.Prelude.{Err}
 use Rattle.base.specs.declared.fault.Fault.TheVariants.{WindowFull}
 use Rattle.database.specs.declared.error.CommitError.TheVariants.{Refused}
@@ -31,5 +31,5 @@ returns-then-lacks_memory-clause-err g c = inr (inr (
 
 pub returns-then-not-is_full-clause-history : goal.returns-then-not-is_full-clause-history
 returns-then-not-is_full-clause-history g c =
-    prepares-in g.J.Origin.opened c.args.session c.args.trace.now c.prepare-prepared.result c.known_if-front.result _ _ _ c.in-Some-room.room c.prepare-prepared.new.room c.attend.ensures c.known_if-front.ensures c.in-Some-room.is
-    c.prepare-prepared.ensures.log c.prepare-prepared.ensures.next (cc) (cc)
+    prepares-in g.J.Origin.opened c.args.session c.args.trace.now c.prepare-prepared.result c.is_some.result c.known_if-front.result c.deref-in-loop.result.now.room _ c.deref-then-not-is_full.result.now.room c.in-Some-room.room c.prepare-prepared.new.room
+    c.attend.ensures c.known_if-front.ensures c.is_some.ensures c.in-Some-room.is c.prepare-prepared.ensures.log c.prepare-prepared.ensures.next (cc) (ap (λ d. d.room) c.deref-then-not-is_full.ensures)

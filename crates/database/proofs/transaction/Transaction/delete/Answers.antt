@@ -1,3 +1,4 @@
+use Rattle.std.proofs.Common.{ap}
 use Rattle.database.specs.Replies.{done_of}
 use Rattle.database.proofs.Runs.{answers-step}
 use Rattle.std.specs.Prelude.{is_ok}
@@ -13,5 +14,5 @@ returns-clause-made g c =
 pub returns-clause-does : goal.returns-clause-does
 returns-clause-does g c =
     let steps = made_if (is_ok c.delete-returned.result) (Delete c.args.self.now.session c.args.key) in
-    does-in c.args.self.now.session steps c.args.self.now.trace _ _ _ _ c.in-Some.room c.delete-returned.new.room c.attend.ensures c.keep.ensures.trace c.in-Some.is
-    (delete-own c.args.self.now.session c.args.key c.delete-returned.result _ _ c.delete-returned.ensures.log) (cc) (cc)
+    does-in c.args.self.now.session steps c.args.self.now.trace c.keep.new.self.trace c.deref-2.result.now.room _ c.deref-3.result.now.room c.in-Some.room c.delete-returned.new.room c.attend.ensures c.keep.ensures.trace c.in-Some.is
+    (delete-own c.args.self.now.session c.args.key c.delete-returned.result _ _ c.delete-returned.ensures.log) (cc) (ap (λ d. d.room) c.deref-3.ensures)

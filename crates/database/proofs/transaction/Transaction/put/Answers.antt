@@ -1,3 +1,4 @@
+use Rattle.std.proofs.Common.{ap}
 use Rattle.database.proofs.Reporting.{answers-put}
 use Rattle.std.specs.Prelude.{is_ok}
 use Rattle.base.specs.declared.step.Step.TheVariants.{Put}
@@ -12,4 +13,4 @@ returns-clause-made g c =
 pub returns-clause-does : goal.returns-clause-does
 returns-clause-does g c =
     let steps = made_if (is_ok c.put_collecting-returned.result) (Put c.args.self.now.session c.args.key c.args.row) in
-    does-in c.args.self.now.session steps c.args.self.now.trace _ _ _ _ c.in-Some.room c.put_collecting-returned.new.room c.attend.ensures c.keep.ensures.trace c.in-Some.is c.put_collecting-returned.ensures.log (cc) (cc)
+    does-in c.args.self.now.session steps c.args.self.now.trace c.keep.new.self.trace c.deref-2.result.now.room _ c.deref-3.result.now.room c.in-Some.room c.put_collecting-returned.new.room c.attend.ensures c.keep.ensures.trace c.in-Some.is c.put_collecting-returned.ensures.log (cc) (ap (λ d. d.room) c.deref-3.ensures)
