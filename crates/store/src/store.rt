@@ -24,7 +24,7 @@ use base::fault::Fault;
 use base::geometry::Geometry;
 use base::key::Key;
 use base::row::Row;
-use database::{CommitError, Database, Origin, Refused};
+use database::{Closed, CommitError, Database, Front, Origin, Refused};
 use std::alloc::Global;
 use std::fs::File;
 use std::marker::Brand;
@@ -167,8 +167,8 @@ impl<R: Wait + Drop, J: Origin> Store<R, J> {
     ghost use Rattle.database.specs.Replies.{began_of};
     ghost use Rattle.database.specs.Committing.{ReportsWritten};
     ghost use Rattle.store.specs.Answers.{Answers, IsUnwritten};
-    ghost use Rattle.store.specs.Opening.{IsCovered, IsClosingError};
-    ghost use Rattle.store.specs.Trying.{CommitsWithin, FailsWithin, Fails, EndsTry};
+    ghost use Rattle.store.specs.Opening.{IsCovered, IsCoveredAfter, IsClosingError};
+    ghost use Rattle.store.specs.Trying.{CommitsInHistory, CommitsWithin, FailsWithin, Fails, EndsTry};
     ghost use Rattle.store.specs.Status.{ShowsStore};
 
     /// Makes the changes in one transaction and commits it. It returns what the changes return, and the timestamp, or `None` if
@@ -185,8 +185,9 @@ impl<R: Wait + Drop, J: Origin> Store<R, J> {
         // The changes were called once for each try, a thousand at most, each time on a transaction that was begun for it. In
         // each try but the last, the draw of its session was refused for a conflict. By then what was drawn is covered, or the
         // committer has ended, or a tick was refused memory. In the last try the changes returned the value that is returned, and
-        // the session's commit returned the timestamp, as `Transaction::commit` says.
-        ensures ok { IfOk result (λ done. CommitsWithin F.step (λ lent. lent.now.snapshot.reads.session) 1000 changes done.0 done.1) }
+        // the session's commit returned the timestamp, as `Transaction::commit` says. If the history is kept, the begin of that
+        // try is in it, and then the commit, as `begin` and `Transaction::commit_known` say.
+        ensures ok { IfOk result (λ done. CommitsWithin F.step (λ lent. lent.now.snapshot.reads.session) (λ lent left timestamp. CommitsInHistory J.opened J.kept (lent.now.snapshot.reads.session, lent.now.snapshot.reads.trace) (left.now.snapshot.reads.session, left.now.snapshot.reads.trace) timestamp) 1000 changes done.0 done.1) }
 
         // After some such tries in vain, or none, no transaction was begun. Or the changes returned this error, and the session's
         // abort was made. Or its commit was refused, but not for a conflict. Or all tries that were allowed were in vain, the
@@ -204,7 +205,7 @@ impl<R: Wait + Drop, J: Origin> Store<R, J> {
         requires callable { F.IsAlwaysCallable changes }
 
         // As for `transact`.
-        ensures ok { IfOk result (λ done. CommitsWithin F.step (λ lent. lent.now.snapshot.reads.session) tries changes done.0 done.1) }
+        ensures ok { IfOk result (λ done. CommitsWithin F.step (λ lent. lent.now.snapshot.reads.session) (λ lent left timestamp. CommitsInHistory J.opened J.kept (lent.now.snapshot.reads.session, lent.now.snapshot.reads.trace) (left.now.snapshot.reads.session, left.now.snapshot.reads.trace) timestamp) tries changes done.0 done.1) }
         ensures err { IfErr result (FailsWithin F.step (λ lent. lent.now.snapshot.reads.session) tries changes) }
     {
         for _made in 1..tries {
@@ -228,13 +229,13 @@ impl<R: Wait + Drop, J: Origin> Store<R, J> {
     ) -> Result<Attempt<T>, StoreError>
         requires callable { F.IsAlwaysCallable changes.old }
         ensures callable { F.IsAlwaysCallable changes.new }
-        ensures ok { IfOk result (λ attempt. EndsTry F.step (λ lent. lent.now.snapshot.reads.session) changes.old attempt changes.new) }
+        ensures ok { IfOk result (λ attempt. EndsTry F.step (λ lent. lent.now.snapshot.reads.session) (λ lent left timestamp. CommitsInHistory J.opened J.kept (lent.now.snapshot.reads.session, lent.now.snapshot.reads.trace) (left.now.snapshot.reads.session, left.now.snapshot.reads.trace) timestamp) changes.old attempt changes.new) }
         ensures err { IfErr result (Fails F.step (λ lent. lent.now.snapshot.reads.session) changes.old) }
     {
         let mut transaction = self.begin()?;
         match changes(&mut transaction) {
-            Ok(value) => match transaction.commit() {
-                Ok(timestamp) => Ok(Attempt::Committed(value, timestamp)),
+            Ok(value) => match transaction.commit_known() {
+                Ok(done) => Ok(Attempt::Committed(value, done.timestamp)),
                 Err(error) => match error {
                     StoreError::Conflict(key) => Ok(Attempt::Conflict(key)),
                     error => Err(error),
@@ -341,10 +342,23 @@ impl<R: Wait + Drop, J: Origin> Store<R, J> {
         // this cause, or all is covered and closing the file itself failed.
         ensures err { IfErr result (IsClosingError (string_bytes self.name)) }
     {
+        match self.close_known() {
+            Ok(_) => Ok(()),
+            Err(error) => Err(error),
+        }
+    }
+
+    /// The same, and returns the history up to there, if that is kept.
+    pub fn close_known(self) -> Result<Option<Front<J>>, StoreError>
+        // As for `close`. And if the history is kept, what is returned can be made from whatever the device opened as, and all that was
+        // covered and drawn in the state that it leads to is covered.
+        ensures ok { IfOk result (IsCoveredAfter J.opened J.kept) }
+        ensures err { IfErr result (IsClosingError (string_bytes self.name)) }
+    {
         let Store { name, database, .. } = self;
-        match database.close() {
-            Ok(device) => match device.close() {
-                Ok(_) => Ok(()),
+        match database.close_known() {
+            Ok(Closed { device, front }) => match device.close() {
+                Ok(_) => Ok(front),
                 Err(cause) => Err(StoreError::Lost { name, cause }),
             },
             Err(Refused { fault, device }) => Err(not_closed(name, device, fault)),
