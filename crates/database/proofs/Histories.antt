@@ -1,6 +1,6 @@
 -- What a room's steps leave of its log.
-use Rattle.std.proofs.Common.{◌≡◌, ◌⊎◌, inl, inr, ℕ, ◌+◌, ◌≤◌, zero, suc, Bool, true, false, if◌then◌else◌, List, [], ◌∷◌, ◌++◌, length, drop, replicate, refl, sym, ◌∙◌, ap, subst, arith, append_assoc, length-append, Some, None}
-use Rattle.std.specs.Prelude.{⊤, Option, Result, Ok, Err, is_ok, is_some, map, unwrap_or, IfSome, IfOk, IsTrue}
+use Rattle.std.proofs.Common.{◌≡◌, inl, inr, ℕ, ◌+◌, zero, suc, Bool, true, false, if◌then◌else◌, List, [], ◌∷◌, ◌++◌, length, drop, replicate, refl, sym, ◌∙◌, ap, subst, arith, append_assoc, length-append, Some, None}
+use Rattle.std.specs.Prelude.{⊤, Option, Result, Ok, Err, is_ok, is_some, map, unwrap_or, IfSome, IfOk}
 use Rattle.std.specs.List.{list_all}
 use Rattle.std.specs.Option.{ForSome}
 use Rattle.std.proofs.Math.Logic.{∥∥₁_map, ∥∥₁_map₂}
@@ -9,24 +9,23 @@ use mathlib.Core.List.{IsPrefix}
 use Rattle.std.proofs.lemmas.Bool.{eq-eqb}
 use Rattle.std.proofs.lemmas.List.{append-nil, map-append, drop-append-le, replicate_more}
 use Rattle.base.specs.Batches.{Batch}
-use Rattle.base.specs.Commits.{Commit}
 use Rattle.base.specs.declared.fault.Fault.{Fault}
 use Rattle.base.specs.declared.fault.Fault.TheVariants.{OutOfMemory, Device as DeviceFault}
 use Rattle.base.specs.declared.key.Key.{Key}
 use Rattle.base.specs.declared.step.Step.{Step}
-use Rattle.base.specs.declared.step.Step.TheVariants.{Begin, Get, Scan, Put, Delete, Draw, Stamp, Poll, Abort, End, Commit as CommitTick, Collect}
+use Rattle.base.specs.declared.step.Step.TheVariants.{Begin, Scan, Put, Delete, Draw, Stamp, Abort, End, Commit as CommitTick, Collect}
 use Rattle.base.specs.declared.step.Reply.{Reply}
 use Rattle.base.specs.declared.step.Reply.TheVariants.{Began, Done, Drawn as DrewAs, Refused}
 use Rattle.base.specs.Lists.{is_nil}
 use Rattle.base.specs.Steps.{as_reply}
 use Rattle.machine.specs.Machine.{State, Stepped, refused, answered, memory_refused, device_failed, free_session, writes_of}
 use Rattle.machine.proofs.Failures.{failed-refuses}
-use Rattle.pmem.specs.Device.{Device, IsOrderly}
+use Rattle.pmem.specs.Device.{Device}
 use Rattle.pmem.specs.Words.{image_of}
 use Rattle.pmem.specs.declared.device.Pmem.{Ghosts}
 use Rattle.room.specs.declared.room.Room.{Room}
 use Rattle.room.specs.Room.{Shows, Leads, device_of}
-use Rattle.room.specs.Runs.{InEach, LeadsAlong, RunOver, visited_from}
+use Rattle.room.specs.Runs.{LeadsAlong, RunOver, visited_from}
 use Rattle.room.proofs.Runs.{leads-one, over-weaken}
 use Rattle.room.specs.declared.ticks.Tick.{Tick}
 use Rattle.room.specs.declared.ticks.Tick.TheVariants as came
@@ -38,7 +37,7 @@ use Rattle.session_steps.specs.Replies.{began, done, drawn, stamped}
 use Rattle.session_steps.specs.Reads.{WouldReply, ReadsPage}
 use Rattle.session_steps.specs.declared.parts.Page.{Page}
 use Rattle.session_laws.specs.Laws.{IsFirst}
-use Rattle.session_laws.specs.Logs.{state_after, AreMade, own, changes, Follows, IsQuietSince}
+use Rattle.session_laws.specs.Logs.{state_after, AreMade, own, changes, IsQuietSince}
 use Rattle.session_laws.specs.Transactions.{Commits}
 use Rattle.session_laws.proofs.Logs.{own-append}
 use Rattle.session_laws.proofs.Sessions.{begins-fresh}
@@ -542,7 +541,7 @@ committed-none opened s (Some known) (Some log) p = p
 committed-none opened s (Some known) None p = p
 committed-none opened s None front p = p
 
--- the end, from where its last step before stood
+-- the end, from the place of its last step before
 pub ends-if : (s : ℕ) (last : Option ℕ) (before after : Option (List Step)) → IfSome last (λ at. IfSome before (IsQuietSince s at)) → Logs (End s ∷ []) before after → IfSome last (λ at. IfSome after (EndsOnly s at))
 ends-if s (Some at) before after quiet logs = ends-only s at before after quiet logs
 ends-if s None before after quiet logs = tt

@@ -1,6 +1,5 @@
 -- How the history goes on: the log of the steps that the room under the lock has made since its device was opened.
-use Rattle.std.specs.Prelude.{ℕ, ◌≡◌, ◌≤◌, Bool, true, false, List, [], ◌∷◌, ◌++◌, map, replicate, length, drop, IsTrue, Option, Some, None, Result, Ok, Err, ⊤}
-use Rattle.std.specs.List.{list_all}
+use Rattle.std.specs.Prelude.{ℕ, ◌≡◌, ◌≤◌, Bool, true, false, List, [], ◌∷◌, ◌++◌, map, replicate, length, drop, Option, Some, None, Result, Ok, Err, ⊤}
 use Rattle.base.specs.declared.fault.Fault.{Fault}
 use Rattle.base.specs.declared.key.Key.{Key}
 use Rattle.base.specs.declared.step.Step.{Step}
@@ -13,10 +12,9 @@ use Rattle.pmem.specs.Words.{image_of}
 use Rattle.room.specs.Runs.{InEach}
 use Rattle.session_laws.specs.Laws.{IsFirst}
 use Rattle.session_laws.specs.Logs.{state_after, AreMade, own, Follows}
-use Rattle.session_laws.specs.Transactions.{Open, Commits}
+use Rattle.session_laws.specs.Transactions.{Commits}
 use Rattle.database.specs.Closing.{IsClosed}
 use Rattle.database.specs.declared.error.CommitError.{CommitError}
-use Rattle.database.specs.declared.error.CommitError.TheVariants.{Refused, Open as IsOpen}
 
 -- ---- under the lock
 
@@ -233,7 +231,7 @@ EndsAfter opened s None log = log ≡ None
 -- Whatever the device opened as, this history can be made from there. It goes on from what the transaction had seen, and of the session it then
 -- has the draw of this timestamp, its stamps and its end, and no other step. So its commit has exactly what the session wrote since its begin
 -- (`transactions_add_up` of `session_laws`).
--- Excluded: a commit of a session that was aborted and begun anew; a timestamp that another draw drew; a write behind the caller's back.
+-- Excluded: a commit of a session that was aborted and begun again; a timestamp that another draw drew; a write behind the caller's back.
 abbrev pub CommitsIn : Device → ℕ → Known → ℕ → List Step → Type 0
 CommitsIn opened s known t log =
     OfEachStart opened (λ history start. IsFirst history start × AreMade start log × Commits start (record { session = s; begun = known.begun; seen = known.seen }) t log)
@@ -245,7 +243,7 @@ HasCommitted opened s (Some known) None (Some log) = GoesOnWith s (Draw s ∷ En
 HasCommitted opened s (Some known) t None = ⊥
 HasCommitted opened s None t log = log ≡ None
 
--- ---- a close
+-- ---- closing
 
 -- If the history is kept, it can be made from whatever the device opened as, and each image that a crash now leaves covers all that was covered and
 -- drawn in the state that it leads to.

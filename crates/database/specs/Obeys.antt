@@ -1,5 +1,5 @@
--- What a call does to a room. A database keeps no history: the room under its lock carries with it that there is one. A contract can't
--- relate what a lock holds to anything outside it, so it isn't excluded that the run is another database's.
+-- What a call does to a room. The room under a database's lock carries with it that it shows the end of a run. A contract can't relate what a
+-- lock holds to anything outside it, except by a name in its type. So these facts alone don't exclude that the run is another database's.
 use Rattle.std.specs.Prelude.{◌≡◌, ◌≢◌, ◌⊎◌, ℕ, ◌+◌, Bool, true, List, [], ◌∷◌, length, map, replicate, ⊤, Option, Some, None, Result, Ok, Err}
 use Rattle.base.specs.declared.fault.Fault.{Fault}
 use Rattle.base.specs.declared.fault.Fault.TheVariants.{SlotsOut}

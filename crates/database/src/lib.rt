@@ -10,7 +10,7 @@
 //! A database that `run_kept` opens keeps its history, by name: the log of the steps that its room has made since the device was
 //! opened. What its calls say names that log. A transaction knows it up to its begin and up to its own last step. What it
 //! reads are the replies in the state that the log leads to. `commit_known` returns the log up to the transaction's end, and
-//! `close_known` up to the close. Nothing is stored for it but numbers. A program that wants it is a `Program`.
+//! `close_known` up to the close. Nothing is stored for it but numbers. A program that needs it is a `Program`.
 //!
 //! After a Conflict, begin again: the commit in the way is covered by then. A transaction that is dropped is aborted, and one
 //! that only reads needs no commit. `JournaledPmem::open` keeps the layout of a file that exists. If the file is missing or

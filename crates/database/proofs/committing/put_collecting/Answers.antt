@@ -1,7 +1,5 @@
 use Rattle.std.proofs.Common.{◌∙◌, ap, inr, Err, rules}
-use Rattle.std.specs.Prelude.{is_ok}
 use Rattle.base.proofs.Layouts.{few_slots}
-use Rattle.base.specs.declared.step.Step.TheVariants.{Put}
 use Rattle.database.proofs.Covering.{obeys-as}
 use Rattle.database.proofs.Histories.{put-own, put-again}
 use Rattle.database.proofs.committing.put_collecting.Goals as goal

@@ -1,4 +1,4 @@
-use Rattle.std.proofs.Common.{◌≡◌, ℕ, [], refl, subst, rules}
+use Rattle.std.proofs.Common.{◌≡◌, ℕ, subst, rules}
 use Rattle.std.specs.Prelude.{replicate}
 use Rattle.base.specs.declared.step.Step.TheVariants.{Collect}
 use Rattle.database.specs.Histories.{Logs}

@@ -5,7 +5,7 @@ use Rattle.database.specs.Committing.{IsGivenUp}
 use Rattle.database.proofs.Reporting.{is-acknowledged}
 use Rattle.database.proofs.Errors.{finish-waits, finish-refused, stops-after}
 use Rattle.database.specs.Histories.{Logs, ends_of}
-use Rattle.database.proofs.Histories.{in-room, no-step}
+use Rattle.database.proofs.Histories.{in-room}
 use Rattle.database.proofs.desk.Desk.answer.Goals as goal
 
 pub returns-in-Ok-Some-clause-some : goal.returns-in-Ok-Some-clause-some

@@ -1,5 +1,5 @@
 use Rattle.std.proofs.Common.{ℕ, ◌∙◌, ap, inl, inr, subst, Ok}
-use Rattle.std.specs.Prelude.{⊤, Option, Some, None, Result, Err, IfOk, IfErr}
+use Rattle.std.specs.Prelude.{⊤, Option, Result, Err, IfOk, IfErr}
 use Rattle.database.specs.declared.error.CommitError.{CommitError}
 use Rattle.database.specs.Committing.{IsPrepared, IsAnsweredAt, ReportsUnprepared}
 use Rattle.database.specs.Histories.{PreparesAfter}

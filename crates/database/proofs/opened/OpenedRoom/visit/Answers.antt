@@ -1,4 +1,4 @@
-use Rattle.std.proofs.Common.{ℕ, refl}
+use Rattle.std.proofs.Common.{refl}
 use Rattle.std.specs.Prelude.{is_ok}
 use Rattle.base.specs.declared.step.Step.TheVariants.{Collect}
 use Rattle.session_steps.specs.Collecting.{as_reply as visited}
