@@ -2,6 +2,7 @@
 
 use anyhow::{Error, anyhow};
 use std::fs::File;
+use std::rt::Files;
 use std::sync::Wait;
 use std::thread::Threads;
 use store::{Front, Geometry, Origin, Program, Store, StoreError, Ts, key};
