@@ -34,7 +34,7 @@ impl<R: Wait + Drop, J: Origin> Snapshot<'_, R, J> {
     ghost use Rattle.database.specs.Histories.{Replies, Sees, begun_in, seen_in};
     ghost use Rattle.database.specs.Reads.{ReadsReply};
     ghost use Rattle.store.specs.Errors.{error_of};
-    ghost use Rattle.store.specs.Answers.{Answers, Scans, ScanRefused, OfScanned, AnswersNumber};
+    ghost use Rattle.store.specs.Answers.{Answers, Scans, ScanRefused, OfScanned, SeesScan, AnswersNumber};
     ghost use Rattle.store.specs.Reads.{Reads, ReadsRange, RangeRefused, first_key_of};
 
     /// The history up to its begin, if that is kept.
@@ -91,6 +91,9 @@ impl<R: Wait + Drop, J: Origin> Snapshot<'_, R, J> {
         // `count`.
         ensures ok { B.has_bounds range → IfOk result (λ rows. Scans self.now.reads.session table (start_index (B.start_bound range)) (end_index (B.end_bound range) (2 ^ 64)) rows.items) }
         ensures err { B.has_bounds range → IfErr result (λ error. ScanRefused self.now.reads.session table (start_index (B.start_bound range)) (end_index (B.end_bound range) (2 ^ 64)) error) }
+
+        // If the history is kept, the rows are the reply to this step in the state that the history leads to, as for `get`.
+        ensures sees { B.has_bounds range → IfOk result (λ rows. SeesScan J.opened self.now.reads.session self.now.reads.trace table (start_index (B.start_bound range)) (end_index (B.end_bound range) (2 ^ 64)) rows.items) }
     {
         match ends_of(&range) {
             Some((least, greatest)) => self.scan_between(table, least, greatest),
@@ -106,6 +109,7 @@ impl<R: Wait + Drop, J: Origin> Snapshot<'_, R, J> {
         greatest: u64,
     ) -> Result<Vec<(Key, Row)>, StoreError>
         ensures answers { MatchResult result (λ rows. Answers (Scan self.now.reads.session table least greatest) rows_of (Ok rows.items)) (λ error. Answers (Scan self.now.reads.session table least greatest) rows_of (Err error)) }
+        ensures sees { IfOk result (λ rows. Sees J.opened self.now.reads.session self.now.reads.trace (λ q. Replies q (Scan self.now.reads.session table least greatest) rows_of (Ok rows.items))) }
     {
         Ok(self.reads.scan(table, least, greatest)?)
     }
