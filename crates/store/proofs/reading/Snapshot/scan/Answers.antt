@@ -61,7 +61,7 @@ returns-in-Some-clause-sees g c has =
     let last : c.in-Some.greatest + 1 ≡ end = omega (arith, c.in-Some.ensures.greatest has, c.in-Some.greatest-is) in
     let below : c.in-Some.least ≤ c.in-Some.greatest = omega (arith, c.in-Some.ensures.some, c.in-Some.least-is, c.in-Some.greatest-is) in
     IfOk-weaker c.scan_between.result
-    (λ rows. Sees g.J.opened c.args.self.now.reads.session c.args.self.now.reads.trace (λ q. Replies q (Scan c.args.self.now.reads.session c.args.table c.in-Some.least c.in-Some.greatest) rows_of (Ok rows.items)))
-    (λ rows. SeesScan g.J.opened c.args.self.now.reads.session c.args.self.now.reads.trace c.args.table start end rows.items)
-    (λ rows sees. inl (omega (arith, first, last, below), seen g.J.opened c.args.self.now.reads.session c.args.table c.in-Some.least c.in-Some.greatest start end c.args.self.now.reads.trace rows.items first last sees))
+    (λ rows. Sees g.J.Origin.opened c.args.self.now.reads.session c.args.self.now.reads.trace (λ q. Replies q (Scan c.args.self.now.reads.session c.args.table c.in-Some.least c.in-Some.greatest) rows_of (Ok rows.items)))
+    (λ rows. SeesScan g.J.Origin.opened c.args.self.now.reads.session c.args.self.now.reads.trace c.args.table start end rows.items)
+    (λ rows sees. inl (omega (arith, first, last, below), seen g.J.Origin.opened c.args.self.now.reads.session c.args.table c.in-Some.least c.in-Some.greatest start end c.args.self.now.reads.trace rows.items first last sees))
     c.scan_between.ensures.sees
