@@ -35,7 +35,7 @@ pub struct Desk<D: Pmem, J: Origin> {
 }
 
 impl<D: Pmem + Drop, J: Origin> Desk<D, J> {
-    ghost use Rattle.std.specs.Prelude.{◌≡◌, ◌≤◌, ◌↔◌, ◌+◌, ◌⊎◌, ◌^◌, IsTrue, true, false, min, nat_lt, is_some, Some, None, IfSome, IfNone, IfErr, OnErr, MatchOption, MatchResult};
+    ghost use Rattle.std.specs.Prelude.{◌≡◌, ◌≤◌, ◌↔◌, ◌+◌, ◌⊎◌, ◌^◌, IsTrue, is_some, Some, None, IfSome, IfNone, IfErr, OnErr, MatchOption, MatchResult};
     ghost use Rattle.base.specs.Batches.{Batch};
     ghost use Rattle.base.specs.declared.fault.Fault.TheVariants.{OutOfMemory};
     ghost use Rattle.base.specs.declared.step.Reply.TheVariants.{Covered};
