@@ -7,3 +7,6 @@ pub mod Ticking
 pub mod Closing
 pub mod Reports
 pub mod Reads
+pub mod Holds
+pub mod Along
+pub mod Helds

@@ -19,7 +19,9 @@ mod committing;
 mod database;
 mod desk;
 mod error;
+mod generic;
 mod group;
+mod held;
 mod leading;
 mod opened;
 mod reading;
@@ -31,5 +33,7 @@ mod workers;
 
 pub use database::{Database, Refused, Report};
 pub use error::CommitError;
+pub use generic::Front;
+pub use held::Held;
 pub use room::Page;
 pub use transaction::Transaction;

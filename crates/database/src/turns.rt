@@ -50,7 +50,7 @@ fn tick<D: Pmem + Drop>(desk: &mut Desk<D>) -> Turn
 }
 
 // How many rows the commits of a batch have written or deleted.
-fn rows_of(batch: &Batch) -> u64
+pub fn rows_of(batch: &Batch) -> u64
     ensures { result ≡ min (rows_written batch.now.commits) (2 ^ 64 - 1) }
 {
     let mut rows = 0_u64;
