@@ -18,7 +18,12 @@ use std::thread::{Threads, yield_now};
 /// How many slots there are: a fourth of them is less than one commit. A round visits each, and ends with one visit more.
 const SLOTS: usize = 3;
 
-/// How often the session reads, which takes long enough to notice a worker that never sleeps.
+/// How often the session reads at most until the workers have made their steps, and how often it gives way after each of these reads.
+const TRIES: u64 = 100_000;
+
+const YIELDS: u64 = 100;
+
+/// How often it reads then, which takes long enough to notice a worker that never sleeps.
 const READS: u64 = 2_000;
 
 /// How many steps the workers made.
@@ -28,16 +33,65 @@ struct Made {
     visits: usize,
 }
 
+/// Those that they make.
+const MADE: Made = Made {
+    ticks: 1,
+    visits: SLOTS + 1,
+};
+
+// Gives way to other threads.
+fn yield_often() {
+    for _ in 0..YIELDS {
+        yield_now();
+    }
+}
+
+// Reads one key, which has no row.
+fn read<D: Pmem + Drop, J: Origin, B: Drop>(
+    rt: &impl Wait,
+    session: &mut Session<D, J, B>,
+) -> Result<(), Fault> {
+    match session.get(rt, key(1))? {
+        Some(_) => Err(Fault::Failed),
+        None => Ok(()),
+    }
+}
+
+// How many steps others had made by the session's last one.
+fn made_by_others<D: Pmem + Drop, J: Origin, B: Drop>(session: &Session<D, J, B>) -> u64 {
+    match session.receipts().last() {
+        Some(receipt) => receipt
+            .place
+            .saturating_add(1)
+            .saturating_sub(session.steps()),
+        None => 0,
+    }
+}
+
+// Reads until the workers have made all their steps. Fails if they don't in time.
+fn read_until_made<D: Pmem + Drop, J: Origin, B: Drop>(
+    rt: &impl Wait,
+    session: &mut Session<D, J, B>,
+) -> Result<(), Fault> {
+    for _ in 0..TRIES {
+        read(rt, session)?;
+        if MADE.ticks as u64 + MADE.visits as u64 <= made_by_others(session) {
+            return Ok(());
+        }
+        yield_often();
+    }
+    Err(Fault::Failed)
+}
+
 // Reads one key again and again, in a transaction that writes nothing.
 fn read_often<D: Pmem + Drop, J: Origin, B: Drop>(
     rt: &impl Wait,
     session: &mut Session<D, J, B>,
 ) -> Result<Option<u64>, Fault> {
     session.begin(rt)?;
+    read_until_made(rt, session)?;
     for _ in 0..READS {
-        if session.get(rt, key(1))?.is_some() {
-            return Err(Fault::Failed);
-        }
+        read(rt, session)?;
         yield_now();
     }
     session.commit(rt)
@@ -104,11 +158,7 @@ fn made_alone<R: Threads + Wait + Copy + Drop + Send + Sync + 'static>(
 #[test]
 fn a_life_that_only_reads_sleeps(rt: HostRuntime) -> Result<(), Fail> {
     let (committed, made) = made_alone(&rt, rt.alloc())?;
-    let round = Made {
-        ticks: 1,
-        visits: SLOTS + 1,
-    };
     assert_eq!(rt; committed, Ok(None));
-    assert_eq!(rt; made, round);
+    assert_eq!(rt; made, MADE);
     Ok(())
 }
