@@ -149,8 +149,8 @@ impl<D: SyncAhead + Drop, R: Wait + Drop> Database<D, R> {
         room.status()
     }
 
-    /// How many rows are committed, and how many slots hold no version, in a state that a run comes to. It looks at each key and
-    /// each slot, under the lock.
+    /// How many rows are committed, and how many slots hold no version, in a state that a run comes to. It takes the lock, and
+    /// the time doesn't grow with the store.
     pub fn usage(&self) -> Usage
         ensures { ComesTo (λ q. ShowsUsage q result) }
     {
@@ -161,8 +161,7 @@ impl<D: SyncAhead + Drop, R: Wait + Drop> Database<D, R> {
         room.usage()
     }
 
-    /// The layout, the numbers of the ruling record and how the slots are used, all at one moment. It takes the lock once, and looks at each
-    /// key and each slot under it.
+    /// The layout, the numbers of the ruling record and how the slots are used, all at one moment. It takes the lock once.
     pub fn report(&self) -> Report
         ensures { ComesTo (λ q. ShowsReport q result) }
     {
