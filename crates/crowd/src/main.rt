@@ -199,9 +199,7 @@ fn use_slots<R: Wait + Drop>(
     for number in 0..crowd.slots / TOGETHER {
         let first = number.saturating_mul(TOGETHER);
         update(&mut writes, first..first.saturating_add(TOGETHER), keys, 0)?;
-        database
-            .write(writes.as_slice())
-            .map_err(|error| error.fault())?;
+        database.write(writes.as_slice())?;
     }
     Ok(())
 }
@@ -259,9 +257,7 @@ fn commit_in_turn<R: Wait + Drop>(
         let next = number.saturating_mul(crowd.rows);
         let updates = next..next.saturating_add(crowd.rows);
         update(&mut writes, updates, keys, thread.saturating_mul(keys))?;
-        database
-            .write(writes.as_slice())
-            .map_err(|error| error.fault())?;
+        database.write(writes.as_slice())?;
     }
     Ok(())
 }

@@ -4,4 +4,3 @@ pub mod Reporting
 pub mod Readings
 pub mod Errors
 pub mod Ticks
-pub mod Histories

@@ -1,5 +1,4 @@
 pub mod Replies
-pub mod Histories
 pub mod Opening
 pub mod Ended
 pub mod Obeys

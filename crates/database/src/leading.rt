@@ -3,10 +3,8 @@
 //! `Roles` says which of the two roles is taken. A thread that takes a turn of the committer leads, also if the group is empty.
 
 use crate::desk::{Desk, Shared};
-use crate::ending::Ending;
 use crate::error::CommitError;
 use base::Ts;
-use history::Origin;
 use roles::{Next, Turn};
 use std::sync::{MutexGuard, Wait};
 use std::thread;
@@ -18,21 +16,20 @@ const PATIENCE: u64 = 500;
 
 const NAPS: u64 = 4;
 
-impl<D: SyncAhead + Drop, J: Origin> Shared<D, J> {
+impl<D: SyncAhead + Drop> Shared<D> {
     ghost use Rattle.database.specs.Committing.{IsAnsweredAt};
 
-    /// Joins the group that is being formed, and waits until the session's commit with this timestamp is covered, or won't be. If the history is
-    /// kept and the commit is covered, it also returns how the session ended. The last one to
+    /// Joins the group that is being formed, and waits until the session's commit with this timestamp is covered, or won't be. The last one to
     /// come leads the group: it makes the committer's ticks itself, so that nobody has to be woken for them. The first one watches, and leads if
     /// others don't come.
     pub fn wait<'a, R: Wait>(
         &'a self,
         rt: &R,
-        desk: MutexGuard<'a, Desk<D, J>>,
+        desk: MutexGuard<'a, Desk<D>>,
         session: u8,
         timestamp: Ts,
-    ) -> (Result<(), CommitError>, Option<Ending<J>>)
-        ensures { IsAnsweredAt session timestamp result.0 }
+    ) -> Result<(), CommitError>
+        ensures { IsAnsweredAt session timestamp result }
     {
         let mut desk = desk;
         desk.group.join();
@@ -59,15 +56,14 @@ impl<D: SyncAhead + Drop, J: Origin> Shared<D, J> {
         session: u8,
         timestamp: Ts,
         place: usize,
-    ) -> (Result<(), CommitError>, Option<Ending<J>>)
-        ensures { IsAnsweredAt session timestamp result.0 }
+    ) -> Result<(), CommitError>
+        ensures { IsAnsweredAt session timestamp result }
     {
         let mut answers = self.enter_answers(rt);
         for _ in rt.forever() {
             let answer = answers.take(place, session, timestamp);
             if let Some(answer) = answer {
-                let ending = answers.take_ending(place);
-                return (answer, ending);
+                return answer;
             }
             answers = self.answered.wait(rt, answers);
         }
@@ -78,20 +74,20 @@ impl<D: SyncAhead + Drop, J: Origin> Shared<D, J> {
     fn lead<'a, R: Wait>(
         &'a self,
         rt: &R,
-        desk: MutexGuard<'a, Desk<D, J>>,
+        desk: MutexGuard<'a, Desk<D>>,
         session: u8,
         timestamp: Ts,
-    ) -> (Result<(), CommitError>, Option<Ending<J>>)
-        ensures { IsAnsweredAt session timestamp result.0 }
+    ) -> Result<(), CommitError>
+        ensures { IsAnsweredAt session timestamp result }
     {
         let mut desk = self.gather(rt, desk);
         for _ in rt.forever() {
-            let (answer, ending) = desk.answer_to_with_ending(session, timestamp);
+            let answer = desk.answer_to(session, timestamp);
             if let Some(answer) = answer {
                 desk.group.leave(session);
                 desk.leave();
                 self.end_lead(desk);
-                return (answer, ending);
+                return answer;
             }
             desk = self.take_lead(rt, desk);
         }
@@ -102,8 +98,8 @@ impl<D: SyncAhead + Drop, J: Origin> Shared<D, J> {
     fn gather<'a, R: Wait>(
         &'a self,
         rt: &R,
-        desk: MutexGuard<'a, Desk<D, J>>,
-    ) -> MutexGuard<'a, Desk<D, J>> {
+        desk: MutexGuard<'a, Desk<D>>,
+    ) -> MutexGuard<'a, Desk<D>> {
         let mut desk = desk;
         let before = desk.missing();
         if before == 0 || desk.roles.is_led() || !desk.group.may_grow() {
@@ -122,8 +118,8 @@ impl<D: SyncAhead + Drop, J: Origin> Shared<D, J> {
     fn watch<'a, R: Wait>(
         &'a self,
         rt: &R,
-        desk: MutexGuard<'a, Desk<D, J>>,
-    ) -> MutexGuard<'a, Desk<D, J>> {
+        desk: MutexGuard<'a, Desk<D>>,
+    ) -> MutexGuard<'a, Desk<D>> {
         let mut desk = desk;
         for _ in 0..NAPS {
             let missing = desk.missing();
@@ -138,8 +134,8 @@ impl<D: SyncAhead + Drop, J: Origin> Shared<D, J> {
     fn nap<'a, R: Wait>(
         &'a self,
         rt: &R,
-        desk: MutexGuard<'a, Desk<D, J>>,
-    ) -> MutexGuard<'a, Desk<D, J>> {
+        desk: MutexGuard<'a, Desk<D>>,
+    ) -> MutexGuard<'a, Desk<D>> {
         let seen = self.moved.notifications();
         drop(desk);
         self.moved.sleep(rt, seen, Duration::from_micros(PATIENCE));
@@ -151,8 +147,8 @@ impl<D: SyncAhead + Drop, J: Origin> Shared<D, J> {
     fn take_lead<'a, R: Wait>(
         &'a self,
         rt: &R,
-        desk: MutexGuard<'a, Desk<D, J>>,
-    ) -> MutexGuard<'a, Desk<D, J>> {
+        desk: MutexGuard<'a, Desk<D>>,
+    ) -> MutexGuard<'a, Desk<D>> {
         let (mut desk, turn) = self.cover_group(rt, desk);
         self.notify(rt, &mut desk, turn);
         match turn.next_of_leader() {
@@ -169,8 +165,8 @@ impl<D: SyncAhead + Drop, J: Origin> Shared<D, J> {
     pub fn pass<'a, R: Wait>(
         &'a self,
         rt: &R,
-        desk: MutexGuard<'a, Desk<D, J>>,
-    ) -> MutexGuard<'a, Desk<D, J>> {
+        desk: MutexGuard<'a, Desk<D>>,
+    ) -> MutexGuard<'a, Desk<D>> {
         self.exit(desk);
         thread::yield_now();
         self.desk(rt)
@@ -180,8 +176,8 @@ impl<D: SyncAhead + Drop, J: Origin> Shared<D, J> {
     pub fn cover_group<'a, R: Wait>(
         &'a self,
         rt: &R,
-        desk: MutexGuard<'a, Desk<D, J>>,
-    ) -> (MutexGuard<'a, Desk<D, J>>, Turn) {
+        desk: MutexGuard<'a, Desk<D>>,
+    ) -> (MutexGuard<'a, Desk<D>>, Turn) {
         let mut desk = desk;
         if !desk.roles.take() {
             return (desk, Turn::Busy);
@@ -196,7 +192,7 @@ impl<D: SyncAhead + Drop, J: Origin> Shared<D, J> {
     }
 
     // Leaves those who came during the group's sync to the committer's worker, and wakes the threads that got replies.
-    fn end_lead(&self, desk: MutexGuard<'_, Desk<D, J>>) {
+    fn end_lead(&self, desk: MutexGuard<'_, Desk<D>>) {
         let mut desk = desk;
         let are_left = !desk.group.is_empty();
         self.recall(&mut desk, are_left);
@@ -207,8 +203,8 @@ impl<D: SyncAhead + Drop, J: Origin> Shared<D, J> {
     pub fn take_over<'a, R: Wait>(
         &'a self,
         rt: &R,
-        desk: MutexGuard<'a, Desk<D, J>>,
-    ) -> (MutexGuard<'a, Desk<D, J>>, Turn) {
+        desk: MutexGuard<'a, Desk<D>>,
+    ) -> (MutexGuard<'a, Desk<D>>, Turn) {
         if desk.group.is_empty() {
             return self.cover_group(rt, desk);
         }

@@ -8,23 +8,19 @@ ghost use Rattle.database.specs.declared.error.CommitError.TheVariants.{Refused}
 
 use crate::committing::prepare;
 use crate::desk::{Desk, Shared};
-use crate::ending::end_after;
 use crate::error::CommitError;
-use crate::trace::Trace;
 use base::Ts;
 use base::fault::Fault;
 use base::key::Key;
 use base::row::Row;
-use history::{Front, Origin};
 use roles::Next;
 use std::sync::{MutexGuard, Wait};
 use sync_ahead::SyncAhead;
 
-impl<D: SyncAhead + Drop, J: Origin> Shared<D, J> {
+impl<D: SyncAhead + Drop> Shared<D> {
     ghost use Rattle.std.specs.Prelude.{Ok, IfOk, IfErr};
     ghost use Rattle.base.specs.declared.key.Key.{Key};
     ghost use Rattle.base.specs.declared.fault.Fault.TheVariants.{Conflict};
-    ghost use Rattle.database.specs.Histories.{HasCommitted, PreparesAfter};
     ghost use Rattle.database.specs.Committing.{IsPrepared, HasAborted, ConflictsAt, IsSettledUpTo, ReportsCommit, ReportsUnprepared, ReportsError, ReportsWritten, ReportsUnwritten};
 
     /// Makes these writes in a transaction of their own and commits it. Everything up to the last stamp is one turn of the lock.
@@ -38,42 +34,34 @@ impl<D: SyncAhead + Drop, J: Origin> Shared<D, J> {
     {
         let mut desk = self.desk(rt);
         match desk.begin_with(writes) {
-            Ok(session) => match self.commit(rt, desk, session, None) {
-                Ok((timestamp, _)) => Ok(timestamp),
-                Err(error) => Err(error),
-            },
+            Ok(session) => self.commit(rt, desk, session),
             Err(fault) => Err(CommitError::Refused(fault)),
         }
     }
 
-    /// Commits the transaction of this session, and ends it. If its last step is known, it also returns the history up to its end.
+    /// Commits the transaction of this session, and ends it.
     pub fn commit<'a, R: Wait>(
         &'a self,
         rt: &R,
-        desk: MutexGuard<'a, Desk<D, J>>,
+        desk: MutexGuard<'a, Desk<D>>,
         session: u8,
-        trace: Option<Trace<J>>,
-    ) -> Result<(Option<Ts>, Option<Front<J>>), CommitError>
-        ensures ok { IfOk result (λ done. ReportsCommit session done.0) }
-        ensures history { IfOk result (λ done. HasCommitted J.opened session trace done.0 done.1) }
+    ) -> Result<Option<Ts>, CommitError>
+        ensures ok { IfOk result (ReportsCommit session) }
         ensures err { IfErr result (ReportsError session) }
     {
-        let (desk, prepared, drawn, front) = self.prepare(rt, desk, session, &trace);
+        let (desk, prepared, drawn) = self.prepare(rt, desk, session);
         match prepared {
             Ok(timestamp) => match timestamp {
-                Some(timestamp) => {
-                    let (answer, ending) = self.wait(rt, desk, session, timestamp);
-                    match answer {
-                        Ok(()) => Ok((Some(timestamp), end_after(rt, session, front, ending))),
-                        Err(error) => Err(error),
-                    }
-                }
+                Some(timestamp) => match self.wait(rt, desk, session, timestamp) {
+                    Ok(()) => Ok(Some(timestamp)),
+                    Err(error) => Err(error),
+                },
                 None => {
                     let mut desk = desk;
                     desk.leave();
                     self.urge(&desk);
                     self.exit(desk);
-                    Ok((None, front))
+                    Ok(None)
                 }
             },
             Err(error) => {
@@ -85,20 +73,13 @@ impl<D: SyncAhead + Drop, J: Origin> Shared<D, J> {
     }
 
     // Draws and stamps, once the committer has reserved timestamps. Returns the timestamp, if something was written, and the greatest
-    // timestamp drawn by then, by any session. If the session's last step is known, it also returns the history up to there.
+    // timestamp drawn by then, by any session.
     fn prepare<'a, R: Wait>(
         &'a self,
         rt: &R,
-        desk: MutexGuard<'a, Desk<D, J>>,
+        desk: MutexGuard<'a, Desk<D>>,
         session: u8,
-        trace: &Option<Trace<J>>,
-    ) -> (
-        MutexGuard<'a, Desk<D, J>>,
-        Result<Option<Ts>, CommitError>,
-        Ts,
-        Option<Front<J>>,
-    )
-        ensures history { IfOk result.1 (λ drawn. PreparesAfter J.opened session trace.now drawn result.3) }
+    ) -> (MutexGuard<'a, Desk<D>>, Result<Option<Ts>, CommitError>, Ts)
         ensures ok { IfOk result.1 (λ drawn. IsPrepared session (Ok drawn)) }
         ensures err { IfErr result.1 (ReportsUnprepared session) }
         ensures conflict { (key : Key) → result.1 ≡ Err (Refused (Conflict key)) → ConflictsAt session key result.2 }
@@ -106,24 +87,17 @@ impl<D: SyncAhead + Drop, J: Origin> Shared<D, J> {
         let mut desk = desk;
         for _ in rt.forever() {
             if desk.lacks_numbers() {
-                return (
-                    desk,
-                    Err(CommitError::Refused(Fault::TimestampsOut)),
-                    0,
-                    None,
-                );
+                return (desk, Err(CommitError::Refused(Fault::TimestampsOut)), 0);
             }
-            desk.attend(rt, session, trace);
             if let Some(room) = &mut desk.room {
                 let prepared = prepare(rt, room, session);
                 let drawn = room.last_drawn();
                 if !is_full(&prepared) {
-                    let front = desk.known_if(rt, trace.is_some());
-                    return (desk, prepared, drawn, front);
+                    return (desk, prepared, drawn);
                 }
                 desk = self.take_turn(rt, desk);
                 if desk.lacks_memory() {
-                    return (desk, Err(CommitError::Refused(Fault::OutOfMemory)), 0, None);
+                    return (desk, Err(CommitError::Refused(Fault::OutOfMemory)), 0);
                 }
             } else {
                 desk = self.moved.wait(rt, desk);
@@ -159,9 +133,9 @@ impl<D: SyncAhead + Drop, J: Origin> Shared<D, J> {
     fn settle<'a, R: Wait>(
         &'a self,
         rt: &R,
-        desk: MutexGuard<'a, Desk<D, J>>,
+        desk: MutexGuard<'a, Desk<D>>,
         timestamp: Ts,
-    ) -> MutexGuard<'a, Desk<D, J>>
+    ) -> MutexGuard<'a, Desk<D>>
         ensures { IsSettledUpTo timestamp }
     {
         let mut desk = desk;
@@ -182,8 +156,8 @@ impl<D: SyncAhead + Drop, J: Origin> Shared<D, J> {
     fn take_turn<'a, R: Wait>(
         &'a self,
         rt: &R,
-        desk: MutexGuard<'a, Desk<D, J>>,
-    ) -> MutexGuard<'a, Desk<D, J>> {
+        desk: MutexGuard<'a, Desk<D>>,
+    ) -> MutexGuard<'a, Desk<D>> {
         let mut desk = desk;
         if 1 < desk.open {
             if !desk.roles.is_led() {

@@ -7,7 +7,6 @@ ghost use Rattle.base.specs.declared.fault.Fault.TheVariants.{OutOfMemory, NoThr
 use crate::desk::{Desk, Shared};
 use crate::turns;
 use base::fault::Fault;
-use history::Origin;
 use roles::{Next, Turn};
 use std::alloc::Global;
 use std::sync::{Arc, MutexGuard, Wait};
@@ -19,8 +18,7 @@ use sync_ahead::SyncAhead;
 pub fn start_workers<
     R: Threads + Wait + Copy + Drop + Send + 'static,
     D: SyncAhead + Drop + Send + Sync + 'static,
-    J: Origin + Send + Sync + 'static,
->(rt: &R, shared: &Arc<Shared<D, J>, Global>) -> Result<(), Fault>
+>(rt: &R, shared: &Arc<Shared<D>, Global>) -> Result<(), Fault>
 where
     D::Pending: Send,
     ensures { IfErr result (λ fault. (fault ≡ OutOfMemory) ⊎ (fault ≡ NoThread)) }
@@ -45,8 +43,7 @@ enum Duty {
 fn spawn<
     R: Threads + Wait + Copy + Drop + Send + 'static,
     D: SyncAhead + Drop + Send + Sync + 'static,
-    J: Origin + Send + Sync + 'static,
->(rt: &R, shared: &Arc<Shared<D, J>, Global>, duty: Duty) -> Result<(), Fault>
+>(rt: &R, shared: &Arc<Shared<D>, Global>, duty: Duty) -> Result<(), Fault>
 where
     D::Pending: Send,
     ensures { IfErr result (λ fault. (fault ≡ OutOfMemory) ⊎ (fault ≡ NoThread)) }
@@ -69,11 +66,7 @@ where
 }
 
 // One turn after another, until the database is closed. The lock is free between two turns.
-fn work<R: Wait + Drop, D: SyncAhead + Drop, J: Origin>(
-    rt: &R,
-    shared: &Arc<Shared<D, J>, Global>,
-    duty: Duty,
-) {
+fn work<R: Wait + Drop, D: SyncAhead + Drop>(rt: &R, shared: &Arc<Shared<D>, Global>, duty: Duty) {
     for _ in rt.forever() {
         let desk = shared.enter(rt);
         if desk.roles.is_closing {
@@ -88,10 +81,10 @@ fn work<R: Wait + Drop, D: SyncAhead + Drop, J: Origin>(
 }
 
 // A turn of the committer. The database may be closed while it syncs.
-fn commit<'a, R: Wait, D: SyncAhead + Drop, J: Origin>(
+fn commit<'a, R: Wait, D: SyncAhead + Drop>(
     rt: &R,
-    shared: &'a Shared<D, J>,
-    desk: MutexGuard<'a, Desk<D, J>>,
+    shared: &'a Shared<D>,
+    desk: MutexGuard<'a, Desk<D>>,
 ) {
     let (mut desk, turn) = shared.take_over(rt, desk);
     shared.notify(rt, &mut desk, turn);
@@ -110,10 +103,10 @@ fn commit<'a, R: Wait, D: SyncAhead + Drop, J: Origin>(
 }
 
 // A turn of the collector, which sleeps if no round is due, or if its round may wait. Threads that wait for the lock get it between two turns.
-fn collect<'a, R: Wait, D: SyncAhead + Drop, J: Origin>(
+fn collect<'a, R: Wait, D: SyncAhead + Drop>(
     rt: &R,
-    shared: &'a Shared<D, J>,
-    desk: MutexGuard<'a, Desk<D, J>>,
+    shared: &'a Shared<D>,
+    desk: MutexGuard<'a, Desk<D>>,
 ) {
     let mut desk = desk;
     match turns::collect(&mut desk) {

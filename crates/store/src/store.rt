@@ -279,8 +279,8 @@ impl<R: Wait + Drop> Store<R> {
         })
     }
 
-    /// The layout of the store, how far it has come, and how full it is, all at one moment. The time that it takes doesn't grow with
-    /// the store.
+    /// The layout of the store, how far it has come, and how full it is, all at one moment. It looks at each key and each slot while other
+    /// threads wait.
     pub fn status(&self) -> Status
         // All of one state that a run comes to: its layout, the number and the timestamp of the ruling record, and how many long
         // commits and gaps it names. Also how many rows are covered, how many slots hold no version, and how many commits may

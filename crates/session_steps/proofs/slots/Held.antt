@@ -12,8 +12,7 @@ use Rattle.dirty_table.specs.declared.sessions.SessionSet.{SessionSet}
 use Rattle.state_invariant.specs.Kept.{version_by}
 use Rattle.device_invariant.specs.Log.{is_own, is_ended, lines_in, line_at, line_number}
 use Rattle.simulation.specs.steps.Moves.{IsSlotOf}
-use Rattle.simulation.specs.cycles.Batches.{line_numbers}
-use Rattle.session_steps.specs.Shows.{HasItsSlot, HasVersionOf, HoldsLines}
+use Rattle.session_steps.specs.Shows.{HasItsSlot, HasVersionOf, HoldsLines, line_numbers}
 
 -- nobody holds it, or this session does
 abbrev pub is_nobodys_or : ℕ → Option Version → Bool
