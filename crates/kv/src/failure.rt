@@ -4,13 +4,10 @@
 use anyhow;
 use base::fault::Fault;
 use base::geometry::Geometry;
+use base::row::Row;
 use std::io;
 use store::{OpenError, StoreError};
 use thiserror::Error;
-
-const LARGER: &str = ", or copy all rows into a store with more slots, as help shows";
-
-const WIDER: &str = " (96 in a store that is created with --wide)";
 
 /// Why a line isn't run, or why the store can't be used to the end.
 #[derive(Debug, Drop, Error)]
@@ -26,14 +23,16 @@ pub enum Failure {
     Row(anyhow::Error),
     #[error("{0}")]
     Fault(#[from] Fault),
-    /// No slot is free, and what else can be done if a larger store is possible.
-    #[error("no slot is free, and an update needs one too: delete a row{0}")]
-    Full(&'static str),
-    #[error("the row is too long: a row of this store has at most {limit} bytes{wider}")]
-    TooLong {
-        limit: usize,
-        wider: &'static str,
-    },
+    #[error("no slot is free, and an update needs one too: delete a row, or copy all rows into a store with more slots, as help shows")]
+    Full,
+    /// No slot is free, and no store has more of them.
+    #[error("no slot is free, and an update needs one too: delete a row")]
+    LargestFull,
+    #[error("the row is too long: a row of this store has at most {0} bytes (96 in a store that is created with --wide)")]
+    TooLong(usize),
+    /// The row is too long, and no store takes longer ones.
+    #[error("the row is too long: a row of this store has at most {0} bytes")]
+    TooLongForAll(usize),
     #[error("a transaction writes at most 32 keys: write this one in the next transaction")]
     TooManyKeys,
     #[error("a transaction is open: end it with commit or abort")]
@@ -100,13 +99,22 @@ impl Failure {
         }
     }
 
+    // The row is too long for a store whose rows have at most this many bytes.
+    fn too_long(limit: usize) -> Failure {
+        if limit < Row::LIMIT {
+            Failure::TooLong(limit)
+        } else {
+            Failure::TooLongForAll(limit)
+        }
+    }
+
     /// The name by which programs recognize why a line is refused: for a fault of the store its own name.
     pub fn name(&self) -> &'static str {
         match self {
             Failure::Unknown(_) => "UnknownCommand",
             Failure::Fault(fault) => fault.name(),
-            Failure::Full(_) => "SlotsOut",
-            Failure::TooLong { .. } => "TooLong",
+            Failure::Full | Failure::LargestFull => "SlotsOut",
+            Failure::TooLong(_) | Failure::TooLongForAll(_) => "TooLong",
             Failure::TooManyKeys => "WriteSetFull",
             Failure::Open => "TransactionOpen",
             Failure::NotOpen => "NoTransaction",
@@ -138,7 +146,8 @@ impl Failure {
                 | Failure::NotText
                 | Failure::LineTooLong(_)
                 | Failure::Open
-                | Failure::TooLong { .. }
+                | Failure::TooLong(_)
+                | Failure::TooLongForAll(_)
                 | Failure::TooManyKeys
         )
     }
@@ -146,7 +155,7 @@ impl Failure {
     /// The same in a store of this layout: one of the most slots can't be copied into a larger one.
     pub fn in_store(self, layout: &Geometry) -> Failure {
         match self {
-            Failure::Full(_) if Geometry::MOST_LARGE_SLOTS <= layout.slots() => Failure::Full(""),
+            Failure::Full if Geometry::MOST_LARGE_SLOTS <= layout.slots() => Failure::LargestFull,
             failure => failure,
         }
     }
@@ -157,7 +166,7 @@ impl From<StoreError> for Failure {
         match error {
             StoreError::Missing { .. } => Failure::Missing,
             StoreError::File { cause, .. } => Failure::File(cause),
-            StoreError::OtherLayout { found, .. } => Failure::other_layout(&found.geometry),
+            StoreError::OtherLayout { ref found, .. } => Failure::other_layout(&found.geometry),
             StoreError::Lost { cause, .. } => Failure::Lost(cause),
             StoreError::NotOpened { fault, .. }
             | StoreError::NotClosed { fault, .. }
@@ -165,11 +174,8 @@ impl From<StoreError> for Failure {
             StoreError::Conflict(key) => Failure::Fault(Fault::Conflict(key)),
             StoreError::TooManyTransactions => Failure::Fault(Fault::SessionsFull),
             StoreError::OutOfMemory => Failure::Fault(Fault::OutOfMemory),
-            StoreError::Full => Failure::Full(LARGER),
-            StoreError::RowTooLong(limit) => Failure::TooLong {
-                limit,
-                wider: if limit < 96 { WIDER } else { "" },
-            },
+            StoreError::Full => Failure::Full,
+            StoreError::RowTooLong(limit) => Failure::too_long(limit),
             StoreError::TooManyKeys => Failure::TooManyKeys,
             StoreError::Failed => Failure::Failed,
             StoreError::Unknown(_) => Failure::InCommit,
