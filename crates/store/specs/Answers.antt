@@ -4,14 +4,16 @@ use Rattle.std.specs.Int.{w64, from_le_bytes}
 use Rattle.base.specs.declared.fault.Fault.{Fault}
 use Rattle.base.specs.declared.fault.Fault.TheVariants.{TooLong, Conflict}
 use Rattle.base.specs.declared.key.Key.{Key}
+use Rattle.base.specs.Layout.{row_limit}
 use Rattle.base.specs.declared.step.Step.{Step}
 use Rattle.base.specs.declared.step.Step.TheVariants.{Get, Scan}
 use Rattle.base.specs.declared.step.Reply.{Reply}
+use Rattle.room.specs.Runs.{ComesTo}
 use Rattle.database.specs.Replies.{row_of, rows_of}
 use Rattle.database.specs.Obeys.{AnswersStep}
 use Rattle.database.specs.declared.error.CommitError.{CommitError}
-use Rattle.database.specs.declared.error.CommitError.TheVariants.{Refused}
-use Rattle.database.specs.Committing.{AnswersPut, AnswersWrites, IsPrepared, MeetsConflictOn, ReportsError}
+use Rattle.database.specs.declared.error.CommitError.TheVariants.{Refused, Open}
+use Rattle.database.specs.Committing.{AnswersPut, AnswersWrites, IsPrepared, MeetsConflictOn, ReportsError, ReportsUnwritten}
 use Rattle.store.specs.declared.error.StoreError.{StoreError}
 use Rattle.store.specs.Errors.{error_of, commit_error}
 
@@ -53,6 +55,19 @@ Puts session key row limit (Err error) = (fault : Fault) × (error ≡ put_error
 abbrev pub MakesWrites : ℕ → List (Key × Option (List ℕ)) → ℕ → Result ⊤ StoreError → Type 0
 MakesWrites session writes limit (Ok done) = AnswersWrites session writes (Ok done)
 MakesWrites session writes limit (Err error) = (fault : Fault) × (error ≡ put_error limit fault) × AnswersWrites session writes (Err fault)
+
+-- the error for writes that aren't kept, or of which only the next opening shows whether they are
+abbrev pub write_error : ℕ → CommitError → StoreError
+write_error limit (Refused fault) = put_error limit fault
+write_error limit (Open fault) = StoreError.Unknown fault
+
+-- Writes in a transaction of their own weren't acknowledged, and this is the error, in a store whose rows have at most this many bytes
+pub record IsUnwritten (writes : List (Key × Option (List ℕ))) (error : StoreError) : Type 0 where
+  pub limit : ℕ
+  pub limited : ComesTo (λ q. limit ≡ row_limit q.layout.version)
+  pub refused : CommitError
+  pub becomes : error ≡ write_error limit refused
+  pub reported : ReportsUnwritten writes refused
 
 -- ---- a number
 

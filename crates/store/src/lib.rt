@@ -26,6 +26,7 @@
 #![tactic(auto)]
 
 mod error;
+mod file;
 mod files;
 mod layout;
 mod ranges;
@@ -41,8 +42,10 @@ pub use base::key::Key;
 pub use base::row::Row;
 pub use database::Page;
 pub use error::{Layout, Part, StoreError};
-pub use files::{Device, Refusal, find_file, open_database, open_file};
+pub use file::StoreFile;
+pub use files::{Device, Refusal, open_database};
 pub use layout::standard_layout;
+pub use pmem_file::OpenError;
 pub use reading::Snapshot;
 pub use row::{RowExt, key};
 pub use status::Status;

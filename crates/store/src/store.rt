@@ -14,16 +14,17 @@ ghost use Rattle.store.specs.Errors.{part_of};
 ghost use Rattle.store.specs.Opening.{IsFindingError, IsOpeningError, IsClosingError};
 
 use crate::error::{Layout, Part, StoreError};
-use crate::files::{Device, Refusal, find_file, open_database, open_over};
+use crate::file::StoreFile;
+use crate::files::{Device, Refusal, open_database};
 use crate::reading::Snapshot;
 use crate::status::Status;
-use crate::transaction::Transaction;
+use crate::transaction::{Transaction, put_error};
 use base::Ts;
 use base::fault::Fault;
 use base::geometry::Geometry;
 use base::key::Key;
-use database::{Database, Refused};
-use pmem_file::OpenError;
+use base::row::Row;
+use database::{CommitError, Database, Refused};
 use std::alloc::Global;
 use std::fs::File;
 use std::rt::Files;
@@ -47,9 +48,9 @@ pub struct Store<R: Wait + Drop> {
     alloc: Global,
     name: String,
     database: Database<Device, R>,
-    // The greatest length of a row, in bytes. The layout never changes, so a begin takes no lock for it.
-    limit: usize,
-    ghost limited: { ComesTo (λ q. limit ≡ row_limit q.layout.version) },
+    // It never changes, so a begin takes no lock for it.
+    layout: Geometry,
+    ghost laid_out: { ComesTo (λ q. layout ≡ q.layout) },
 }
 
 impl<R: Files<File = File> + Threads + Wait + Copy + Drop + Send + Sync + 'static> Store<R> {
@@ -99,34 +100,25 @@ impl<R: Files<File = File> + Threads + Wait + Copy + Drop + Send + Sync + 'stati
         // the part of that layout.
         ensures err { IfErr result (IsFindingError name.now) }
     {
-        let name = String::from_str(alloc, name)?;
-        let (device, layout) = match find_file(&rt, alloc, name.as_str()) {
-            Ok(found) => found,
-            Err(OpenError::Missing) => return Err(StoreError::Missing { name }),
-            Err(cause) => return Err(StoreError::File { name, cause }),
-        };
-        match open_over(&rt, alloc, device) {
-            Ok(database) => Ok(over(alloc, name, database)),
-            Err(refusal) => Err(not_opened(name, layout, refusal)),
-        }
+        StoreFile::find(&rt, alloc, name)?.open(rt, alloc)
     }
 }
 
-// The store over this database, with the row limit of its layout.
-fn over<R: Wait + Drop>(alloc: Global, name: String, database: Database<Device, R>) -> Store<R>
+/// The store over this database.
+pub fn over<R: Wait + Drop>(alloc: Global, name: String, database: Database<Device, R>) -> Store<R>
     ensures { result.name ≡ name }
 {
-    let limit = database.geometry().row_limit();
+    let layout = database.geometry();
     Store {
         alloc,
         name,
         database,
-        limit,
+        layout,
     }
 }
 
-// The error, with the name of the file and the layout that was asked for or found.
-fn not_opened(name: String, geometry: Geometry, refusal: Refusal) -> StoreError
+/// The error, with the name of the file and the layout that was asked for or found.
+pub fn not_opened(name: String, geometry: Geometry, refusal: Refusal) -> StoreError
     requires layout { ReportsLayout geometry refusal }
     requires fault { ReportsFault geometry refusal }
     ensures opening { IsOpeningError (string_bytes name) geometry result }
@@ -167,7 +159,8 @@ impl<R: Wait + Drop> Store<R> {
     ghost use Rattle.base.specs.declared.step.Step.TheVariants.{Begin};
     ghost use Rattle.room.specs.Runs.{ComesTo};
     ghost use Rattle.database.specs.Replies.{began_of};
-    ghost use Rattle.store.specs.Answers.{Answers};
+    ghost use Rattle.database.specs.Committing.{ReportsWritten};
+    ghost use Rattle.store.specs.Answers.{Answers, IsUnwritten};
     ghost use Rattle.store.specs.Opening.{IsCovered, IsClosingError};
     ghost use Rattle.store.specs.Trying.{CommitsWithin, FailsWithin, Fails, EndsTry};
     ghost use Rattle.store.specs.Status.{ShowsStore};
@@ -262,7 +255,7 @@ impl<R: Wait + Drop> Store<R> {
     {
         Ok(Transaction {
             snapshot: self.read()?,
-            row_limit: self.limit,
+            row_limit: self.layout.row_limit(),
         })
     }
 
@@ -277,6 +270,28 @@ impl<R: Wait + Drop> Store<R> {
             alloc: self.alloc,
             reads: self.database.begin()?,
         })
+    }
+
+    /// Makes these writes in a transaction of their own, as `Transaction::write` does, and commits it, as `Transaction::commit` does. It waits
+    /// as a read does, and then for a sync of the file.
+    pub fn write(&self, writes: &[(Key, Option<Row>)]) -> Result<Option<Ts>, StoreError>
+        // As `Database::write` says. The error for TooLong has the greatest length of a row.
+        ensures ok { IfOk result (ReportsWritten writes.now) }
+        ensures err { IfErr result (IsUnwritten writes.now) }
+    {
+        match self.database.write(writes) {
+            Ok(timestamp) => Ok(timestamp),
+            Err(CommitError::Refused(fault)) => Err(put_error(self.layout.row_limit(), fault)),
+            Err(CommitError::Open(fault)) => Err(StoreError::Unknown(fault)),
+        }
+    }
+
+    /// The layout of the store.
+    pub fn layout(&self) -> Geometry
+        // That of a state that a run comes to.
+        ensures { ComesTo (λ q. result ≡ q.layout) }
+    {
+        self.layout
     }
 
     /// The layout of the store, how far it has come, and how full it is, all at one moment. The time that it takes doesn't grow with

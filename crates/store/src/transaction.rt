@@ -121,8 +121,8 @@ impl<R: Wait + Drop> Transaction<'_, R> {
     }
 }
 
-// The error for a refused put, if rows have at most `limit` bytes.
-fn put_error(limit: usize, fault: Fault) -> StoreError
+/// The error for a refused put, if rows have at most `limit` bytes.
+pub fn put_error(limit: usize, fault: Fault) -> StoreError
     ensures { result ≡ put_error limit fault }
 {
     match fault {
