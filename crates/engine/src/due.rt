@@ -2,7 +2,7 @@
 //! draw that leaves few timestamps reserved, or finds none, a last stamp, the end of a sweep. A round finds something once
 //! commits were covered, or if a slot is needed.
 
-ghost use Rattle.std.specs.Prelude.{◌≡◌, ◌&&◌, ◌||◌, not};
+ghost use Rattle.std.specs.Prelude.{◌≡◌, ◌&&◌, ◌||◌, not, false};
 ghost use Rattle.base.specs.declared.step.Reply.TheVariants.{Refused};
 ghost use Rattle.engine.specs.Due.{covered_after, due_after, fails, goes_on, tick_after, wakes_waiting, wanted_after, wants_record_of};
 
