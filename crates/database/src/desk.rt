@@ -20,14 +20,11 @@ use base::key::Key;
 use base::row::Row;
 use history::{Front, Origin};
 use pmem::Pmem;
-use roles::Roles;
+use roles::{Roles, enough_for_round, lacks_memory};
 use std::alloc::{AllocError, Global};
 use std::hint::spin_loop;
 use std::sync::{Arc, Condvar, Mutex, MutexGuard, Wait};
 use std::thread;
-
-// How often in a row the committer may be refused memory while somebody waits for it.
-const REFUSALS: u64 = 100;
 
 // How often a lock is tried before the thread yields, and how often it yields before it sleeps. There are pauses between two tries, since
 // each try takes the lock's cache line away from its holder.
@@ -315,7 +312,7 @@ impl<D: Pmem + Drop, J: Origin> Desk<D, J> {
         ensures often { IsTrue result ↔ (most_refusals < self.now.refusals) }
         ensures so { IsTrue result → HasLackedMemory }
     {
-        REFUSALS < self.refusals
+        lacks_memory(self.refusals)
     }
 
     /// Whether the committer has ended because no record number is left. Nothing that is drawn from then on is ever covered.
@@ -420,7 +417,7 @@ impl<D: Pmem + Drop, J: Origin> Desk<D, J> {
     /// one.
     pub fn is_round_due(&self) -> bool {
         match &self.room {
-            Some(room) => (room.geometry().slots() / 4).max(1) <= self.covered,
+            Some(room) => enough_for_round(room.geometry().slots()) <= self.covered,
             None => false,
         }
     }
