@@ -106,7 +106,10 @@ static _Atomic int under_way; /* how many callers wait for replies */
 /* How often a thread looks before it waits. It gains by that only if it and the one that it waits for have a processor each. */
 static int looks(void) { return processors > 1 && 2 * atomic_load(&under_way) <= processors ? 500 : 0; }
 
-static int await_not(_Atomic int *at, int value) {
+/* How often a channel's thread lets others run before it sleeps: if its caller comes back meanwhile, nobody has to wake it. */
+enum { YIELDS = 4 };
+
+static int await_not(_Atomic int *at, int value, int yields) {
     int now;
     for (int i = 0, most = looks(); i < most; i++) {
         if ((now = atomic_load_explicit(at, memory_order_acquire)) != value) return now;
@@ -114,8 +117,10 @@ static int await_not(_Atomic int *at, int value) {
         __builtin_ia32_pause();
 #endif
     }
-    while ((now = atomic_load_explicit(at, memory_order_acquire)) == value)
-        syscall(SYS_futex, at, FUTEX_WAIT_PRIVATE, value, NULL, NULL, 0);
+    while ((now = atomic_load_explicit(at, memory_order_acquire)) == value) {
+        if (yields-- > 0) sched_yield();
+        else syscall(SYS_futex, at, FUTEX_WAIT_PRIVATE, value, NULL, NULL, 0);
+    }
     return now;
 }
 
@@ -165,7 +170,7 @@ static void lend(void *context) {
     struct channel *c = context;
     void *unused;
     pass_on(&c->turn);
-    while (await_not(&c->turn, CALLER) != ENDS) {}
+    while (await_not(&c->turn, CALLER, 0) != ENDS) {}
     nipamast_go(&unused, c->callee);
 }
 
@@ -201,7 +206,7 @@ static ssize_t read_channel(struct channel *c, void *to, size_t length) {
             wait_by_stack(c);
             if (!c->caller && atomic_load(&c->turn) == ENDS) return 0;
         } else {
-            if (!pass_on(&c->turn) || await_not(&c->turn, CALLER) == ENDS) return 0;
+            if (!pass_on(&c->turn) || await_not(&c->turn, CALLER, YIELDS) == ENDS) return 0;
         }
     }
     size_t rest = c->requests.length - c->taken;
@@ -251,7 +256,7 @@ static int hand_over(struct channel *c) {
     } else {
         atomic_fetch_add(&under_way, 1);
         become(&c->turn, PROGRAM);
-        await_not(&c->turn, PROGRAM);
+        await_not(&c->turn, PROGRAM, 0);
         atomic_fetch_sub(&under_way, 1);
     }
     return NIPAMAST_OK;
@@ -700,7 +705,7 @@ static int ask_to_open(struct channel *control, const char *path, size_t length,
     size_t size = o->slots ? sizeof numbers : 0;
     put_number(numbers, o->places, 8);
     put_number(numbers + 8, o->window, 8);
-    await_not(&control->turn, PROGRAM);
+    await_not(&control->turn, PROGRAM, 0);
     begin_batch(control);
     ask(control, code, o->channels, o->slots, numbers, size);
     add(&control->requests, path, length);

@@ -1,5 +1,5 @@
 """bindings.py thread|stack|sqlite FOLDER SECONDS [THREADS]: the same work as bindings.c, from Python, with as many lines of output.
-bindings.py LIBRARY MICROSECONDS ROUNDS THREADS: calls of together.c in place of commits."""
+bindings.py LIBRARY MICROSECONDS ROUNDS THREADS [1]: calls of together.c in place of commits, with 1 through Store.put."""
 import ctypes
 import os
 import sqlite3
@@ -63,14 +63,25 @@ def measure_committers(path, seconds, by_stack, count):
         measure_threads("commit-own", works, seconds)
 
 
-def measure_waits(library, microseconds, rounds, count):
+def putting(waits):
+    """Returns a call of Store.put whose call of the library only waits."""
+    import nipamast
+
+    declared, nipamast._write_row = nipamast._write_row, waits.write_row
+    waits.write_row.restype, waits.write_row.argtypes = declared.restype, declared.argtypes
+    store = nipamast.Store(None)
+    return lambda: store.put(1, 1, ROW)
+
+
+def measure_waits(library, microseconds, rounds, count, puts=0):
     """Each thread makes as many calls, since each call waits for all threads."""
     waits = ctypes.CDLL(library)
-    waits.wait_of(count)
+    waits.wait_of(count, ctypes.c_long(microseconds))
+    call = putting(waits) if puts else waits.wait_together
 
     def run():
         for _ in range(rounds):
-            waits.wait_together(microseconds)
+            call()
 
     threads, start = [threading.Thread(target=run) for _ in range(count)], time.perf_counter()
     for thread in threads:
