@@ -107,7 +107,7 @@ static _Atomic int under_way; /* how many callers wait for replies */
 /* How often a thread looks before it waits. It gains by that only if it and the one that it waits for have a processor each. */
 static int looks(void) { return processors > 1 && 2 * atomic_load(&under_way) <= processors ? 500 : 0; }
 
-/* How often a channel's thread lets others run otherwise before it sleeps, and how often it looks each time: its caller may come back. */
+/* How often a channel's thread then lets others run before it sleeps, and how often it looks each time: its caller may come back. */
 enum { YIELDS = 4, LOOKS = 100 };
 
 /* Whether it is still the turn of `whose`, after that many looks. */
@@ -128,8 +128,7 @@ static void sleep_while(_Atomic int *turn, int whose, const struct timespec *mos
 
 /* Waits while it is the turn of `whose`, and returns whose it is then. */
 static int await_not(_Atomic int *turn, int whose, int yields) {
-    int most = looks();
-    for (int i = most ? 0 : yields; is_still(turn, whose, most) && i > 0; i--) {
+    for (int most = looks(); is_still(turn, whose, most) && yields > 0; yields--) {
         sched_yield();
         most = LOOKS;
     }
