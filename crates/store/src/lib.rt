@@ -20,6 +20,11 @@
 //! calls of `database` do: *a run* is one of the plain machine that begins with the opening of a device. That it is the run of
 //! this very store is seen in the code.
 //!
+//! A store that `run` opens keeps its history, by name: the log of the steps that its room has made since the file was opened. What
+//! its calls say names that log, so it is said of this very store: that a commit has exactly what its transaction wrote, and that a
+//! read sees just that over what was covered at its begin. Nothing is stored for it but numbers. An application that needs it is a
+//! `Program`, and is generic in the name, `J`.
+//!
 //! `error_of` says which `StoreError` each fault becomes by `?`, and `commit_error` which one each refusal of a commit becomes
 //! (`crates/store/specs/Errors.antt`). This is proved of the conversions. A transaction that is read as a snapshot shows its own
 //! snapshot, which is proved too.
@@ -28,6 +33,7 @@
 mod error;
 mod file;
 mod files;
+mod kept;
 mod layout;
 mod ranges;
 mod reading;
@@ -40,10 +46,11 @@ pub use base::Ts;
 pub use base::geometry::Geometry;
 pub use base::key::Key;
 pub use base::row::Row;
-pub use database::Page;
+pub use database::{Committed, Front, Origin, Page};
 pub use error::{Layout, Part, StoreError};
 pub use file::StoreFile;
 pub use files::{Device, Refusal, open_database};
+pub use kept::{Program, run};
 pub use layout::standard_layout;
 pub use pmem_file::OpenError;
 pub use reading::Snapshot;

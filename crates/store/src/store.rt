@@ -24,9 +24,10 @@ use base::fault::Fault;
 use base::geometry::Geometry;
 use base::key::Key;
 use base::row::Row;
-use database::{CommitError, Database, Refused};
+use database::{Closed, CommitError, Database, Front, Origin, Refused};
 use std::alloc::Global;
 use std::fs::File;
+use std::marker::Brand;
 use std::rt::Files;
 use std::sync::Wait;
 use std::thread::Threads;
@@ -44,10 +45,10 @@ enum Attempt<T> {
 
 /// A store of rows in a file. Threads share it by reference. A drop leaves the file as a crash would: what was committed is kept.
 #[derive(Drop)]
-pub struct Store<R: Wait + Drop> {
+pub struct Store<R: Wait + Drop, J: Origin = Brand> {
     alloc: Global,
     name: String,
-    database: Database<Device, R>,
+    database: Database<Device, R, J>,
     // It never changes, so a begin takes no lock for it.
     layout: Geometry,
     ghost laid_out: { ComesTo (λ q. layout ≡ q.layout) },
@@ -105,7 +106,11 @@ impl<R: Files<File = File> + Threads + Wait + Copy + Drop + Send + Sync + 'stati
 }
 
 /// The store over this database.
-pub fn over<R: Wait + Drop>(alloc: Global, name: String, database: Database<Device, R>) -> Store<R>
+pub fn over<R: Wait + Drop, J: Origin>(
+    alloc: Global,
+    name: String,
+    database: Database<Device, R, J>,
+) -> Store<R, J>
     ensures { result.name ≡ name }
 {
     let layout = database.geometry();
@@ -152,24 +157,25 @@ fn refused(name: String, geometry: Geometry, fault: Fault) -> StoreError
     }
 }
 
-impl<R: Wait + Drop> Store<R> {
+impl<R: Wait + Drop, J: Origin> Store<R, J> {
     ghost use Rattle.std.specs.Prelude.{◌≡◌, ◌-◌, Ok, Err, IfOk, IfErr, OnOk};
     ghost use Rattle.std.specs.String.{string_bytes};
     ghost use Rattle.base.specs.Layout.{row_limit};
     ghost use Rattle.base.specs.declared.step.Step.TheVariants.{Begin};
     ghost use Rattle.room.specs.Runs.{ComesTo};
+    ghost use Rattle.database.specs.Histories.{HasBegun};
     ghost use Rattle.database.specs.Replies.{began_of};
     ghost use Rattle.database.specs.Committing.{ReportsWritten};
     ghost use Rattle.store.specs.Answers.{Answers, IsUnwritten};
-    ghost use Rattle.store.specs.Opening.{IsCovered, IsClosingError};
-    ghost use Rattle.store.specs.Trying.{CommitsWithin, FailsWithin, Fails, EndsTry};
+    ghost use Rattle.store.specs.Opening.{IsCovered, IsCoveredAfter, IsClosingError};
+    ghost use Rattle.store.specs.Trying.{CommitsInHistory, CommitsWithin, FailsWithin, Fails, EndsTry};
     ghost use Rattle.store.specs.Status.{ShowsStore};
 
     /// Makes the changes in one transaction and commits it. It returns what the changes return, and the timestamp, or `None` if
     /// nothing was written. After a conflict it tries again, on the rows as the other commit left them. After any other error,
     /// including the changes' own, nothing is kept, unless the error is `Unknown`. It waits for a sync of the file, as a commit
     /// does.
-    pub fn transact<T: Drop, F: Drop + FnMut(&mut Transaction<'_, R>) -> Result<T, StoreError>>(
+    pub fn transact<T: Drop, F: Drop + FnMut(&mut Transaction<'_, R, J>) -> Result<T, StoreError>>(
         &self,
         changes: F,
     ) -> Result<(T, Option<Ts>), StoreError>
@@ -179,8 +185,9 @@ impl<R: Wait + Drop> Store<R> {
         // The changes were called once for each try, a thousand at most, each time on a transaction that was begun for it. In
         // each try but the last, the draw of its session was refused for a conflict. By then what was drawn is covered, or the
         // committer has ended, or a tick was refused memory. In the last try the changes returned the value that is returned, and
-        // the session's commit returned the timestamp, as `Transaction::commit` says.
-        ensures ok { IfOk result (λ done. CommitsWithin F.step (λ lent. lent.now.snapshot.reads.session) 1000 changes done.0 done.1) }
+        // the session's commit returned the timestamp, as `Transaction::commit` says. If the history is kept, the begin of that
+        // try is in it, and then the commit, as `begin` and `Transaction::commit_known` say.
+        ensures ok { IfOk result (λ done. CommitsWithin F.step (λ lent. lent.now.snapshot.reads.session) (λ lent left timestamp. CommitsInHistory J.opened J.kept (lent.now.snapshot.reads.session, lent.now.snapshot.reads.trace) (left.now.snapshot.reads.session, left.now.snapshot.reads.trace) timestamp) 1000 changes done.0 done.1) }
 
         // After some such tries in vain, or none, no transaction was begun. Or the changes returned this error, and the session's
         // abort was made. Or its commit was refused, but not for a conflict. Or all tries that were allowed were in vain, the
@@ -193,12 +200,12 @@ impl<R: Wait + Drop> Store<R> {
     /// The same with at most this many tries instead of a thousand. If the number is 0, it tries once.
     pub fn transact_within<
         T: Drop,
-        F: Drop + FnMut(&mut Transaction<'_, R>) -> Result<T, StoreError>,
+        F: Drop + FnMut(&mut Transaction<'_, R, J>) -> Result<T, StoreError>,
     >(&self, tries: u64, mut changes: F) -> Result<(T, Option<Ts>), StoreError>
         requires callable { F.IsAlwaysCallable changes }
 
         // As for `transact`.
-        ensures ok { IfOk result (λ done. CommitsWithin F.step (λ lent. lent.now.snapshot.reads.session) tries changes done.0 done.1) }
+        ensures ok { IfOk result (λ done. CommitsWithin F.step (λ lent. lent.now.snapshot.reads.session) (λ lent left timestamp. CommitsInHistory J.opened J.kept (lent.now.snapshot.reads.session, lent.now.snapshot.reads.trace) (left.now.snapshot.reads.session, left.now.snapshot.reads.trace) timestamp) tries changes done.0 done.1) }
         ensures err { IfErr result (FailsWithin F.step (λ lent. lent.now.snapshot.reads.session) tries changes) }
     {
         for _made in 1..tries {
@@ -216,19 +223,19 @@ impl<R: Wait + Drop> Store<R> {
     }
 
     // One try: makes the changes in a transaction of their own, and commits it.
-    fn attempt<T: Drop, F: Drop + FnMut(&mut Transaction<'_, R>) -> Result<T, StoreError>>(
+    fn attempt<T: Drop, F: Drop + FnMut(&mut Transaction<'_, R, J>) -> Result<T, StoreError>>(
         &self,
         changes: &mut F,
     ) -> Result<Attempt<T>, StoreError>
         requires callable { F.IsAlwaysCallable changes.old }
         ensures callable { F.IsAlwaysCallable changes.new }
-        ensures ok { IfOk result (λ attempt. EndsTry F.step (λ lent. lent.now.snapshot.reads.session) changes.old attempt changes.new) }
+        ensures ok { IfOk result (λ attempt. EndsTry F.step (λ lent. lent.now.snapshot.reads.session) (λ lent left timestamp. CommitsInHistory J.opened J.kept (lent.now.snapshot.reads.session, lent.now.snapshot.reads.trace) (left.now.snapshot.reads.session, left.now.snapshot.reads.trace) timestamp) changes.old attempt changes.new) }
         ensures err { IfErr result (Fails F.step (λ lent. lent.now.snapshot.reads.session) changes.old) }
     {
         let mut transaction = self.begin()?;
         match changes(&mut transaction) {
-            Ok(value) => match transaction.commit() {
-                Ok(timestamp) => Ok(Attempt::Committed(value, timestamp)),
+            Ok(value) => match transaction.commit_known() {
+                Ok(done) => Ok(Attempt::Committed(value, done.timestamp)),
                 Err(error) => match error {
                     StoreError::Conflict(key) => Ok(Attempt::Conflict(key)),
                     error => Err(error),
@@ -243,9 +250,13 @@ impl<R: Wait + Drop> Store<R> {
 
     /// Begins a transaction, which reads the rows that are committed now, and what it writes itself. At most 62 transactions and snapshots
     /// can be open: another one is refused with `TooManyTransactions`. It waits as a read does.
-    pub fn begin(&self) -> Result<Transaction<'_, R>, StoreError>
+    pub fn begin(&self) -> Result<Transaction<'_, R, J>, StoreError>
         // A run ends in this call's Begin, and its reply has the number of the session.
         ensures ok { IfOk result (λ transaction. Answers Begin began_of (Ok transaction.snapshot.reads.session)) }
+
+        // If the history is kept, the transaction knows it up to this Begin, and its session is the one that was free then. It has
+        // made no step since.
+        ensures begun { IfOk result (λ transaction. HasBegun J.opened J.kept transaction.snapshot.reads.session transaction.snapshot.reads.trace) }
 
         // The transaction knows the greatest length of a row in a state that a run comes to.
         ensures limit { IfOk result (λ transaction. ComesTo (λ q. transaction.row_limit ≡ row_limit q.layout.version)) }
@@ -261,10 +272,13 @@ impl<R: Wait + Drop> Store<R> {
 
     /// A snapshot of the rows that are committed now, which can be read until it is dropped. It counts among the 62 too. It waits as a
     /// read does.
-    pub fn read(&self) -> Result<Snapshot<'_, R>, StoreError>
+    pub fn read(&self) -> Result<Snapshot<'_, R, J>, StoreError>
         // A run ends in this call's Begin. Its reply has the number of the session, or the fault from which the error is made.
         ensures ok { IfOk result (λ snapshot. Answers Begin began_of (Ok snapshot.reads.session)) }
         ensures err { IfErr result (λ error. Answers Begin began_of (Err error)) }
+
+        // As for `begin`.
+        ensures begun { IfOk result (λ snapshot. HasBegun J.opened J.kept snapshot.reads.session snapshot.reads.trace) }
     {
         Ok(Snapshot {
             alloc: self.alloc,
@@ -328,10 +342,23 @@ impl<R: Wait + Drop> Store<R> {
         // this cause, or all is covered and closing the file itself failed.
         ensures err { IfErr result (IsClosingError (string_bytes self.name)) }
     {
+        match self.close_known() {
+            Ok(_) => Ok(()),
+            Err(error) => Err(error),
+        }
+    }
+
+    /// The same, and returns the history up to there, if that is kept.
+    pub fn close_known(self) -> Result<Option<Front<J>>, StoreError>
+        // As for `close`. And if the history is kept, what is returned can be made from whatever the device opened as, and all that was
+        // covered and drawn in the state that it leads to is covered.
+        ensures ok { IfOk result (IsCoveredAfter J.opened J.kept) }
+        ensures err { IfErr result (IsClosingError (string_bytes self.name)) }
+    {
         let Store { name, database, .. } = self;
-        match database.close() {
-            Ok(device) => match device.close() {
-                Ok(_) => Ok(()),
+        match database.close_known() {
+            Ok(Closed { device, front }) => match device.close() {
+                Ok(_) => Ok(front),
                 Err(cause) => Err(StoreError::Lost { name, cause }),
             },
             Err(Refused { fault, device }) => Err(not_closed(name, device, fault)),
