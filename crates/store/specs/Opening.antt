@@ -1,16 +1,14 @@
 -- What is reported when a store is opened or closed.
-use Rattle.std.specs.Prelude.{◌≡◌, ◌≢◌, ◌⊎◌, ℕ, Bool, List, Option, Some, None}
+use Rattle.std.specs.Prelude.{◌≡◌, ◌≢◌, ◌⊎◌, ℕ, List, Option, Some, None}
 use Rattle.std.specs.declared.io.Error.{Error}
 use Rattle.std.specs.String.{string_bytes}
 use Rattle.base.specs.declared.fault.Fault.{Fault}
 use Rattle.base.specs.declared.fault.Fault.TheVariants.{Damaged}
 use Rattle.base.specs.Images.{opening_fault}
 use Rattle.base.specs.Layout.{Layout}
-use Rattle.base.specs.declared.step.Step.{Step}
 use Rattle.pmem.specs.Device.{Device}
 use Rattle.pmem.specs.Words.{image_of}
 use Rattle.database.specs.Closing.{ClosesRun, IsClosed, IsClosingRefused}
-use Rattle.database.specs.Histories.{ClosesAt}
 use Rattle.pmem_file.specs.Devices.{failure_of, state_of}
 use Rattle.store.specs.Files.{FileDevice, HasLost, HasOtherThan, IsFoundWith, IsRefusedWith, IsUnopened}
 use Rattle.store.specs.declared.error.StoreError.{StoreError}
@@ -45,11 +43,6 @@ IsFindingError file _ = ⊥
 -- all that was covered and drawn since a device was opened is covered on it
 abbrev pub IsCovered : Type 0
 IsCovered = (device : Device) × ∥ ClosesRun device (IsClosed device) ∥₁
-
--- The same. And if the history is kept, it is known up to the close, and all that was covered and drawn in the state that it leads to is covered on
--- that device
-abbrev pub IsCoveredAfter : Device → Bool → Option (List Step) → Type 0
-IsCoveredAfter opened kept history = (device : Device) × ∥ ClosesRun device (IsClosed device) ∥₁ × ClosesAt opened kept device history
 
 -- closing a device that was opened is refused with this fault, and its file has this failure, if it has failed
 abbrev pub IsUnclosed : Option Error → Fault → Type 0

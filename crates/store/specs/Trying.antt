@@ -1,15 +1,12 @@
 -- How the tries of `transact` end.
-use Rattle.std.specs.Prelude.{◌≡◌, ◌≢◌, ◌⊎◌, ◌≤◌, ◌-◌, ℕ, zero, suc, Bool, List, Option, Result, ⊤, Ok, Err}
+use Rattle.std.specs.Prelude.{◌≡◌, ◌≢◌, ◌⊎◌, ◌≤◌, ◌-◌, ℕ, zero, suc, Option, Result, ⊤, Ok, Err}
 use Rattle.base.specs.declared.fault.Fault.TheVariants.{Conflict}
 use Rattle.base.specs.declared.key.Key.{Key}
-use Rattle.base.specs.declared.step.Step.{Step}
 use Rattle.base.specs.declared.step.Step.TheVariants.{Begin, Abort}
-use Rattle.pmem.specs.Device.{Device}
 use Rattle.database.specs.declared.error.CommitError.TheVariants.{Refused}
 use Rattle.database.specs.Replies.{began_of, done_of}
 use Rattle.database.specs.Obeys.{AnswersStep}
 use Rattle.database.specs.Committing.{IsPrepared, MeetsConflictOn, ReportsCommit}
-use Rattle.database.specs.Histories.{Known, HasBegun, HasCommitted}
 use Rattle.store.specs.declared.error.StoreError.{StoreError}
 use Rattle.store.specs.declared.store.Attempt.{Attempt}
 use Rattle.store.specs.Answers.{Answers, IsCommitRefusal}
@@ -37,24 +34,16 @@ abbrev pub TriesInVain : {F X T : Type 0} → (F → X → Result T StoreError �
 TriesInVain step session_of zero old new = new ≡ old
 TriesInVain {F} step session_of (suc n) old new = (mid : F) × (key : Key) × TriesInVain step session_of n old mid × MeetsConflict step session_of mid key new
 
--- If the history is kept, the transaction that was lent has begun in it, as its first element says. Of the session that was left the history then
--- has the draw of this timestamp, its stamps and its end after the last step that the changes made, and no other step.
--- Excluded: a commit of another transaction than the one that the changes were called on; a step that neither they nor the commit made.
-abbrev pub CommitsInHistory : Device → Bool → ℕ × Option Known → ℕ × Option Known → Option ℕ → Type 0
-CommitsInHistory opened kept lent left timestamp =
-    HasBegun opened kept lent.0 lent.1 × ((front : Option (List Step)) × HasCommitted opened left.0 left.1 timestamp front)
-
--- the changes returned this value, and their commit returned this timestamp; `Keeps` says what of it is in the history
-pub record Commits {F X T : Type 0} (step : F → X → Result T StoreError → X → F → Type 0) (session_of : X → ℕ) (Keeps : X → X → Option ℕ → Type 0) (old : F) (value : T) (timestamp : Option ℕ) (new : F) : Type 0 where
+-- the changes returned this value, and their commit returned this timestamp
+pub record Commits {F X T : Type 0} (step : F → X → Result T StoreError → X → F → Type 0) (session_of : X → ℕ) (old : F) (value : T) (timestamp : Option ℕ) (new : F) : Type 0 where
   pub session : ℕ
   pub calls : CallsOn step session_of old (Ok value) session new
   pub reported : ReportsCommit session timestamp
-  pub kept : Keeps calls.lent calls.left timestamp
 
 -- how a try ends, unless it fails with an error other than a conflict
-abbrev pub EndsTry : {F X T : Type 0} → (F → X → Result T StoreError → X → F → Type 0) → (X → ℕ) → (X → X → Option ℕ → Type 0) → F → Attempt T → F → Type 0
-EndsTry step session_of Keeps old (Attempt.Committed value timestamp) new = Commits step session_of Keeps old value timestamp new
-EndsTry step session_of Keeps old (Attempt.Conflict key) new = MeetsConflict step session_of old key new
+abbrev pub EndsTry : {F X T : Type 0} → (F → X → Result T StoreError → X → F → Type 0) → (X → ℕ) → F → Attempt T (Option ℕ) → F → Type 0
+EndsTry step session_of old (Attempt.Committed value timestamp) new = Commits step session_of old value timestamp new
+EndsTry step session_of old (Attempt.Conflict key) new = MeetsConflict step session_of old key new
 
 -- the session's abort was asked for
 abbrev pub IsAborted : ℕ → Type 0
@@ -75,8 +64,8 @@ EndsTries {F} step session_of tries changes Last = (n : ℕ) × (n ≤ tries - 1
 
 -- The last try committed, with this value and this timestamp.
 -- Excluded: a value or a timestamp of another try; a commit of what the changes rolled back.
-abbrev pub CommitsWithin : {F X T : Type 0} → (F → X → Result T StoreError → X → F → Type 0) → (X → ℕ) → (X → X → Option ℕ → Type 0) → ℕ → F → T → Option ℕ → Type 0
-CommitsWithin {F} step session_of Keeps tries changes value timestamp = EndsTries step session_of tries changes (λ mid. (new : F) × Commits step session_of Keeps mid value timestamp new)
+abbrev pub CommitsWithin : {F X T : Type 0} → (F → X → Result T StoreError → X → F → Type 0) → (X → ℕ) → ℕ → F → T → Option ℕ → Type 0
+CommitsWithin {F} step session_of tries changes value timestamp = EndsTries step session_of tries changes (λ mid. (new : F) × Commits step session_of mid value timestamp new)
 
 -- The last try failed with this error; or all were in vain, the last one for a conflict on the key that is reported.
 -- Excluded: tries that end early.

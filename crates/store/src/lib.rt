@@ -30,6 +30,7 @@
 //! snapshot, which is proved too.
 #![tactic(auto)]
 
+mod closed;
 mod error;
 mod file;
 mod files;
@@ -41,14 +42,17 @@ mod row;
 mod status;
 mod store;
 mod transaction;
+mod work;
 
 pub use base::Ts;
 pub use base::geometry::Geometry;
 pub use base::key::Key;
 pub use base::row::Row;
+pub use closed::Closed;
 pub use database::{Committed, Front, Origin, Page};
 pub use error::{Layout, Part, StoreError};
 pub use file::StoreFile;
+pub use file_words::Account;
 pub use files::{Device, Refusal, open_database};
 pub use kept::{Program, run};
 pub use layout::standard_layout;
@@ -58,3 +62,4 @@ pub use row::{RowExt, key};
 pub use status::Status;
 pub use store::Store;
 pub use transaction::Transaction;
+pub use work::Work;

@@ -13,6 +13,7 @@ ghost use Rattle.store.specs.declared.error.StoreError.{StoreError};
 ghost use Rattle.store.specs.Errors.{part_of};
 ghost use Rattle.store.specs.Opening.{IsFindingError, IsOpeningError, IsClosingError};
 
+use crate::closed::{Closed, close_file};
 use crate::error::{Layout, Part, StoreError};
 use crate::file::StoreFile;
 use crate::files::{Device, Refusal, open_database};
@@ -24,7 +25,7 @@ use base::fault::Fault;
 use base::geometry::Geometry;
 use base::key::Key;
 use base::row::Row;
-use database::{Closed, CommitError, Database, Front, Origin, Refused};
+use database::{CommitError, Database, Front, Origin, Refused};
 use std::alloc::Global;
 use std::fs::File;
 use std::marker::Brand;
@@ -32,13 +33,14 @@ use std::rt::Files;
 use std::sync::Wait;
 use std::thread::Threads;
 
-// The most transactions that one `transact` begins.
-const TRIES: u64 = 1_000;
+/// The most transactions that one `transact` begins.
+pub const TRIES: u64 = 1_000;
 
-// How a try ends, unless it fails with an error other than a conflict.
+/// How a try ends, unless it fails with an error other than a conflict.
 #[derive(Drop)]
-enum Attempt<T> {
-    Committed(T, Option<Ts>),
+pub enum Attempt<T, C> {
+    // What the changes returned, and what their commit did.
+    Committed(T, C),
     // Another commit of this key came first.
     Conflict(Key),
 }
@@ -157,25 +159,15 @@ fn refused(name: String, geometry: Geometry, fault: Fault) -> StoreError
     }
 }
 
-impl<R: Wait + Drop, J: Origin> Store<R, J> {
-    ghost use Rattle.std.specs.Prelude.{◌≡◌, ◌-◌, Ok, Err, IfOk, IfErr, OnOk};
-    ghost use Rattle.std.specs.String.{string_bytes};
-    ghost use Rattle.base.specs.Layout.{row_limit};
-    ghost use Rattle.base.specs.declared.step.Step.TheVariants.{Begin};
-    ghost use Rattle.room.specs.Runs.{ComesTo};
-    ghost use Rattle.database.specs.Histories.{HasBegun};
-    ghost use Rattle.database.specs.Replies.{began_of};
-    ghost use Rattle.database.specs.Committing.{ReportsWritten};
-    ghost use Rattle.store.specs.Answers.{Answers, IsUnwritten};
-    ghost use Rattle.store.specs.Opening.{IsCovered, IsCoveredAfter, IsClosingError};
-    ghost use Rattle.store.specs.Trying.{CommitsInHistory, CommitsWithin, FailsWithin, Fails, EndsTry};
-    ghost use Rattle.store.specs.Status.{ShowsStore};
+impl<R: Wait + Drop> Store<R> {
+    ghost use Rattle.std.specs.Prelude.{IfOk, IfErr};
+    ghost use Rattle.store.specs.Trying.{CommitsWithin, FailsWithin, Fails, EndsTry};
 
     /// Makes the changes in one transaction and commits it. It returns what the changes return, and the timestamp, or `None` if
     /// nothing was written. After a conflict it tries again, on the rows as the other commit left them. After any other error,
     /// including the changes' own, nothing is kept, unless the error is `Unknown`. It waits for a sync of the file, as a commit
     /// does.
-    pub fn transact<T: Drop, F: Drop + FnMut(&mut Transaction<'_, R, J>) -> Result<T, StoreError>>(
+    pub fn transact<T: Drop, F: Drop + FnMut(&mut Transaction<'_, R>) -> Result<T, StoreError>>(
         &self,
         changes: F,
     ) -> Result<(T, Option<Ts>), StoreError>
@@ -185,9 +177,8 @@ impl<R: Wait + Drop, J: Origin> Store<R, J> {
         // The changes were called once for each try, a thousand at most, each time on a transaction that was begun for it. In
         // each try but the last, the draw of its session was refused for a conflict. By then what was drawn is covered, or the
         // committer has ended, or a tick was refused memory. In the last try the changes returned the value that is returned, and
-        // the session's commit returned the timestamp, as `Transaction::commit` says. If the history is kept, the begin of that
-        // try is in it, and then the commit, as `begin` and `Transaction::commit_known` say.
-        ensures ok { IfOk result (λ done. CommitsWithin F.step (λ lent. lent.now.snapshot.reads.session) (λ lent left timestamp. CommitsInHistory J.opened J.kept (lent.now.snapshot.reads.session, lent.now.snapshot.reads.trace) (left.now.snapshot.reads.session, left.now.snapshot.reads.trace) timestamp) 1000 changes done.0 done.1) }
+        // the session's commit returned the timestamp, as `Transaction::commit` says.
+        ensures ok { IfOk result (λ done. CommitsWithin F.step (λ lent. lent.now.snapshot.reads.session) 1000 changes done.0 done.1) }
 
         // After some such tries in vain, or none, no transaction was begun. Or the changes returned this error, and the session's
         // abort was made. Or its commit was refused, but not for a conflict. Or all tries that were allowed were in vain, the
@@ -200,12 +191,12 @@ impl<R: Wait + Drop, J: Origin> Store<R, J> {
     /// The same with at most this many tries instead of a thousand. If the number is 0, it tries once.
     pub fn transact_within<
         T: Drop,
-        F: Drop + FnMut(&mut Transaction<'_, R, J>) -> Result<T, StoreError>,
+        F: Drop + FnMut(&mut Transaction<'_, R>) -> Result<T, StoreError>,
     >(&self, tries: u64, mut changes: F) -> Result<(T, Option<Ts>), StoreError>
         requires callable { F.IsAlwaysCallable changes }
 
         // As for `transact`.
-        ensures ok { IfOk result (λ done. CommitsWithin F.step (λ lent. lent.now.snapshot.reads.session) (λ lent left timestamp. CommitsInHistory J.opened J.kept (lent.now.snapshot.reads.session, lent.now.snapshot.reads.trace) (left.now.snapshot.reads.session, left.now.snapshot.reads.trace) timestamp) tries changes done.0 done.1) }
+        ensures ok { IfOk result (λ done. CommitsWithin F.step (λ lent. lent.now.snapshot.reads.session) tries changes done.0 done.1) }
         ensures err { IfErr result (FailsWithin F.step (λ lent. lent.now.snapshot.reads.session) tries changes) }
     {
         for _made in 1..tries {
@@ -223,19 +214,19 @@ impl<R: Wait + Drop, J: Origin> Store<R, J> {
     }
 
     // One try: makes the changes in a transaction of their own, and commits it.
-    fn attempt<T: Drop, F: Drop + FnMut(&mut Transaction<'_, R, J>) -> Result<T, StoreError>>(
+    fn attempt<T: Drop, F: Drop + FnMut(&mut Transaction<'_, R>) -> Result<T, StoreError>>(
         &self,
         changes: &mut F,
-    ) -> Result<Attempt<T>, StoreError>
+    ) -> Result<Attempt<T, Option<Ts>>, StoreError>
         requires callable { F.IsAlwaysCallable changes.old }
         ensures callable { F.IsAlwaysCallable changes.new }
-        ensures ok { IfOk result (λ attempt. EndsTry F.step (λ lent. lent.now.snapshot.reads.session) (λ lent left timestamp. CommitsInHistory J.opened J.kept (lent.now.snapshot.reads.session, lent.now.snapshot.reads.trace) (left.now.snapshot.reads.session, left.now.snapshot.reads.trace) timestamp) changes.old attempt changes.new) }
+        ensures ok { IfOk result (λ attempt. EndsTry F.step (λ lent. lent.now.snapshot.reads.session) changes.old attempt changes.new) }
         ensures err { IfErr result (Fails F.step (λ lent. lent.now.snapshot.reads.session) changes.old) }
     {
         let mut transaction = self.begin()?;
         match changes(&mut transaction) {
-            Ok(value) => match transaction.commit_known() {
-                Ok(done) => Ok(Attempt::Committed(value, done.timestamp)),
+            Ok(value) => match transaction.commit() {
+                Ok(timestamp) => Ok(Attempt::Committed(value, timestamp)),
                 Err(error) => match error {
                     StoreError::Conflict(key) => Ok(Attempt::Conflict(key)),
                     error => Err(error),
@@ -247,6 +238,21 @@ impl<R: Wait + Drop, J: Origin> Store<R, J> {
             }
         }
     }
+}
+
+impl<R: Wait + Drop, J: Origin> Store<R, J> {
+    ghost use Rattle.std.specs.Prelude.{◌≡◌, ◌-◌, Ok, Err, IfOk, IfErr, OnOk};
+    ghost use Rattle.std.specs.String.{string_bytes};
+    ghost use Rattle.base.specs.Layout.{row_limit};
+    ghost use Rattle.base.specs.declared.step.Step.TheVariants.{Begin};
+    ghost use Rattle.room.specs.Runs.{ComesTo};
+    ghost use Rattle.database.specs.Histories.{HasBegun};
+    ghost use Rattle.database.specs.Replies.{began_of};
+    ghost use Rattle.database.specs.Committing.{ReportsWritten};
+    ghost use Rattle.store.specs.Answers.{Answers, IsUnwritten};
+    ghost use Rattle.store.specs.Opening.{IsCovered, IsClosingError};
+    ghost use Rattle.store.specs.Closed.{IsClosedAs};
+    ghost use Rattle.store.specs.Status.{ShowsStore};
 
     /// Begins a transaction, which reads the rows that are committed now, and what it writes itself. At most 62 transactions and snapshots
     /// can be open: another one is refused with `TooManyTransactions`. It waits as a read does.
@@ -348,19 +354,19 @@ impl<R: Wait + Drop, J: Origin> Store<R, J> {
         }
     }
 
-    /// The same, and returns the history up to there, if that is kept.
-    pub fn close_known(self) -> Result<Option<Front<J>>, StoreError>
-        // As for `close`. And if the history is kept, what is returned can be made from whatever the device opened as, and all that was
-        // covered and drawn in the state that it leads to is covered.
-        ensures ok { IfOk result (IsCoveredAfter J.opened J.kept) }
+    /// The same, and returns the file's account, and the history up to there, if that is kept.
+    pub fn close_known(self) -> Result<Closed<J>, StoreError>
+        // As for `close`.
+        ensures covered { OnOk result IsCovered }
         ensures err { IfErr result (IsClosingError (string_bytes self.name)) }
+
+        // By its account the file was cut to one image, and is found as nothing else. If the history is kept, what is returned can be
+        // made from whatever the device opened as. That image covers all that was covered and drawn in the state that it leads to.
+        ensures file { IfOk result (λ closed. IsClosedAs J.opened J.kept closed.account closed.front) }
     {
         let Store { name, database, .. } = self;
         match database.close_known() {
-            Ok(Closed { device, front }) => match device.close() {
-                Ok(_) => Ok(front),
-                Err(cause) => Err(StoreError::Lost { name, cause }),
-            },
+            Ok(closed) => close_file(name, closed),
             Err(Refused { fault, device }) => Err(not_closed(name, device, fault)),
         }
     }

@@ -5,29 +5,52 @@ use std::fs::File;
 use std::rt::Files;
 use std::sync::Wait;
 use std::thread::Threads;
-use store::{Front, Geometry, Origin, Program, Store, StoreError, Ts, key};
+use store::{Front, Geometry, Key, Origin, Program, Store, StoreError, Transaction, Ts, Work, key};
+
+// Adds one to the number of a key.
+#[derive(Drop)]
+struct Increment {
+    key: Key,
+}
+
+impl<R: Wait + Drop, J: Origin> Work<R, J> for Increment {
+    ghost use Rattle.std.specs.Prelude.{◌≡◌, ◌∷◌, [], Some, IfOk};
+    ghost use Rattle.std.specs.Int.{w64, to_le_bytes};
+
+    type Value = u64;
+
+    // At Ok it has written the number that it returns, and nothing else.
+    ghost does = { λ old writes result new. IfOk result (λ number. writes ≡ (old.key, Some (to_le_bytes w64 number)) ∷ []) };
+
+    fn run(&mut self, transaction: &mut Transaction<'_, R, J>) -> Result<u64, StoreError> {
+        let number = match transaction.number(self.key)? {
+            Some(number) => number.saturating_add(1),
+            None => 1,
+        };
+        transaction.put_number(self.key, number)?;
+        Ok(number)
+    }
+}
 
 // Commits a row twice, and closes the store.
 #[derive(Drop)]
 struct Twice;
 
-// The timestamps, and whether all that was known of the history are beginnings of one.
-type Saw = (Option<Ts>, Option<Ts>, bool);
+// The timestamps, the number, and whether all that was known of the history are beginnings of one.
+type Saw = (Option<Ts>, Option<Ts>, u64, bool);
 
 impl<R: Wait + Drop> Program<R> for Twice {
     type Answer = Result<Saw, StoreError>;
 
     fn run<J: Origin + Send + Sync + 'static>(self, store: Store<R, J>) -> Result<Saw, StoreError> {
         let (begun, first, ended) = commit_once(&store, 1)?;
-        let (begun_later, second, ended_later) = commit_once(&store, 2)?;
-        let Some(closed) = store.close_known()? else {
+        let (number, second) = store.transact_known(Increment { key: key(1, 1) })?;
+        let closed = store.close_known()?;
+        let (Some(later), Some(last)) = (second.front, closed.front) else {
             return Err(StoreError::Own(anyhow!("no history is kept")));
         };
-        let is_one = begun.begins(&ended)
-            && ended.begins(&begun_later)
-            && begun_later.begins(&ended_later)
-            && ended_later.begins(&closed);
-        Ok((first, second, is_one))
+        let is_one = begun.begins(&ended) && ended.begins(&later) && later.begins(&last);
+        Ok((first, second.timestamp, number, is_one))
     }
 }
 
@@ -62,7 +85,15 @@ pub fn keep_one<
         + 'static,
 >(rt: &R) -> Result<(), Error> {
     let geometry = Geometry::new(64, 2, 64)?;
-    let (first, second, is_one) = store::run(*rt, rt.alloc(), "kept.img", geometry, Twice)??;
-    println!(rt; "kept: committed {first:?} and {second:?}, in one history {is_one}")?;
+    let (first, second, number, is_one) = store::run(
+        *rt,
+        rt.alloc(),
+        "kept.img",
+        geometry,
+        Twice,
+    )??;
+    println!(rt;
+        "kept: committed {first:?} and {second:?}, the number is {number}, in one history {is_one}"
+    )?;
     Ok(())
 }

@@ -1,12 +1,11 @@
 use Rattle.std.proofs.Common.{inl, inr, refl, of_calls}
-use Rattle.store.proofs.store.Store.attempt.Goals as goal
+use Rattle.store.proofs.store.Store+R.attempt.Goals as goal
 
-pub returns-in-Ok-commit_known-clause-ok : goal.returns-in-Ok-commit_known-clause-ok
-returns-in-Ok-commit_known-clause-ok g c = record {
+pub returns-in-Ok-commit-clause-ok : goal.returns-in-Ok-commit-clause-ok
+returns-in-Ok-commit-clause-ok g c = record {
   session = c.changes.new.arg2.snapshot.reads.session;
   calls = record { lent = _; left = _; begun = c.in_ok-transaction.ensures.ok; called = c.in-Ok.ensures; leaves = refl };
-  reported = c.in-Ok-commit_known.ensures.ok;
-  kept = (c.in_ok-transaction.ensures.begun, (_, c.in-Ok-commit_known.ensures.history));
+  reported = c.in-Ok-commit.ensures.ok;
 }
 
 pub returns-in-Conflict-clause-ok : goal.returns-in-Conflict-clause-ok
@@ -14,8 +13,8 @@ returns-in-Conflict-clause-ok g c = record {
   value = c.in-Ok.value;
   session = c.changes.new.arg2.snapshot.reads.session;
   calls = record { lent = _; left = _; begun = c.in_ok-transaction.ensures.ok; called = c.in-Ok.ensures; leaves = refl };
-  refused = (c.in-Err-commit_known.ensures.err.conflict c.in-Conflict.key c.in-Conflict.is).0;
-  settled = (c.in-Err-commit_known.ensures.err.conflict c.in-Conflict.key c.in-Conflict.is).1;
+  refused = (c.in-Err-commit.ensures.err.conflict c.in-Conflict.key c.in-Conflict.is).0;
+  settled = (c.in-Err-commit.ensures.err.conflict c.in-Conflict.key c.in-Conflict.is).1;
 }
 
 pub returns-in-Ok : goal.returns-in-Ok
@@ -27,7 +26,7 @@ returns-in-Ok g c = record {
     c.changes.new.arg2.snapshot.reads.session,
     c.changes.new.self,
     record { lent = _; left = _; begun = c.in_ok-transaction.ensures.ok; called = c.in-Ok.ensures; leaves = refl },
-    c.in-Err-commit_known.ensures.err,
+    c.in-Err-commit.ensures.err,
     c.in_default.not-Conflict,
   ));
 }
