@@ -38,17 +38,17 @@ pub record IsFoundWith (layout : Layout) (device : Device) : Type 0 where
   pub laid_out : IsLaidOut found (image_of device)
   pub is_asked_for : opened_layout found ≡ opened_layout layout
 
--- the device has this layout, and opening it isn't refused
-abbrev pub IsOpened : Layout → Device → Type 0
-IsOpened layout device = IsFoundWith layout device × (opening_fault (image_of device) ≡ None)
-
 -- Such a device was opened. It isn't excluded that the device is another store's.
 abbrev pub OpensLayout : Layout → Type 0
-OpensLayout layout = (device : Device) × IsOpened layout device
+OpensLayout layout = (device : Device) × IsFoundWith layout device × (opening_fault (image_of device) ≡ None)
 
 -- such a device was opened, with the layout that it has
 abbrev pub OpensExisting : Type 0
 OpensExisting = (layout : Layout) × OpensLayout layout
+
+-- the device is at rest, its image has a layout, and opening it isn't refused
+abbrev pub MayOpen : Device → Type 0
+MayOpen device = (layout : Layout) × IsFoundWith layout device × (opening_fault (image_of device) ≡ None)
 
 -- a device at rest has this layout, and it isn't the one that was asked for
 abbrev pub HasOtherThan : Layout → Layout → Type 0

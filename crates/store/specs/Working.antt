@@ -43,7 +43,7 @@ CoversCommit opened log t writes =
 
 -- if the history is known, and anything was written, it covers the commit
 abbrev pub KeepsWrites : Device → List (Key × Option (List ℕ)) → Option ℕ → Option (List Step) → Type 0
-KeepsWrites opened writes (Some t) (Some log) = laid_over writes ≢ [] → CoversCommit opened log t (laid_over writes)
+KeepsWrites opened writes (Some t) (Some log) = writes ≢ [] → CoversCommit opened log t (laid_over writes)
 KeepsWrites opened writes None log = ⊤
 KeepsWrites opened writes t None = ⊤
 

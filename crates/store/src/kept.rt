@@ -21,15 +21,14 @@ use std::thread::Threads;
 /// What an application does with a store whose history is kept.
 pub trait Program<R: Wait + Drop> {
     ghost use Rattle.std.specs.Prelude.{◌≡◌, true};
-    ghost use Rattle.base.specs.Layout.{Layout};
-    ghost use Rattle.store.specs.Files.{IsOpened};
+    ghost use Rattle.store.specs.Files.{MayOpen};
 
     type Answer;
 
     fn run<J: Origin + Send + Sync + 'static>(self, store: Store<R, J>) -> Self::Answer
         // The history is kept, from the opening of this device: it was at rest, and its image has a layout and isn't refused.
         requires kept { J.kept ≡ true }
-        requires opened { (layout : Layout) × IsOpened layout J.opened };
+        requires opened { MayOpen J.opened };
 }
 
 /// Opens the file as `Store::open` does, keeps the history from then on, and runs the application with the store.
