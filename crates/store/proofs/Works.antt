@@ -32,9 +32,9 @@ does-nothing s None = refl
 -- first these steps, and then those
 pub does-then : (s : ℕ) (one two : List Step) (old mid new : Option Known) → Does s one old mid → Does s two mid new → Does s (one ++ two) old new
 does-then s one two (Some old) (Some mid) (Some new) (begun, (x, first, is)) (later, (y, second, so)) = (
-    later ∙ begun,
-    (x ++ y, second ∙ (ap (λ (l : List Step). l ++ y) first ∙ append_assoc old.seen x y), own-append s x y ∙ cc (is, so)),
-  )
+  later ∙ begun,
+  (x ++ y, second ∙ (ap (λ (l : List Step). l ++ y) first ∙ append_assoc old.seen x y), own-append s x y ∙ cc (is, so)),
+)
 does-then s one two (Some old) (Some mid) None first second = absurd second
 does-then s one two (Some old) None new first second = absurd first
 does-then s one two None (Some mid) new first second = absurd (cc first)

@@ -4,9 +4,9 @@ use Rattle.base.specs.Images.{Image}
 use Rattle.base.specs.declared.step.Step.{Step}
 use Rattle.file_words.specs.Calls.{IsCutTo, held_by}
 use Rattle.file_words.specs.declared.account.Account.{Account}
+use Rattle.journal.specs.Kept.{HoldsOnly}
 use Rattle.machine.specs.Machine.{StandsClosed}
 use Rattle.pmem.specs.Device.{Device}
-use Rattle.pmem_file.below.journal.specs.Kept.{HoldsOnly}
 use Rattle.session_laws.specs.Laws.{IsFirst}
 use Rattle.session_laws.specs.Logs.{state_after, AreMade}
 use Rattle.database.specs.Histories.{OfEachStart}

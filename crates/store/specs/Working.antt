@@ -7,7 +7,6 @@ use Rattle.pmem.specs.Device.{Device}
 use Rattle.session_laws.specs.Laws.{IsFirst}
 use Rattle.session_laws.specs.Logs.{state_after, AreMade}
 use Rattle.session_laws.specs.Sessions.{IsKept}
-use Rattle.history.specs.declared.origin.Origin.{Ghosts as Origins}
 use Rattle.database.specs.Committing.{ReportsCommit}
 use Rattle.database.specs.Histories.{Known, Does, HasBegun, HasCommitted, OfEachStart, write_steps}
 use Rattle.database.specs.declared.transaction.Committed.{Committed}
@@ -59,7 +58,7 @@ pub record CommitsWork {W V : Type 0} (opened : Device) (kept : Bool) (does : De
   pub keeps : KeepsWrites opened calls.called.0 timestamp front
 
 -- how a try of a work ends, unless it fails with an error other than a conflict
-abbrev pub EndsWork : {W V J : Type 0} → {O : Origins J} → Device → Bool → Deeds W V → W → Attempt V (Committed J O) → W → Type 0
+abbrev pub EndsWork : {W V J : Type 0} → Device → Bool → Deeds W V → W → Attempt V (Committed J) → W → Type 0
 EndsWork opened kept does old (Attempt.Committed value done) new = CommitsWork opened kept does old value done.timestamp done.front new
 EndsWork opened kept does old (Attempt.Conflict key) new = MeetsConflict (Works does) (λ lent. lent.0) old key new
 
@@ -67,4 +66,4 @@ EndsWork opened kept does old (Attempt.Conflict key) new = MeetsConflict (Works 
 -- Excluded: a value or a timestamp of another try.
 abbrev pub WorksWithin : {W V : Type 0} → Device → Bool → Deeds W V → ℕ → W → V → Option ℕ → Option (List Step) → Type 0
 WorksWithin {W} {V} opened kept does tries work value timestamp front =
-    EndsTries {W} {Lent} {V} (Works does) (λ lent. lent.0) tries work (λ mid. (new : W) × CommitsWork opened kept does mid value timestamp front new)
+    EndsTries (Works does) (λ lent. lent.0) tries work (λ mid. (new : W) × CommitsWork opened kept does mid value timestamp front new)

@@ -33,7 +33,7 @@ impl<R: Wait + Drop, J: Origin> Store<R, J> {
     /// what the commit does.
     pub fn transact_known<W: Work<R, J> + Drop>(
         &self,
-        work: W,
+        mut work: W,
     ) -> Result<(W::Value, Committed<J>), StoreError>
         // The work was done once for each try, a thousand at most, each time in a transaction that was begun for it. Each try but the
         // last met a conflict, as for `transact`. In the last one it returned this value, and the commit this timestamp. If the
@@ -46,7 +46,6 @@ impl<R: Wait + Drop, J: Origin> Store<R, J> {
         // Or all tries that were allowed were in vain, the last one on the key of `GivenUp`.
         ensures err { IfErr result (FailsWithin (Works W.does) (λ lent. lent.0) 1000 work) }
     {
-        let mut work = work;
         for _made in 1..TRIES {
             match self.attempt_known(&mut work) {
                 Ok(Attempt::Committed(value, done)) => return Ok((value, done)),
