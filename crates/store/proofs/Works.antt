@@ -20,7 +20,10 @@ use Rattle.session_laws.proofs.Logs.{own-append}
 use Rattle.session_laws.proofs.Transactions.{transactions-add_up}
 use Rattle.room_logs.proofs.Logs.{each-both, each-follows}
 use Rattle.database.specs.Histories.{Known, Does, GoesOnWith, HasBegun, HasCommitted, CommitsIn, IsBegunAt, write_steps}
-use Rattle.store.specs.Working.{laid_over, CoversCommit, KeepsWrites}
+use Rattle.database.specs.declared.transaction.Committed.{Committed}
+use Rattle.store.specs.Trying.{MeetsConflict}
+use Rattle.store.specs.Working.{Deeds, Works, EndsWork, laid_over, CoversCommit, KeepsWrites}
+use Rattle.store.specs.declared.store.Attempt.{Attempt}
 
 -- ---- the steps of a transaction, one after another
 
@@ -114,3 +117,9 @@ keeps-writes opened false s writes None (Some new) (Some t) (Some log) begins do
 keeps-writes opened false s writes None None (Some t) (Some log) begins does commits = absurd (cc commits)
 keeps-writes opened kept s writes lent left (Some t) None begins does commits = tt
 keeps-writes opened kept s writes lent left None front begins does commits = tt
+
+-- ---- tries
+
+pub ended-work : {W V J : Type 0} (opened : Device) (kept : Bool) (does : Deeds W V) (old new : W) (attempt : Attempt V (Committed J)) (key : Key)
+    → attempt ≡ Attempt.Conflict key → EndsWork opened kept does old attempt new → MeetsConflict (Works does) (λ lent. lent.0) old key new
+ended-work {W} {V} {J} opened kept does old new attempt key is ends = subst (λ (a : Attempt V (Committed J)). EndsWork opened kept does old a new) is ends

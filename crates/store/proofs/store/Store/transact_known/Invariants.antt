@@ -1,7 +1,7 @@
 use Rattle.std.proofs.Common.{◌-◌, ◌≤◌}
 use Rattle.store.specs.Trying.{TriesInVain}
 use Rattle.store.specs.Working.{Works}
-use Rattle.store.proofs.work.Store.transact_known.Given as goal
+use Rattle.store.proofs.store.Store.transact_known.Given as goal
 
 -- all tries so far were in vain
 abbrev pub invariant-loop-made : goal.invariant-loop-made
