@@ -1,22 +1,19 @@
 -- What a work wrote, and what its history then covers.
-use Rattle.std.proofs.Common.{◌≡◌, ◌≢◌, ℕ, Bool, true, false, if◌then◌else◌, List, [], ◌∷◌, ◌++◌, refl, sym, ◌∙◌, ap, subst, append_assoc, Some, None}
+use Rattle.std.proofs.Common.{◌≡◌, ◌≢◌, ℕ, Bool, true, false, if◌then◌else◌, List, [], ◌∷◌, refl, sym, ◌∙◌, subst, Some, None}
 use Rattle.std.specs.Prelude.{Option, fold}
 use Rattle.std.specs.List.{list_all}
 use Rattle.std.proofs.Math.Logic.{∥∥₁_map₂}
-use Rattle.std.proofs.lemmas.List.{append-nil}
 use Rattle.base.specs.Commits.{Commit, Writes, with_write}
 use Rattle.base.specs.Keys.{key_eq, key_lt}
 use Rattle.base.specs.declared.key.Key.{Key}
 use Rattle.base.specs.declared.step.Step.{Step}
-use Rattle.base.specs.declared.step.Step.TheVariants.{Begin}
 use Rattle.machine.specs.Machine.{State, free_session}
 use Rattle.pmem.specs.Device.{Device}
 use Rattle.pmem.specs.Words.{image_of}
 use Rattle.session_laws.specs.Laws.{IsFirst}
-use Rattle.session_laws.specs.Logs.{state_after, AreMade, own}
+use Rattle.session_laws.specs.Logs.{state_after, AreMade}
 use Rattle.session_laws.specs.Sessions.{reads_or_writes, with_step, written_by, IsKept}
 use Rattle.session_laws.specs.Transactions.{Open, IsOpen, Commits}
-use Rattle.session_laws.proofs.Logs.{own-append}
 use Rattle.session_laws.proofs.Transactions.{transactions-add_up}
 use Rattle.room_logs.proofs.Logs.{each-both, each-follows}
 use Rattle.database.specs.Histories.{Known, Does, GoesOnWith, HasBegun, HasCommitted, CommitsIn, IsBegunAt, write_steps}
@@ -25,25 +22,7 @@ use Rattle.store.specs.Trying.{MeetsConflict}
 use Rattle.store.specs.Working.{Deeds, Works, EndsWork, laid_over, CoversCommit, KeepsWrites}
 use Rattle.store.specs.declared.store.Attempt.{Attempt}
 
--- ---- the steps of a transaction, one after another
-
--- a transaction that did nothing
-pub does-nothing : (s : ℕ) (known : Option Known) → Does s [] known known
-does-nothing s (Some known) = (refl, ([], sym (append-nil known.seen), refl))
-does-nothing s None = refl
-
--- first these steps, and then those
-pub does-then : (s : ℕ) (one two : List Step) (old mid new : Option Known) → Does s one old mid → Does s two mid new → Does s (one ++ two) old new
-does-then s one two (Some old) (Some mid) (Some new) (begun, (x, first, is)) (later, (y, second, so)) = (
-  later ∙ begun,
-  (x ++ y, second ∙ (ap (λ (l : List Step). l ++ y) first ∙ append_assoc old.seen x y), own-append s x y ∙ cc (is, so)),
-)
-does-then s one two (Some old) (Some mid) None first second = absurd second
-does-then s one two (Some old) None new first second = absurd first
-does-then s one two None (Some mid) new first second = absurd (cc first)
-does-then s one two None None new first second = second
-
--- ---- what they write
+-- ---- what the steps for writes write
 
 some-written : (is_one is_less : Bool) (one two three : Key × Option (List ℕ)) (x y z : Writes) → (if is_one then one ∷ x else (if is_less then two ∷ y else three ∷ z)) ≢ []
 some-written true is_less one two three x y z e = absurd (cc e)

@@ -1,5 +1,5 @@
 -- What is left in the file of a store that was closed.
-use Rattle.std.specs.Prelude.{◌≡◌, ℕ, Bool, true, false, List, length, Option, Some, None}
+use Rattle.std.specs.Prelude.{◌≡◌, Bool, true, false, List, length, Option, Some, None}
 use Rattle.base.specs.Images.{Image}
 use Rattle.base.specs.declared.step.Step.{Step}
 use Rattle.file_words.specs.Calls.{IsCutTo, held_by}

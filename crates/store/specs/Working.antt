@@ -1,5 +1,5 @@
 -- What the work of a transaction does, in a store whose history is kept.
-use Rattle.std.specs.Prelude.{◌≡◌, ◌≢◌, ◌⊎◌, ◌-◌, ℕ, Bool, List, [], fold, Option, Some, None, Result, ⊤, Ok}
+use Rattle.std.specs.Prelude.{◌≡◌, ◌≢◌, ℕ, Bool, List, [], fold, Option, Some, None, Result, ⊤, Ok}
 use Rattle.base.specs.declared.key.Key.{Key}
 use Rattle.base.specs.declared.step.Step.{Step}
 use Rattle.base.specs.Commits.{Writes, with_write}

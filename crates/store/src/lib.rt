@@ -21,9 +21,9 @@
 //! this very store is seen in the code.
 //!
 //! A store that `run` opens keeps its history, by name: the log of the steps that its room has made since the file was opened. What
-//! its calls say names that log, so it is said of this very store: that a commit has exactly what its transaction wrote, and that a
-//! read sees just that over what was covered at its begin. Nothing is stored for it but numbers. An application that needs it is a
-//! `Program`, and is generic in the name, `J`.
+//! its calls say names that log: that a commit has exactly what its transaction wrote, and that a read sees just that over what was
+//! covered at its begin. Nothing is stored for it but numbers. An application that needs it is a `Program`, and is generic in the
+//! name, `J`. What `transact_known` does there is a `Work`.
 //!
 //! `error_of` says which `StoreError` each fault becomes by `?`, and `commit_error` which one each refusal of a commit becomes
 //! (`crates/store/specs/Errors.antt`). This is proved of the conversions. A transaction that is read as a snapshot shows its own

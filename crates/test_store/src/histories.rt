@@ -22,6 +22,7 @@ impl<R: Wait + Drop, J: Origin> Work<R, J> for Increment {
     // At Ok it has written the number that it returns, and nothing else.
     ghost does = { λ old writes result new. IfOk result (λ number. writes ≡ (old.key, Some (to_le_bytes w64 number)) ∷ []) };
 
+    #[tactic(auto, using(store::proofs::Doing::does_nothing))]
     fn run(&mut self, transaction: &mut Transaction<'_, R, J>) -> Result<u64, StoreError> {
         let number = match transaction.number(self.key)? {
             Some(number) => number.saturating_add(1),
