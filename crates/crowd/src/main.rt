@@ -43,11 +43,17 @@ struct Crowd {
     rows: u64,
 }
 
-impl Crowd {
-    // How many keys each thread updates.
-    fn keys(&self) -> u64 {
-        KEYS.max(self.rows)
-    }
+// What each thread does: so many commits, of so many rows each.
+#[derive(Clone, Copy)]
+struct Turns {
+    alloc: Global,
+    commits: u64,
+    rows: u64,
+}
+
+// How many keys each thread updates, in transactions of so many rows.
+fn keys_for(rows: u64) -> u64 {
+    KEYS.max(rows)
 }
 
 fn main(rt: HostRuntime) -> Result<(), Error> {
@@ -165,15 +171,14 @@ fn use_slots<R: Wait + Drop>(
     store: &Store<R>,
     crowd: &Crowd,
 ) -> Result<(), StoreError> {
-    let keys = crowd
-        .keys()
+    let keys = keys_for(crowd.rows)
         .saturating_mul(crowd.threads as u64)
         .max(TOGETHER);
     let mut writes = Vec::new(alloc);
     for number in 0..crowd.slots / TOGETHER {
         let first = number.saturating_mul(TOGETHER);
         update(&mut writes, first..first.saturating_add(TOGETHER), keys, 0)?;
-        store.transact(|t| t.write(writes.as_slice()))?;
+        store.write(writes.as_slice())?;
     }
     Ok(())
 }
@@ -206,12 +211,17 @@ fn time_committers<H: Clock + Threads + Wait + Drop + Send + Sync>(
     store: &Store<H>,
     crowd: &Crowd,
 ) -> Result<Duration, Error> {
+    let turns = Turns {
+        alloc,
+        commits: crowd.commits,
+        rows: crowd.rows,
+    };
     let start = Instant::now(rt)?;
     let ended = map_indices(
         rt,
         alloc,
         crowd.threads,
-        &|thread| commit_in_turn(alloc, store, crowd, thread as u64),
+        &|thread| commit_in_turn(store, &turns, thread as u64),
     )?;
     for one in &ended {
         if let Err(error) = one {
@@ -223,18 +233,17 @@ fn time_committers<H: Clock + Threads + Wait + Drop + Send + Sync>(
 
 // Makes the commits of this thread, each of which updates the next ones of its keys.
 fn commit_in_turn<R: Wait + Drop>(
-    alloc: Global,
     store: &Store<R>,
-    crowd: &Crowd,
+    turns: &Turns,
     thread: u64,
 ) -> Result<(), StoreError> {
-    let keys = crowd.keys();
-    let mut writes = Vec::new(alloc);
-    for number in 0..crowd.commits {
-        let next = number.saturating_mul(crowd.rows);
-        let updates = next..next.saturating_add(crowd.rows);
+    let keys = keys_for(turns.rows);
+    let mut writes = Vec::new(turns.alloc);
+    for number in 0..turns.commits {
+        let next = number.saturating_mul(turns.rows);
+        let updates = next..next.saturating_add(turns.rows);
         update(&mut writes, updates, keys, thread.saturating_mul(keys))?;
-        store.transact(|t| t.write(writes.as_slice()))?;
+        store.write(writes.as_slice())?;
     }
     Ok(())
 }

@@ -4,3 +4,6 @@ pub mod Trying
 pub mod Opening
 pub mod RangeReads
 pub mod Finding
+pub mod Works
+pub mod Closings
+pub mod Doing

@@ -170,8 +170,8 @@ pub fn open_over<R: Threads + Wait + Copy + Drop + Send + Sync + 'static>(
     }
 }
 
-// If a write or a sync of the file failed, the cause. Otherwise the fault with which opening was refused; then the file is closed.
-fn refusal_of(device: Device, fault: Fault) -> Refusal
+/// If a write or a sync of the file failed, the cause. Otherwise the fault with which opening was refused; then the file is closed.
+pub fn refusal_of(device: Device, fault: Fault) -> Refusal
     ensures layout { (layout : Layout) → ReportsLayout layout result }
 
     // If a write or a sync of the file failed, that is reported, and otherwise the fault.

@@ -13,6 +13,7 @@ ghost use Rattle.store.specs.declared.error.StoreError.{StoreError};
 ghost use Rattle.store.specs.Errors.{part_of};
 ghost use Rattle.store.specs.Opening.{IsFindingError, IsOpeningError, IsClosingError};
 
+use crate::closed::{Closed, close_file};
 use crate::error::{Layout, Part, StoreError};
 use crate::file::StoreFile;
 use crate::files::{Device, Refusal, open_database};
@@ -24,30 +25,32 @@ use base::fault::Fault;
 use base::geometry::Geometry;
 use base::key::Key;
 use base::row::Row;
-use database::{CommitError, Database, Refused};
+use database::{CommitError, Database, Front, Origin, Refused};
 use std::alloc::Global;
 use std::fs::File;
+use std::marker::Brand;
 use std::rt::Files;
 use std::sync::Wait;
 use std::thread::Threads;
 
-// The most transactions that one `transact` begins.
-const TRIES: u64 = 1_000;
+/// The most transactions that one `transact` begins.
+pub const TRIES: u64 = 1_000;
 
-// How a try ends, unless it fails with an error other than a conflict.
+/// How a try ends, unless it fails with an error other than a conflict.
 #[derive(Drop)]
-enum Attempt<T> {
-    Committed(T, Option<Ts>),
+pub enum Attempt<T, C> {
+    // What the changes returned, and what their commit did.
+    Committed(T, C),
     // Another commit of this key came first.
     Conflict(Key),
 }
 
 /// A store of rows in a file. Threads share it by reference. A drop leaves the file as a crash would: what was committed is kept.
 #[derive(Drop)]
-pub struct Store<R: Wait + Drop> {
+pub struct Store<R: Wait + Drop, J: Origin = Brand> {
     alloc: Global,
     name: String,
-    database: Database<Device, R>,
+    database: Database<Device, R, J>,
     // It never changes, so a begin takes no lock for it.
     layout: Geometry,
     ghost laid_out: { ComesTo (λ q. layout ≡ q.layout) },
@@ -105,7 +108,11 @@ impl<R: Files<File = File> + Threads + Wait + Copy + Drop + Send + Sync + 'stati
 }
 
 /// The store over this database.
-pub fn over<R: Wait + Drop>(alloc: Global, name: String, database: Database<Device, R>) -> Store<R>
+pub fn over<R: Wait + Drop, J: Origin>(
+    alloc: Global,
+    name: String,
+    database: Database<Device, R, J>,
+) -> Store<R, J>
     ensures { result.name ≡ name }
 {
     let layout = database.geometry();
@@ -153,17 +160,8 @@ fn refused(name: String, geometry: Geometry, fault: Fault) -> StoreError
 }
 
 impl<R: Wait + Drop> Store<R> {
-    ghost use Rattle.std.specs.Prelude.{◌≡◌, ◌-◌, Ok, Err, IfOk, IfErr, OnOk};
-    ghost use Rattle.std.specs.String.{string_bytes};
-    ghost use Rattle.base.specs.Layout.{row_limit};
-    ghost use Rattle.base.specs.declared.step.Step.TheVariants.{Begin};
-    ghost use Rattle.room.specs.Runs.{ComesTo};
-    ghost use Rattle.database.specs.Replies.{began_of};
-    ghost use Rattle.database.specs.Committing.{ReportsWritten};
-    ghost use Rattle.store.specs.Answers.{Answers, IsUnwritten};
-    ghost use Rattle.store.specs.Opening.{IsCovered, IsClosingError};
+    ghost use Rattle.std.specs.Prelude.{IfOk, IfErr};
     ghost use Rattle.store.specs.Trying.{CommitsWithin, FailsWithin, Fails, EndsTry};
-    ghost use Rattle.store.specs.Status.{ShowsStore};
 
     /// Makes the changes in one transaction and commits it. It returns what the changes return, and the timestamp, or `None` if
     /// nothing was written. After a conflict it tries again, on the rows as the other commit left them. After any other error,
@@ -219,7 +217,7 @@ impl<R: Wait + Drop> Store<R> {
     fn attempt<T: Drop, F: Drop + FnMut(&mut Transaction<'_, R>) -> Result<T, StoreError>>(
         &self,
         changes: &mut F,
-    ) -> Result<Attempt<T>, StoreError>
+    ) -> Result<Attempt<T, Option<Ts>>, StoreError>
         requires callable { F.IsAlwaysCallable changes.old }
         ensures callable { F.IsAlwaysCallable changes.new }
         ensures ok { IfOk result (λ attempt. EndsTry F.step (λ lent. lent.now.snapshot.reads.session) changes.old attempt changes.new) }
@@ -240,12 +238,31 @@ impl<R: Wait + Drop> Store<R> {
             }
         }
     }
+}
+
+impl<R: Wait + Drop, J: Origin> Store<R, J> {
+    ghost use Rattle.std.specs.Prelude.{◌≡◌, ◌-◌, Ok, Err, IfOk, IfErr, OnOk};
+    ghost use Rattle.std.specs.String.{string_bytes};
+    ghost use Rattle.base.specs.Layout.{row_limit};
+    ghost use Rattle.base.specs.declared.step.Step.TheVariants.{Begin};
+    ghost use Rattle.room.specs.Runs.{ComesTo};
+    ghost use Rattle.database.specs.Histories.{HasBegun};
+    ghost use Rattle.database.specs.Replies.{began_of};
+    ghost use Rattle.database.specs.Committing.{ReportsWritten};
+    ghost use Rattle.store.specs.Answers.{Answers, IsUnwritten};
+    ghost use Rattle.store.specs.Opening.{IsCovered, IsClosingError};
+    ghost use Rattle.store.specs.Closed.{IsClosedAs};
+    ghost use Rattle.store.specs.Status.{ShowsStore};
 
     /// Begins a transaction, which reads the rows that are committed now, and what it writes itself. At most 62 transactions and snapshots
     /// can be open: another one is refused with `TooManyTransactions`. It waits as a read does.
-    pub fn begin(&self) -> Result<Transaction<'_, R>, StoreError>
+    pub fn begin(&self) -> Result<Transaction<'_, R, J>, StoreError>
         // A run ends in this call's Begin, and its reply has the number of the session.
         ensures ok { IfOk result (λ transaction. Answers Begin began_of (Ok transaction.snapshot.reads.session)) }
+
+        // If the history is kept, the transaction knows it up to this Begin, and its session is the one that was free then. It has
+        // made no step since.
+        ensures begun { IfOk result (λ transaction. HasBegun J.opened J.kept transaction.snapshot.reads.session transaction.snapshot.reads.trace) }
 
         // The transaction knows the greatest length of a row in a state that a run comes to.
         ensures limit { IfOk result (λ transaction. ComesTo (λ q. transaction.row_limit ≡ row_limit q.layout.version)) }
@@ -261,10 +278,13 @@ impl<R: Wait + Drop> Store<R> {
 
     /// A snapshot of the rows that are committed now, which can be read until it is dropped. It counts among the 62 too. It waits as a
     /// read does.
-    pub fn read(&self) -> Result<Snapshot<'_, R>, StoreError>
+    pub fn read(&self) -> Result<Snapshot<'_, R, J>, StoreError>
         // A run ends in this call's Begin. Its reply has the number of the session, or the fault from which the error is made.
         ensures ok { IfOk result (λ snapshot. Answers Begin began_of (Ok snapshot.reads.session)) }
         ensures err { IfErr result (λ error. Answers Begin began_of (Err error)) }
+
+        // As for `begin`.
+        ensures begun { IfOk result (λ snapshot. HasBegun J.opened J.kept snapshot.reads.session snapshot.reads.trace) }
     {
         Ok(Snapshot {
             alloc: self.alloc,
@@ -328,12 +348,25 @@ impl<R: Wait + Drop> Store<R> {
         // this cause, or all is covered and closing the file itself failed.
         ensures err { IfErr result (IsClosingError (string_bytes self.name)) }
     {
+        match self.close_known() {
+            Ok(_) => Ok(()),
+            Err(error) => Err(error),
+        }
+    }
+
+    /// The same, and returns the file's account, and the history up to there, if that is kept.
+    pub fn close_known(self) -> Result<Closed<J>, StoreError>
+        // As for `close`.
+        ensures covered { OnOk result IsCovered }
+        ensures err { IfErr result (IsClosingError (string_bytes self.name)) }
+
+        // By its account the file was cut to one image, and is found as nothing else. If the history is kept, what is returned can be
+        // made from whatever the device opened as. That image covers all that was covered and drawn in the state that it leads to.
+        ensures file { IfOk result (λ closed. IsClosedAs J.opened J.kept closed.account closed.front) }
+    {
         let Store { name, database, .. } = self;
-        match database.close() {
-            Ok(device) => match device.close() {
-                Ok(_) => Ok(()),
-                Err(cause) => Err(StoreError::Lost { name, cause }),
-            },
+        match database.close_known() {
+            Ok(closed) => close_file(name, closed),
             Err(Refused { fault, device }) => Err(not_closed(name, device, fault)),
         }
     }

@@ -2,7 +2,7 @@ use Rattle.std.proofs.Common.{sym, subst}
 use Rattle.database.proofs.Errors.{tells-refusal}
 use Rattle.store.specs.Answers.{ReportsConflict}
 use Rattle.store.proofs.Conflicts.{conflict-told}
-use Rattle.store.proofs.transaction.Transaction.commit.Goals as goal
+use Rattle.store.proofs.transaction.Transaction.commit_known.Goals as goal
 
 pub returns-in-Err-clause-err : goal.returns-in-Err-clause-err
 returns-in-Err-clause-err g c =

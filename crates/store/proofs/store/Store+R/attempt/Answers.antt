@@ -1,5 +1,5 @@
 use Rattle.std.proofs.Common.{inl, inr, refl, of_calls}
-use Rattle.store.proofs.store.Store.attempt.Goals as goal
+use Rattle.store.proofs.store.Store+R.attempt.Goals as goal
 
 pub returns-in-Ok-commit-clause-ok : goal.returns-in-Ok-commit-clause-ok
 returns-in-Ok-commit-clause-ok g c = record {

@@ -1,6 +1,6 @@
 use Rattle.std.proofs.Common.{◌-◌, ◌≤◌}
 use Rattle.store.specs.Trying.{TriesInVain}
-use Rattle.store.proofs.store.Store.transact_within.Given as goal
+use Rattle.store.proofs.store.Store+R.transact_within.Given as goal
 
 -- all tries so far were in vain
 abbrev pub invariant-loop-made : goal.invariant-loop-made

@@ -1,6 +1,6 @@
 use Rattle.std.proofs.Common.{arith}
 use Rattle.store.proofs.Trying.{tries-more, ended-conflict}
-use Rattle.store.proofs.store.Store.transact_within.Goals as goal
+use Rattle.store.proofs.store.Store+R.transact_within.Goals as goal
 
 pub loop-made-preserved : goal.loop-made-preserved
 loop-made-preserved g c = (
