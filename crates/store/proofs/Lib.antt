@@ -6,4 +6,3 @@ pub mod RangeReads
 pub mod Finding
 pub mod Works
 pub mod Closings
-pub mod Doing
