@@ -97,8 +97,9 @@ static int refuse(int result) {
 
 /* --- whose turn it is ------------------------------------------------------------------------------------------------------------ */
 
-/* Whose the buffers of a channel are: the program's, also until it reads for the first time, or the caller's. */
-enum { PROGRAM, CALLER, ENDS };
+/* Whose the buffers of a channel are: the program's, also until it reads for the first time, or the caller's. SLEEPS is added if the
+ * other one sleeps until its turn, so that nobody who is awake is woken. */
+enum { PROGRAM, CALLER, ENDS, SLEEPS = 4 };
 
 static long processors;
 static _Atomic int under_way; /* how many callers wait for replies */
@@ -106,28 +107,46 @@ static _Atomic int under_way; /* how many callers wait for replies */
 /* How often a thread looks before it waits. It gains by that only if it and the one that it waits for have a processor each. */
 static int looks(void) { return processors > 1 && 2 * atomic_load(&under_way) <= processors ? 500 : 0; }
 
-static int await_not(_Atomic int *at, int value) {
-    int now;
-    for (int i = 0, most = looks(); i < most; i++) {
-        if ((now = atomic_load_explicit(at, memory_order_acquire)) != value) return now;
+/* How often a channel's thread then lets others run before it sleeps, and how often it looks each time: its caller may come back. */
+enum { YIELDS = 4, LOOKS = 100 };
+
+/* Whether it is still the turn of `whose`, after that many looks. */
+static int is_still(_Atomic int *turn, int whose, int most) {
+    for (int i = 0; i < most && atomic_load_explicit(turn, memory_order_acquire) == whose; i++) {
 #if defined(__x86_64__)
         __builtin_ia32_pause();
 #endif
     }
-    while ((now = atomic_load_explicit(at, memory_order_acquire)) == value)
-        syscall(SYS_futex, at, FUTEX_WAIT_PRIVATE, value, NULL, NULL, 0);
-    return now;
+    return (atomic_load_explicit(turn, memory_order_acquire) & ~SLEEPS) == whose;
 }
 
-static void become(_Atomic int *at, int value) {
-    atomic_store_explicit(at, value, memory_order_seq_cst);
-    syscall(SYS_futex, at, FUTEX_WAKE_PRIVATE, INT_MAX, NULL, NULL, 0);
+static void sleep_while(_Atomic int *turn, int whose, const struct timespec *most) {
+    int was = whose;
+    atomic_compare_exchange_strong(turn, &was, whose | SLEEPS);
+    syscall(SYS_futex, turn, FUTEX_WAIT_PRIVATE, whose | SLEEPS, most, NULL, 0);
 }
+
+/* Waits while it is the turn of `whose`, and returns whose it is then. */
+static int await_not(_Atomic int *turn, int whose, int yields) {
+    for (int most = looks(); is_still(turn, whose, most) && yields > 0; yields--) {
+        sched_yield();
+        most = LOOKS;
+    }
+    while (is_still(turn, whose, 0)) sleep_while(turn, whose, NULL);
+    return atomic_load_explicit(turn, memory_order_acquire);
+}
+
+static void wake_if(int was, _Atomic int *turn) {
+    if (was & SLEEPS) syscall(SYS_futex, turn, FUTEX_WAKE_PRIVATE, INT_MAX, NULL, NULL, 0);
+}
+
+static void become(_Atomic int *turn, int whose) { wake_if(atomic_exchange(turn, whose), turn); }
 
 /* The program's turn is over, unless the end has come meanwhile. */
 static int pass_on(_Atomic int *turn) {
     int was = PROGRAM;
-    if (atomic_compare_exchange_strong(turn, &was, CALLER)) syscall(SYS_futex, turn, FUTEX_WAKE_PRIVATE, INT_MAX, NULL, NULL, 0);
+    while (!atomic_compare_exchange_strong(turn, &was, CALLER) && was == (PROGRAM | SLEEPS)) {}
+    wake_if(was, turn);
     return was != ENDS;
 }
 
@@ -165,7 +184,7 @@ static void lend(void *context) {
     struct channel *c = context;
     void *unused;
     pass_on(&c->turn);
-    while (await_not(&c->turn, CALLER) != ENDS) {}
+    while (await_not(&c->turn, CALLER, 0) != ENDS) {}
     nipamast_go(&unused, c->callee);
 }
 
@@ -201,7 +220,7 @@ static ssize_t read_channel(struct channel *c, void *to, size_t length) {
             wait_by_stack(c);
             if (!c->caller && atomic_load(&c->turn) == ENDS) return 0;
         } else {
-            if (!pass_on(&c->turn) || await_not(&c->turn, CALLER) == ENDS) return 0;
+            if (!pass_on(&c->turn) || await_not(&c->turn, CALLER, YIELDS) == ENDS) return 0;
         }
     }
     size_t rest = c->requests.length - c->taken;
@@ -251,7 +270,7 @@ static int hand_over(struct channel *c) {
     } else {
         atomic_fetch_add(&under_way, 1);
         become(&c->turn, PROGRAM);
-        await_not(&c->turn, PROGRAM);
+        await_not(&c->turn, PROGRAM, 0);
         atomic_fetch_sub(&under_way, 1);
     }
     return NIPAMAST_OK;
@@ -685,9 +704,8 @@ static int are_served(struct store *s, int refused_before) {
     struct timespec most = { 0, 10000000 };
     for (int i = 1; i <= s->channels; i++) {
         struct channel *c = &s->channel[i];
-        while (atomic_load(&c->turn) == PROGRAM && atomic_load(&refused_threads) == refused_before)
-            syscall(SYS_futex, &c->turn, FUTEX_WAIT_PRIVATE, PROGRAM, &most, NULL, 0);
-        if (atomic_load(&c->turn) == PROGRAM || atomic_load(&c->ended)) return 0;
+        while (is_still(&c->turn, PROGRAM, 0) && atomic_load(&refused_threads) == refused_before) sleep_while(&c->turn, PROGRAM, &most);
+        if (is_still(&c->turn, PROGRAM, 0) || atomic_load(&c->ended)) return 0;
     }
     return 1;
 }
@@ -700,7 +718,7 @@ static int ask_to_open(struct channel *control, const char *path, size_t length,
     size_t size = o->slots ? sizeof numbers : 0;
     put_number(numbers, o->places, 8);
     put_number(numbers + 8, o->window, 8);
-    await_not(&control->turn, PROGRAM);
+    await_not(&control->turn, PROGRAM, 0);
     begin_batch(control);
     ask(control, code, o->channels, o->slots, numbers, size);
     add(&control->requests, path, length);

@@ -1,5 +1,8 @@
-"""bindings.py thread|stack|sqlite FOLDER SECONDS [THREADS]: the same work as bindings.c, from Python, with as many lines of output.
-bindings.py LIBRARY MICROSECONDS ROUNDS THREADS: calls of together.c in place of commits."""
+"""bindings.py thread|stack|sqlite FOLDER SECONDS: the same work as bindings.c, from Python, with as many lines of output.
+bindings.py thread|stack FOLDER ROUNDS THREADS: that many commits of a row by each thread, each of which updates keys of its own.
+bindings.py LIBRARY MICROSECONDS ROUNDS THREADS puts|calls [apart]: the same over together.c, which only waits, or calls of its one function
+alone; with `apart` other threads wait for them.
+"""
 import ctypes
 import os
 import sqlite3
@@ -55,29 +58,46 @@ def measure_nipamast(path, seconds, by_stack):
         measure_threads("commit-threads", [lambda i: store.put(1, i % KEYS, ROW)] * THREADS, seconds)
 
 
-def measure_committers(path, seconds, by_stack, count):
-    import nipamast
+def measure_rounds(works, rounds):
+    """Each thread does as much, since a call that only waits waits for all threads."""
+    def run(work):
+        for number in range(rounds):
+            work(number)
 
-    with nipamast.open(path, slots=16_384, channels=count, by_stack=by_stack) as store:
-        works = [lambda i, first=number * 8: store.put(1, first + i % 8, ROW) for number in range(count)]
-        measure_threads("commit-own", works, seconds)
-
-
-def measure_waits(library, microseconds, rounds, count):
-    """Each thread makes as many calls, since each call waits for all threads."""
-    waits = ctypes.CDLL(library)
-    waits.wait_of(count)
-
-    def run():
-        for _ in range(rounds):
-            waits.wait_together(microseconds)
-
-    threads, start = [threading.Thread(target=run) for _ in range(count)], time.perf_counter()
+    threads, start = [threading.Thread(target=run, args=(work,)) for work in works], time.perf_counter()
     for thread in threads:
         thread.start()
     for thread in threads:
         thread.join()
-    print("commit-own", f"{rounds * count / (time.perf_counter() - start):.0f}", flush=True)
+    print("commit-own", f"{rounds * len(works) / (time.perf_counter() - start):.0f}", flush=True)
+
+
+def puts_of(store, count):
+    """Returns what each thread does: it commits a row, to one of its keys in turn."""
+    return [lambda i, first=number * 8: store.put(1, first + i % 8, ROW) for number in range(count)]
+
+
+def measure_committers(path, rounds, by_stack, count):
+    import nipamast
+
+    with nipamast.open(path, slots=16_384, channels=count, by_stack=by_stack) as store:
+        measure_rounds(puts_of(store, count), rounds)
+
+
+def waiting_store(waits):
+    """Returns a store whose put calls a function of the library that only waits."""
+    import nipamast
+
+    declared, nipamast._write_row = nipamast._write_row, waits.write_row
+    waits.write_row.restype, waits.write_row.argtypes = declared.restype, declared.argtypes
+    return nipamast.Store(None)
+
+
+def measure_waits(library, microseconds, rounds, count, kind, *apart):
+    waits, count = ctypes.CDLL(library), int(count)
+    waits.wait_of(count, ctypes.c_long(int(microseconds)), len(apart))
+    works = puts_of(waiting_store(waits), count) if kind == "puts" else [lambda _: waits.wait_together()] * count
+    measure_rounds(works, int(rounds))
 
 
 def connect(path):
@@ -116,12 +136,12 @@ def measure_sqlite(path, seconds):
 
 def main():
     if sys.argv[1].endswith(".so"):
-        measure_waits(sys.argv[1], *map(int, sys.argv[2:]))
+        measure_waits(*sys.argv[1:])
         return
     engine, folder, seconds = sys.argv[1], sys.argv[2], float(sys.argv[3])
     path = os.path.join(folder, "bindings.db")
     if len(sys.argv) > 4:
-        measure_committers(path, seconds, engine == "stack", int(sys.argv[4]))
+        measure_committers(path, int(sys.argv[3]), engine == "stack", int(sys.argv[4]))
     elif engine == "sqlite":
         measure_sqlite(path, seconds)
     else:

@@ -8,13 +8,12 @@
 mod beside;
 mod transacting;
 
-use anyhow::{Error, anyhow, bail};
+use anyhow::{Error, bail};
 use base::fault::Fault;
 use base::geometry::Geometry;
 use base::key::Key;
 use base::row::Row;
 use beside::{Readers, time_readers};
-use database::Database;
 use std::alloc::Global;
 use std::env;
 use std::fs::File;
@@ -23,7 +22,7 @@ use std::rt::{Clock, Files};
 use std::sync::Wait;
 use std::thread::{Threads, map_indices};
 use std::time::{Duration, Instant};
-use store::{Device, Refusal, open_database};
+use store::{Store, StoreError};
 use transacting::{Transactions, time_transactions};
 
 const WORDS: &str =
@@ -44,11 +43,17 @@ struct Crowd {
     rows: u64,
 }
 
-impl Crowd {
-    // How many keys each thread updates.
-    fn keys(&self) -> u64 {
-        KEYS.max(self.rows)
-    }
+// What each thread does: so many commits, of so many rows each.
+#[derive(Clone, Copy)]
+struct Turns {
+    alloc: Global,
+    commits: u64,
+    rows: u64,
+}
+
+// How many keys each thread updates, in transactions of so many rows.
+fn keys_for(rows: u64) -> u64 {
+    KEYS.max(rows)
 }
 
 fn main(rt: HostRuntime) -> Result<(), Error> {
@@ -152,54 +157,28 @@ fn print_rate<H: Print>(rt: &H, what: &str, count: u64, took: Duration) -> Resul
 fn time_commits<
     H: Files<File = File> + Clock + Threads + Wait + Copy + Drop + Send + Sync + 'static,
 >(rt: &H, alloc: Global, name: &str, crowd: &Crowd) -> Result<Duration, Error> {
-    let geometry = Geometry::new(crowd.slots, Geometry::LEAST_PLACES, Geometry::MOST_WINDOW)?;
-    let database = match open_database(rt, alloc, name, geometry) {
-        Ok(database) => database,
-        Err(refusal) => return Err(error_of(refusal)),
-    };
-    use_slots(alloc, &database, crowd)?;
-    let took = time_committers(rt, alloc, &database, crowd)?;
-    match database.close() {
-        Ok(_) => Ok(took),
-        Err(refused) => Err(Error::from(refused.fault)),
-    }
-}
-
-fn time_committers<H: Clock + Threads + Wait + Drop + Send + Sync>(
-    rt: &H,
-    alloc: Global,
-    database: &Database<Device, H>,
-    crowd: &Crowd,
-) -> Result<Duration, Error> {
-    let start = Instant::now(rt)?;
-    commit_by_threads(rt, alloc, database, crowd)?;
-    Ok(start.elapsed(rt)?)
-}
-
-fn error_of(refusal: Refusal) -> Error {
-    match refusal {
-        Refusal::File(error) => Error::from(error),
-        Refusal::Lost(error) => Error::from(error),
-        Refusal::Fault(fault) => Error::from(fault),
-        Refusal::OtherLayout(_) => anyhow!("the file has another layout"),
-    }
+    let layout = Geometry::new(crowd.slots, Geometry::LEAST_PLACES, Geometry::MOST_WINDOW)?;
+    let store = Store::open(*rt, alloc, name, layout)?;
+    use_slots(alloc, &store, crowd)?;
+    let took = time_committers(rt, alloc, &store, crowd)?;
+    store.close()?;
+    Ok(took)
 }
 
 // Updates keys as often as there are slots, so that the commits that are timed reuse slots.
 fn use_slots<R: Wait + Drop>(
     alloc: Global,
-    database: &Database<Device, R>,
+    store: &Store<R>,
     crowd: &Crowd,
-) -> Result<(), Fault> {
-    let keys = crowd
-        .keys()
+) -> Result<(), StoreError> {
+    let keys = keys_for(crowd.rows)
         .saturating_mul(crowd.threads as u64)
         .max(TOGETHER);
     let mut writes = Vec::new(alloc);
     for number in 0..crowd.slots / TOGETHER {
         let first = number.saturating_mul(TOGETHER);
         update(&mut writes, first..first.saturating_add(TOGETHER), keys, 0)?;
-        database.write(writes.as_slice())?;
+        store.write(writes.as_slice())?;
     }
     Ok(())
 }
@@ -214,50 +193,57 @@ fn update(
     updates: Range<u64>,
     keys: u64,
     first: u64,
-) -> Result<(), Fault> {
+) -> Result<(), StoreError> {
     writes.clear();
     for update in updates {
         let key = key_of(first.saturating_add(update % keys.max(1)));
         let row = Row::new(&update.to_le_bytes())?;
         if writes.push((key, Some(row))).is_err() {
-            return Err(Fault::OutOfMemory);
+            return Err(StoreError::from(Fault::OutOfMemory));
         }
     }
     Ok(())
 }
 
-fn commit_by_threads<R: Threads + Wait + Drop + Send + Sync>(
-    rt: &R,
+fn time_committers<H: Clock + Threads + Wait + Drop + Send + Sync>(
+    rt: &H,
     alloc: Global,
-    database: &Database<Device, R>,
+    store: &Store<H>,
     crowd: &Crowd,
-) -> Result<(), Fault> {
+) -> Result<Duration, Error> {
+    let turns = Turns {
+        alloc,
+        commits: crowd.commits,
+        rows: crowd.rows,
+    };
+    let start = Instant::now(rt)?;
     let ended = map_indices(
         rt,
         alloc,
         crowd.threads,
-        &|thread| commit_in_turn(alloc, database, crowd, thread as u64),
-    );
-    for one in &ended.map_err(|_| Fault::OutOfMemory)? {
-        (*one)?;
+        &|thread| commit_in_turn(store, &turns, thread as u64),
+    )?;
+    for one in &ended {
+        if let Err(error) = one {
+            bail!("{error}");
+        }
     }
-    Ok(())
+    Ok(start.elapsed(rt)?)
 }
 
 // Makes the commits of this thread, each of which updates the next ones of its keys.
 fn commit_in_turn<R: Wait + Drop>(
-    alloc: Global,
-    database: &Database<Device, R>,
-    crowd: &Crowd,
+    store: &Store<R>,
+    turns: &Turns,
     thread: u64,
-) -> Result<(), Fault> {
-    let keys = crowd.keys();
-    let mut writes = Vec::new(alloc);
-    for number in 0..crowd.commits {
-        let next = number.saturating_mul(crowd.rows);
-        let updates = next..next.saturating_add(crowd.rows);
+) -> Result<(), StoreError> {
+    let keys = keys_for(turns.rows);
+    let mut writes = Vec::new(turns.alloc);
+    for number in 0..turns.commits {
+        let next = number.saturating_mul(turns.rows);
+        let updates = next..next.saturating_add(turns.rows);
         update(&mut writes, updates, keys, thread.saturating_mul(keys))?;
-        database.write(writes.as_slice())?;
+        store.write(writes.as_slice())?;
     }
     Ok(())
 }

@@ -20,6 +20,7 @@ use Rattle.room.proofs.Runs.{leads-none, leads-one, leads-join}
 use Rattle.database.specs.Replies.{committed_of, drawn_of, stamped_of}
 use Rattle.database.specs.declared.opened.OpenedRoom.{OpenedRoom}
 use Rattle.database.specs.Obeys.{Obeys, InRoom, Repeats, RepeatsTimes, RepeatsAnswered, StampsAll, Covers, DrawsNothing}
+use Rattle.history.specs.declared.origin.Origin.{Ghosts as Origins}
 
 -- ---- one step after another
 
@@ -30,7 +31,7 @@ pub repeats-none : {D : Type 0} → {G : Ghosts D} → (state : D → Device) (r
 repeats-none state room step orderly = ([], leads-none state room orderly)
 
 -- of a room that is there
-pub stays-in : {D : Type 0} → {G : Ghosts D} → (state : D → Device) (room : Option (OpenedRoom D G)) (step : Step) → ((device : D) → IsOrderly (state device)) → IsTrue (is_some room)
+pub stays-in : {D J : Type 0} → {G : Ghosts D} → {O : Origins J} → (state : D → Device) (room : Option (OpenedRoom D J G O)) (step : Step) → ((device : D) → IsOrderly (state device)) → IsTrue (is_some room)
     → InRoom (λ old new. Repeats state old new step) room room
 stays-in state (Some there) step orderly is = (there, there, refl, refl, repeats-none state there.room step (orderly there.room.device))
 stays-in state None step orderly is = absurd (cc is)

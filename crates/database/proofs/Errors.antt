@@ -35,6 +35,7 @@ use Rattle.database.specs.Obeys.{Finishes, AnswersStep, IsStep}
 use Rattle.database.specs.Committing.{IsAcknowledged, HasLackedMemory, IsSettledUpTo, WaitsInVain, IsGivenUp, StopsAfter, StopsAtEnd, GivesUp, IsAnswered, IsAnsweredAt, AnswersTo, ReportsError, ReportsRefusal}
 use Rattle.database.proofs.Runs.{run-led, ends-once-ended, answers-step}
 use Rattle.database.proofs.Reporting.{polled_so}
+use Rattle.history.specs.declared.origin.Origin.{Ghosts as Origins}
 
 -- ---- a tick that is refused
 
@@ -137,11 +138,11 @@ settled-ended t (Some fault) so is = inr (inl (fault, so fault refl))
 settled-ended t None so is = absurd (cc is)
 
 -- a timestamp is settled exactly if the committer has ended, or the record has come to it
-pub settled-exact : {D : Type 0} {G : Ghosts D} (state : D → Device) (there : Option (OpenedRoom D G)) (room : OpenedRoom D G) (t : ℕ) (status : Status) → there ≡ Some room → is_some room.ended ≡ false
+pub settled-exact : {D J : Type 0} {G : Ghosts D} {O : Origins J} (state : D → Device) (there : Option (OpenedRoom D J G O)) (room : OpenedRoom D J G O) (t : ℕ) (status : Status) → there ≡ Some room → is_some room.ended ≡ false
     → ((q : State) → Shows state room.room q → ShowsStatus q status)
     → IfSome there (λ room. (q : State) → Shows state room.room q → IsTrue (leb t status.persisted) ↔ (IsTrue (is_some room.ended) ⊎ (t ≤ q.ruling.persisted)))
-settled-exact {D} {G} state there room t status is going told =
-    subst (λ (o : Option (OpenedRoom D G)). IfSome o (λ room. (q : State) → Shows state room.room q → IsTrue (leb t status.persisted) ↔ (IsTrue (is_some room.ended) ⊎ (t ≤ q.ruling.persisted))))
+settled-exact {D} {J} {G} {O} state there room t status is going told =
+    subst (λ (o : Option (OpenedRoom D J G O)). IfSome o (λ room. (q : State) → Shows state room.room q → IsTrue (leb t status.persisted) ↔ (IsTrue (is_some room.ended) ⊎ (t ≤ q.ruling.persisted))))
     (sym is)
     (λ q shows. (λ less. inr (subst (λ (n : ℕ). t ≤ n) (told q shows).persisted (leb-true t status.persisted less)), λ either. settles (q.ruling.persisted) (told q shows).persisted either))
   where

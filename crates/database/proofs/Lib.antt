@@ -4,3 +4,4 @@ pub mod Reporting
 pub mod Readings
 pub mod Errors
 pub mod Ticks
+pub mod Histories

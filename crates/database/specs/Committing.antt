@@ -17,6 +17,7 @@ use Rattle.room.specs.Runs.{EndsRun, EndsRunIn, ComesTo, LeadsAlong}
 use Rattle.database.specs.Ended.{EndsOnceEnded, HasEnded}
 use Rattle.database.specs.declared.opened.OpenedRoom.{OpenedRoom}
 use Rattle.database.specs.Obeys.{IsStep, AnswersStep, InRoom, Finishes, ended_of, all_stamped}
+use Rattle.history.specs.declared.origin.Origin.{Ghosts as Origins}
 
 -- ---- a put
 
@@ -159,7 +160,7 @@ IsReadOff ended refusals (Err fault) answer = answer ≡ Some (Err (Open fault))
 
 -- The room that is there makes the session's finish, once, and its answer is read off that.
 -- Excluded: OutOfMemory after the first refusal of memory.
-abbrev pub AnswersOnce : {D : Type 0} → {G : Ghosts D} → (D → Device) → Option (OpenedRoom D G) → Option (OpenedRoom D G) → ℕ → ℕ → Option (Result ℕ CommitError) → Type 0
+abbrev pub AnswersOnce : {D J : Type 0} → {G : Ghosts D} → {O : Origins J} → (D → Device) → Option (OpenedRoom D J G O) → Option (OpenedRoom D J G O) → ℕ → ℕ → Option (Result ℕ CommitError) → Type 0
 AnswersOnce state old new refusals session answer =
     (reported : Result (Option ℕ) Fault) × InRoom (λ before after. Finishes state before after session reported) old new × IsReadOff (ended_of new) refusals reported answer
 

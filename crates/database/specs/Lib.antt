@@ -1,4 +1,5 @@
 pub mod Replies
+pub mod Histories
 pub mod Opening
 pub mod Ended
 pub mod Obeys

@@ -1,5 +1,5 @@
--- What a call does to a room. A database keeps no history: the room under its lock carries with it that there is one. A contract can't
--- relate what a lock holds to anything outside it, so it isn't excluded that the run is another database's.
+-- What a call does to a room. The room under a database's lock carries with it that it shows the end of a run. A contract can't relate what a
+-- lock holds to anything outside it, except by a name in its type. So these facts alone don't exclude that the run is another database's.
 use Rattle.std.specs.Prelude.{◌≡◌, ◌≢◌, ◌⊎◌, ℕ, ◌+◌, Bool, true, List, [], ◌∷◌, length, map, replicate, ⊤, Option, Some, None, Result, Ok, Err}
 use Rattle.base.specs.declared.fault.Fault.{Fault}
 use Rattle.base.specs.declared.fault.Fault.TheVariants.{SlotsOut}
@@ -19,19 +19,25 @@ use Rattle.database.specs.declared.error.CommitError.{CommitError}
 use Rattle.database.specs.declared.error.CommitError.TheVariants.{Refused, Open}
 use Rattle.database.specs.Replies.{done_of, drawn_of, stamped_of, committed_of}
 use Rattle.database.specs.declared.opened.OpenedRoom.{OpenedRoom}
+use Rattle.history.specs.declared.origin.Origin.{Ghosts as Origins}
 
 -- the fault that has ended the committer of the room that is there, if one has
-abbrev pub ended_of : {D : Type 0} → {G : Ghosts D} → Option (OpenedRoom D G) → Option Fault
+abbrev pub ended_of : {D J : Type 0} → {G : Ghosts D} → {O : Origins J} → Option (OpenedRoom D J G O) → Option Fault
 ended_of (Some room) = room.ended
 ended_of None = None
+
+-- the log of the room that is there, if it is kept
+abbrev pub log_in : {D J : Type 0} → {G : Ghosts D} → {O : Origins J} → Option (OpenedRoom D J G O) → Option (List Step)
+log_in (Some room) = room.log
+log_in None = None
 
 -- the room makes this step, and what is returned is read off its reply
 abbrev pub Obeys : {D A : Type 0} → {G : Ghosts D} → (D → Device) → Room D G → Room D G → Step → (Reply → Result A Fault) → Result A Fault → Type 0
 Obeys state old new step read result = (reply : Reply) × Leads state old new step reply × (result ≡ read reply)
 
 -- a room is there, makes this and nothing else, and is there still
-abbrev pub InRoom : {D : Type 0} → {G : Ghosts D} → (Room D G → Room D G → Type 0) → Option (OpenedRoom D G) → Option (OpenedRoom D G) → Type 0
-InRoom {D} {G} Makes old new = (before after : OpenedRoom D G) × (old ≡ Some before) × (new ≡ Some after) × Makes before.room after.room
+abbrev pub InRoom : {D J : Type 0} → {G : Ghosts D} → {O : Origins J} → (Room D G → Room D G → Type 0) → Option (OpenedRoom D J G O) → Option (OpenedRoom D J G O) → Type 0
+InRoom {D} {J} {G} {O} Makes old new = (before after : OpenedRoom D J G O) × (old ≡ Some before) × (new ≡ Some after) × Makes before.room after.room
 
 -- this is one step, and what is returned is read off its reply
 abbrev pub IsStep : {A : Type 0} → Step → (Reply → Result A Fault) → Result A Fault → List (Step × Reply) → Type 0

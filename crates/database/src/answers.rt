@@ -6,8 +6,11 @@ ghost use Rattle.std.specs.Prelude.{◌<◌, IfSome, IfNone};
 ghost use Rattle.std.specs.Result.{ForOk, ForErr};
 ghost use Rattle.database.specs.Committing.{IsAcknowledged, GivesUp, IsAnswered, IsAnsweredAt, AnswersTo, AnswersAnother};
 
+use crate::ending::Ending;
 use crate::error::CommitError;
 use base::Ts;
+use history::Origin;
+use std::alloc::{AllocError, Global};
 
 /// What became of a commit of this session.
 #[derive(Clone, Copy, Drop)]
@@ -30,15 +33,22 @@ enum Place {
 
 /// What became of commits that threads wait for.
 #[derive(Drop)]
-pub struct Answers {
+pub struct Answers<J: Origin> {
     places: [Place; 64],
+    // At each place how the session ended, if its commit was acknowledged and its history is kept.
+    endings: Vec<Option<Ending<J>>>,
 }
 
-impl Answers {
-    pub fn new() -> Answers {
-        Answers {
-            places: [Place::Free; 64],
+impl<J: Origin> Answers<J> {
+    pub fn new(alloc: Global) -> Result<Answers<J>, AllocError> {
+        let mut endings = Vec::with_capacity(alloc, 64)?;
+        for _place in 0..64 {
+            endings.push(None)?;
         }
+        Ok(Answers {
+            places: [Place::Free; 64],
+            endings,
+        })
     }
 
     /// A place for an answer, if one is free.
@@ -52,10 +62,19 @@ impl Answers {
         None
     }
 
-    /// Leaves the answer to this session's commit there.
-    pub fn put(&mut self, place: usize, session: u8, answer: Result<Ts, CommitError>)
+    /// Leaves the answer to this session's commit there, and how the session ended.
+    pub fn put(
+        &mut self,
+        place: usize,
+        session: u8,
+        answer: Result<Ts, CommitError>,
+        ending: Option<Ending<J>>,
+    )
         requires { IsAnswered session answer }
     {
+        if let Some(last) = self.endings.get_mut(place % 64) {
+            *last = ending;
+        }
         self.places[place % 64] = Place::Answered(Answer {
             session,
             result: answer,
@@ -79,6 +98,14 @@ impl Answers {
         }
         self.places[place % 64] = Place::Free;
         answer_to(timestamp, answer.result)
+    }
+
+    /// Takes how the session ended whose answer was taken from there.
+    pub fn take_ending(&mut self, place: usize) -> Option<Ending<J>> {
+        match self.endings.get_mut(place % 64) {
+            Some(last) => last.take(),
+            None => None,
+        }
     }
 }
 

@@ -12,10 +12,11 @@ ghost use Rattle.database.specs.Closing.{ClosesRun, IsClosed, IsClosingRefused};
 
 use crate::database::Refused;
 use crate::opened::OpenedRoom;
+use history::Origin;
 use pmem::Pmem;
 
 /// Covers all that is drawn, and returns the device.
-pub fn close_room<D: Pmem + Drop>(opened: OpenedRoom<D>) -> Result<D, Refused<D>>
+pub fn close_room<D: Pmem + Drop, J: Origin>(opened: OpenedRoom<D, J>) -> Result<D, Refused<D>>
     // At Ok each image that a crash then leaves stands for all that was drawn.
     ensures ok { IfOk result (λ device. (q : State) → Shows D.state opened.room q → (image : Image) → MayLeave (D.state device) image → StandsClosed q image) }
 

@@ -4,7 +4,10 @@
 
 ghost use Rattle.std.specs.Prelude.{◌≡◌, IfErr, IfOk, IfSome};
 ghost use Rattle.database.specs.Obeys.{PutsCollecting, MakesWrite, StampsAll, Prepares, IsRefusedWhole, Finishes, Covers};
+ghost use Rattle.std.specs.Prelude.{is_ok};
+ghost use Rattle.base.specs.declared.step.Step.TheVariants.{Put};
 ghost use Rattle.database.specs.Committing.{LeadsByWrites, BeginsWith};
+ghost use Rattle.database.specs.Histories.{Logs, LogsOwn, LogsWrites, LogsPrepared, LogsStamps, made_if, ends_of, write_step, DrewNext};
 
 use crate::error::CommitError;
 use crate::opened::OpenedRoom;
@@ -13,12 +16,13 @@ use base::Ts;
 use base::fault::Fault;
 use base::key::Key;
 use base::row::Row;
+use history::Origin;
 use pmem::Pmem;
 use std::sync::Wait;
 
 /// Writes the row under the key. If no slot is free, it visits all of the collector's places and tries once more.
-pub fn put_collecting<D: Pmem + Drop>(
-    room: &mut OpenedRoom<D>,
+pub fn put_collecting<D: Pmem + Drop, J: Origin>(
+    room: &mut OpenedRoom<D, J>,
     session: u8,
     key: Key,
     row: Row,
@@ -28,6 +32,9 @@ pub fn put_collecting<D: Pmem + Drop>(
     // returned is the last put's.
     ensures steps { PutsCollecting D.state room.old.room room.new.room session key row result }
     ensures ended { room.new.ended ≡ room.old.ended }
+
+    // Of the session the history then has this put, if it was made, and nothing else.
+    ensures log { LogsOwn session (made_if (is_ok result) (Put session key row)) room.old.log room.new.log }
 {
     match put(room, session, key, row) {
         Ok(()) => Ok(()),
@@ -43,13 +50,14 @@ pub fn put_collecting<D: Pmem + Drop>(
 }
 
 // Writes the row under the key, or deletes what is there.
-fn write<D: Pmem + Drop>(
-    room: &mut OpenedRoom<D>,
+fn write<D: Pmem + Drop, J: Origin>(
+    room: &mut OpenedRoom<D, J>,
     session: u8,
     write: (Key, Option<Row>),
 ) -> Result<(), Fault>
     ensures steps { MakesWrite D.state room.old.room room.new.room session write.0 write.1 result }
     ensures ended { room.new.ended ≡ room.old.ended }
+    ensures log { LogsOwn session (made_if (is_ok result) (write_step session write)) room.old.log room.new.log }
 {
     let (key, row) = write;
     match row {
@@ -59,8 +67,8 @@ fn write<D: Pmem + Drop>(
 }
 
 /// Makes these writes in order, up to the first that is refused.
-pub fn write_all<D: Pmem + Drop>(
-    room: &mut OpenedRoom<D>,
+pub fn write_all<D: Pmem + Drop, J: Origin>(
+    room: &mut OpenedRoom<D, J>,
     session: u8,
     writes: &[(Key, Option<Row>)],
 ) -> Result<(), Fault>
@@ -68,6 +76,9 @@ pub fn write_all<D: Pmem + Drop>(
     // refused, and no other step.
     ensures steps { LeadsByWrites D.state room.old.room room.new.room session writes.now result }
     ensures ended { room.new.ended ≡ room.old.ended }
+
+    // Of the session the history then has these writes, or those that were made before the refusal, and nothing else.
+    ensures log { LogsWrites session writes.now result room.old.log room.new.log }
 {
     for one in writes {
         match write(room, session, *one) {
@@ -80,8 +91,8 @@ pub fn write_all<D: Pmem + Drop>(
 
 /// Begins a transaction, makes these writes in it and returns its session's number. If one is refused, the transaction is
 /// rolled back.
-pub fn begin_with<D: Pmem + Drop>(
-    room: &mut OpenedRoom<D>,
+pub fn begin_with<D: Pmem + Drop, J: Origin>(
+    room: &mut OpenedRoom<D, J>,
     writes: &[(Key, Option<Row>)],
 ) -> Result<u8, Fault>
     // A Begin, and such writes of its session. Or the Begin was refused with this fault, or one of the writes was, and the
@@ -103,9 +114,9 @@ pub fn begin_with<D: Pmem + Drop>(
 
 /// Draws a timestamp, stamps all keys and returns the timestamp. If nothing was written, it ends the transaction and returns
 /// `None`.
-pub fn prepare<D: Pmem + Drop, R: Wait>(
+pub fn prepare<D: Pmem + Drop, J: Origin, R: Wait>(
     rt: &R,
-    room: &mut OpenedRoom<D>,
+    room: &mut OpenedRoom<D, J>,
     session: u8,
 ) -> Result<Option<Ts>, CommitError>
     // At a timestamp the session's draw, which drew it, and its stamps to the last. At None its draw of nothing, and its end. At
@@ -113,6 +124,11 @@ pub fn prepare<D: Pmem + Drop, R: Wait>(
     // step of another session is in between.
     ensures steps { Prepares D.state room.old.room room.new.room session result }
     ensures ended { room.new.ended ≡ room.old.ended }
+
+    // At Ok the history then has the session's draw and its stamps, or its draw and its end, and nothing else. The timestamp is
+    // the one that was next.
+    ensures log { LogsPrepared session result room.old.log room.new.log }
+    ensures next { DrewNext J.opened room.old.log result }
 
     // At Refused the commits that are drawn, and those that are covered, are the same as before.
     ensures refused { IfErr result (IsRefusedWhole D.state room.old.room room.new.room) }
@@ -133,15 +149,16 @@ pub fn prepare<D: Pmem + Drop, R: Wait>(
 }
 
 /// Stamps all keys of a transaction that has drawn.
-pub fn stamp_all<D: Pmem + Drop, R: Wait>(
+pub fn stamp_all<D: Pmem + Drop, J: Origin, R: Wait>(
     rt: &R,
-    room: &mut OpenedRoom<D>,
+    room: &mut OpenedRoom<D, J>,
     session: u8,
 ) -> Result<(), Fault>
     // The session's stamps, and no other step. Each but the last left more keys, and the last of them reported that all keys are
     // stamped, or was refused for the fault that is returned.
     ensures stamps { StampsAll D.state room.old.room room.new.room session result }
     ensures ended { room.new.ended ≡ room.old.ended }
+    ensures log { LogsStamps session room.old.log room.new.log }
 {
     for _ in rt.forever() {
         match stamp(room, session) {
@@ -157,12 +174,18 @@ pub fn stamp_all<D: Pmem + Drop, R: Wait>(
 }
 
 /// Ends the transaction once its commit is covered, and returns its timestamp. `None` if it isn't covered yet.
-pub fn finish<D: Pmem + Drop>(room: &mut OpenedRoom<D>, session: u8) -> Result<Option<Ts>, Fault>
+pub fn finish<D: Pmem + Drop, J: Origin>(
+    room: &mut OpenedRoom<D, J>,
+    session: u8,
+) -> Result<Option<Ts>, Fault>
     // The timestamp is the one that a poll of this very session reported, and then the session is ended. At None the poll
     // reported that the commit isn't covered, and the room shows what it showed. At Err the poll or the end was refused with this
     // fault.
     ensures steps { Finishes D.state room.old.room room.new.room session result }
     ensures ended { room.new.ended ≡ room.old.ended }
+
+    // If a timestamp is returned, the history then has the session's end, and otherwise nothing else.
+    ensures log { Logs (ends_of session result) room.old.log room.new.log }
 
     // A timestamp that is returned is in the covered history of a state that the room shows then, so each crash from then on
     // leaves it.

@@ -8,22 +8,23 @@ ghost use Rattle.database.specs.Committing.{HasLackedMemory};
 
 use crate::answers::{Answers, answer_to};
 use crate::committing::{begin_with, finish};
+use crate::ending::Ending;
 use crate::error::CommitError;
 use crate::group::{Group, SESSIONS};
 use crate::opened::OpenedRoom;
 use crate::steps;
+use crate::trace::Trace;
 use base::Ts;
 use base::fault::Fault;
 use base::key::Key;
 use base::row::Row;
+use history::{Front, Origin};
 use pmem::Pmem;
-use roles::Roles;
+use roles::{Roles, enough_for_round, lacks_memory};
+use std::alloc::{AllocError, Global};
 use std::hint::spin_loop;
-use std::sync::{Condvar, Mutex, MutexGuard, Wait};
+use std::sync::{Arc, Condvar, Mutex, MutexGuard, Wait};
 use std::thread;
-
-// How often in a row the committer may be refused memory while somebody waits for it.
-const REFUSALS: u64 = 100;
 
 // How often a lock is tried before the thread yields, and how often it yields before it sleeps. There are pauses between two tries, since
 // each try takes the lock's cache line away from its holder.
@@ -35,7 +36,7 @@ const YIELDS: u64 = 20;
 
 /// What the lock guards.
 #[derive(Drop)]
-pub struct Desk<D: Pmem> {
+pub struct Desk<D: Pmem, J: Origin> {
     /// The commits that wait for their record. This field comes first: a thread that tries the lock pulls in the cache line behind the lock's
     /// word, so nothing that the holder often uses may be there.
     pub group: Group,
@@ -50,11 +51,11 @@ pub struct Desk<D: Pmem> {
     /// How many ticks in a row were refused for lack of memory.
     pub refusals: u64,
     /// It is there from opening to closing.
-    pub room: Option<OpenedRoom<D>>,
+    pub room: Option<OpenedRoom<D, J>>,
     ghost lacked_so: { 0 < refusals → HasLackedMemory },
 }
 
-impl<D: Pmem + Drop> Desk<D> {
+impl<D: Pmem + Drop, J: Origin> Desk<D, J> {
     ghost use Rattle.std.specs.Prelude.{◌≡◌, ◌⊎◌, ◌<◌, ◌≤◌, ◌-◌, ◌↔◌, ℕ, Option, None, Some, Result, IsTrue, is_some, IfSome, IfNone};
     ghost use Rattle.machine.specs.Machine.{State};
     ghost use Rattle.base.specs.declared.fault.Fault.{Fault};
@@ -67,6 +68,10 @@ impl<D: Pmem + Drop> Desk<D> {
     ghost use Rattle.database.specs.Ended.{HasEnded};
     ghost use Rattle.database.specs.Obeys.{Obeys, InRoom, AnswersStep, ended_of};
     ghost use Rattle.database.specs.Ticking.{LeavesRest, LeavesCounts};
+    ghost use Rattle.std.specs.Prelude.{is_ok};
+    ghost use Rattle.database.specs.Histories.{Attends, EndsOnly, KnownIf, Logs, TookFree, made_if, answered_end, answered_end_to};
+    ghost use Rattle.database.specs.Obeys.{log_in};
+    ghost use Rattle.session_laws.specs.Logs.{IsQuietSince};
     ghost use Rattle.database.specs.Committing.{BeginsWith, AnswersBegunWith, IsAnswered, IsAnsweredAt, IsGivenUp, HasLackedMemory, IsLeftWaiting, IsWithoutAnswer, IsSettledUpTo, AnswersOnce, IsReadFor, most_refusals, open_after};
 
     /// Opens a transaction and returns its session's number.
@@ -82,6 +87,10 @@ impl<D: Pmem + Drop> Desk<D> {
         // was.
         ensures ended { ended_of self.new.room ≡ ended_of self.old.room }
         ensures open { self.new.open ≡ open_after self.old.open result }
+
+        // The history then has the begin, if it was made, and nothing else. The number is the one that was free.
+        ensures log { Logs (made_if (is_ok result) Begin) (log_in self.old.room) (log_in self.new.room) }
+        ensures free { TookFree J.opened (log_in self.old.room) result }
 
         ensures counts { LeavesCounts self.old self.new }
         ensures rest { LeavesRest self.old self.new }
@@ -165,6 +174,9 @@ impl<D: Pmem + Drop> Desk<D> {
         ensures finish { IsTrue (is_some self.old.room) → AnswersOnce D.state self.old.room self.new.room self.new.refusals session result }
         ensures ended { ended_of self.new.room ≡ ended_of self.old.room }
 
+        // If a timestamp is returned, the history then has the session's end, and otherwise nothing else.
+        ensures log { Logs (answered_end session result) (log_in self.old.room) (log_in self.new.room) }
+
         // What became of the session's commit, as `Transaction::commit` says.
         ensures some { IfSome result (IsAnswered session) }
 
@@ -195,6 +207,7 @@ impl<D: Pmem + Drop> Desk<D> {
         // another timestamp.
         ensures finish { IsTrue (is_some self.old.room) → (answer : Option (Result ℕ CommitError)) × AnswersOnce D.state self.old.room self.new.room self.new.refusals session answer × IsReadFor timestamp answer result }
         ensures ended { ended_of self.new.room ≡ ended_of self.old.room }
+        ensures log { IfSome result (λ answer. Logs (answered_end_to session answer) (log_in self.old.room) (log_in self.new.room)) }
         ensures some { IfSome result (IsAnsweredAt session timestamp) }
         ensures none { IsTrue (is_some self.old.room) → IfNone result (IsWithoutAnswer session timestamp (ended_of self.new.room) self.new.refusals) }
 
@@ -204,6 +217,58 @@ impl<D: Pmem + Drop> Desk<D> {
     {
         match self.answer(session) {
             Some(answer) => answer_to(timestamp, answer),
+            None => None,
+        }
+    }
+
+    /// The history so far, if that is asked for.
+    pub fn known_if<R: Wait>(&self, rt: &R, is_kept: bool) -> Option<Front<J>>
+        ensures { KnownIf is_kept (log_in self.now.room) result }
+    {
+        if is_kept { Some(self.known(rt)) } else { None }
+    }
+
+    /// The history so far. It waits forever if none is kept.
+    pub fn known<R: Wait>(&self, rt: &R) -> Front<J>
+        ensures { log_in self.now.room ≡ Some result }
+    {
+        if let Some(room) = &self.room {
+            if let Some(log) = &room.log {
+                return log.front();
+            }
+        }
+        for _ in rt.forever() {}
+        unreachable!()
+    }
+
+    /// Returns if what is known is all that the session has done, or nothing is known. It always is, since each call keeps what it has
+    /// seen. Otherwise it waits forever.
+    pub fn attend<R: Wait>(&self, rt: &R, session: u8, trace: &Option<Trace<J>>)
+        ensures { Attends session trace.now (log_in self.now.room) }
+    {
+        let Some(trace) = trace else {
+            return;
+        };
+        if let Some(room) = &self.room {
+            if let Some(log) = &room.log {
+                if log.is_quiet(session, &trace.seen) {
+                    return;
+                }
+            }
+        }
+        for _ in rt.forever() {}
+        unreachable!()
+    }
+
+    // How long the history was after the session's last step, if it is kept.
+    fn last(&self, session: u8) -> Option<u64>
+        ensures { IfSome result (λ at. IfSome (log_in self.now.room) (IsQuietSince session at)) }
+    {
+        let Some(room) = &self.room else {
+            return None;
+        };
+        match &room.log {
+            Some(log) => log.last(session),
             None => None,
         }
     }
@@ -247,7 +312,7 @@ impl<D: Pmem + Drop> Desk<D> {
         ensures often { IsTrue result ↔ (most_refusals < self.now.refusals) }
         ensures so { IsTrue result → HasLackedMemory }
     {
-        REFUSALS < self.refusals
+        lacks_memory(self.refusals)
     }
 
     /// Whether the committer has ended because no record number is left. Nothing that is drawn from then on is ever covered.
@@ -260,7 +325,7 @@ impl<D: Pmem + Drop> Desk<D> {
     }
 
     /// Replies to all whose commit is covered, or won't be, except the thread that leads.
-    pub fn answer_all(&mut self, answers: &mut Answers) {
+    pub fn answer_all(&mut self, answers: &mut Answers<J>) {
         for session in 0..SESSIONS {
             if let Some(place) = self.group.place(session) {
                 self.answer_at(answers, session, place);
@@ -269,12 +334,66 @@ impl<D: Pmem + Drop> Desk<D> {
     }
 
     // Replies to this session's commit, if it is covered or won't be.
-    fn answer_at(&mut self, answers: &mut Answers, session: u8, place: usize) {
-        if let Some(answer) = self.answer(session) {
+    fn answer_at(&mut self, answers: &mut Answers<J>, session: u8, place: usize) {
+        let (answer, ending) = self.answer_with_ending(session);
+        if let Some(answer) = answer {
             self.group.leave(session);
             self.leave();
             self.roles.reply();
-            answers.put(place, session, answer);
+            answers.put(place, session, answer, ending);
+        }
+    }
+
+    // The reply to the session's commit, once there is one, and how the session ended if it did.
+    fn answer_with_ending(
+        &mut self,
+        session: u8,
+    ) -> (Option<Result<Ts, CommitError>>, Option<Ending<J>>)
+        ensures { IfSome result.0 (IsAnswered session) }
+    {
+        let last = self.last(session);
+        let answer = self.answer(session);
+        let ending = match answer {
+            Some(Ok(_)) => self.ending(session, last),
+            _ => None,
+        };
+        (answer, ending)
+    }
+
+    /// The reply to the session's commit with this timestamp, once there is one, and how the session ended if it did.
+    pub fn answer_to_with_ending(
+        &mut self,
+        session: u8,
+        timestamp: Ts,
+    ) -> (Option<Result<(), CommitError>>, Option<Ending<J>>)
+        ensures { IfSome result.0 (IsAnsweredAt session timestamp) }
+    {
+        let last = self.last(session);
+        let answer = self.answer_to(session, timestamp);
+        let ending = match answer {
+            Some(Ok(())) => self.ending(session, last),
+            _ => None,
+        };
+        (answer, ending)
+    }
+
+    // How the session ended, if the history up to there is kept.
+    fn ending(&self, session: u8, last: Option<u64>) -> Option<Ending<J>>
+        requires { IfSome last (λ at. IfSome (log_in self.now.room) (λ log. EndsOnly session at log)) }
+    {
+        let Some(room) = &self.room else {
+            return None;
+        };
+        let Some(log) = &room.log else {
+            return None;
+        };
+        match last {
+            Some(at) => Some(Ending {
+                session,
+                at,
+                front: log.front(),
+            }),
+            None => None,
         }
     }
 
@@ -298,7 +417,7 @@ impl<D: Pmem + Drop> Desk<D> {
     /// one.
     pub fn is_round_due(&self) -> bool {
         match &self.room {
-            Some(room) => (room.geometry().slots() / 4).max(1) <= self.covered,
+            Some(room) => enough_for_round(room.geometry().slots()) <= self.covered,
             None => false,
         }
     }
@@ -340,8 +459,8 @@ fn pause() {
 
 /// What the threads share.
 #[derive(Drop)]
-pub struct Shared<D: Pmem> {
-    pub desk: Mutex<Desk<D>>,
+pub struct Shared<D: Pmem, J: Origin> {
+    pub desk: Mutex<Desk<D, J>>,
     /// The committer's worker sleeps on it.
     pub commits: Condvar,
     /// The collector's worker sleeps on it.
@@ -350,22 +469,25 @@ pub struct Shared<D: Pmem> {
     /// covered, the committer was refused, or a worker has ended.
     pub moved: Condvar,
     /// What became of commits that threads wait for.
-    pub answers: Mutex<Answers>,
+    pub answers: Mutex<Answers<J>>,
     /// A thread that waits for its own commit sleeps on it, and holds the lock of `answers` before and after.
     pub answered: Condvar,
 }
 
-impl<D: Pmem + Drop> Shared<D> {
+impl<D: Pmem + Drop, J: Origin> Shared<D, J> {
     ghost use Rattle.std.specs.Prelude.{IsTrue, is_some};
     ghost use Rattle.std.specs.Sync.Mutex.{mutex_guard_value};
     ghost use Rattle.base.specs.declared.step.Step.TheVariants.{Begin};
     ghost use Rattle.database.specs.Replies.{began_of};
     ghost use Rattle.database.specs.Obeys.{AnswersStep};
+    ghost use Rattle.std.specs.Prelude.{Ok, Err, IfOk, IfErr};
+    ghost use Rattle.database.specs.Histories.{BeginsAt};
     ghost use Rattle.database.specs.Opening.{IsFresh};
 
     /// There is no room yet.
-    pub fn new() -> Shared<D> {
-        Shared {
+    pub fn new(alloc: Global) -> Result<Arc<Shared<D, J>, Global>, AllocError> {
+        let answers = Answers::new(alloc)?;
+        let shared = Shared {
             desk: Mutex::new(Desk {
                 group: Group::new(),
                 roles: Roles::new(),
@@ -378,18 +500,22 @@ impl<D: Pmem + Drop> Shared<D> {
             commits: Condvar::new(),
             rounds: Condvar::new(),
             moved: Condvar::new(),
-            answers: Mutex::new(Answers::new()),
+            answers: Mutex::new(answers),
             answered: Condvar::new(),
+        };
+        match Arc::new(alloc, shared) {
+            Ok(shared) => Ok(shared),
+            Err(_) => Err(AllocError),
         }
     }
 
     /// Takes the lock.
-    pub fn enter<R: Wait>(&self, rt: &R) -> MutexGuard<'_, Desk<D>> {
+    pub fn enter<R: Wait>(&self, rt: &R) -> MutexGuard<'_, Desk<D, J>> {
         enter(rt, &self.desk)
     }
 
     /// Releases the lock, and then wakes the threads that got replies, so that they don't wait for the lock.
-    pub fn exit(&self, desk: MutexGuard<'_, Desk<D>>) {
+    pub fn exit(&self, desk: MutexGuard<'_, Desk<D, J>>) {
         let mut desk = desk;
         let has_replied = desk.roles.take_replied();
         drop(desk);
@@ -402,34 +528,34 @@ impl<D: Pmem + Drop> Shared<D> {
     pub fn wait_moved<'a, R: Wait>(
         &'a self,
         rt: &R,
-        desk: MutexGuard<'a, Desk<D>>,
-    ) -> MutexGuard<'a, Desk<D>> {
+        desk: MutexGuard<'a, Desk<D, J>>,
+    ) -> MutexGuard<'a, Desk<D, J>> {
         let mut desk = desk;
         self.wake_replied(&mut desk);
         self.moved.wait(rt, desk)
     }
 
     /// Wakes the threads that got replies, while the lock is held.
-    pub fn wake_replied(&self, desk: &mut Desk<D>) {
+    pub fn wake_replied(&self, desk: &mut Desk<D, J>) {
         if desk.roles.take_replied() {
             self.answered.notify_all();
         }
     }
 
     /// Wakes the committer's worker, if it was told to wait, or if commits are left that nobody acts for.
-    pub fn recall(&self, desk: &mut Desk<D>, are_left: bool) {
+    pub fn recall(&self, desk: &mut Desk<D, J>, are_left: bool) {
         if desk.roles.recall(are_left) {
             self.commits.notify_all();
         }
     }
 
     /// Takes the lock of `answers`.
-    pub fn enter_answers<R: Wait>(&self, rt: &R) -> MutexGuard<'_, Answers> {
+    pub fn enter_answers<R: Wait>(&self, rt: &R) -> MutexGuard<'_, Answers<J>> {
         enter(rt, &self.answers)
     }
 
     /// Takes the lock once the room is there, as it is from opening to closing.
-    pub fn desk<R: Wait>(&self, rt: &R) -> MutexGuard<'_, Desk<D>>
+    pub fn desk<R: Wait>(&self, rt: &R) -> MutexGuard<'_, Desk<D, J>>
         ensures { IsTrue (is_some (mutex_guard_value result).room) }
     {
         let mut desk = self.enter(rt);
@@ -442,15 +568,24 @@ impl<D: Pmem + Drop> Shared<D> {
         unreachable!()
     }
 
-    /// Opens a transaction and returns its session's number.
-    pub fn begin<R: Wait>(&self, rt: &R) -> Result<u8, Fault>
-        ensures { AnswersStep Begin began_of result }
+    /// Opens a transaction and returns its session's number, and the history up to its begin, if that is asked for.
+    pub fn begin<R: Wait>(&self, rt: &R, is_kept: bool) -> Result<(u8, Option<Front<J>>), Fault>
+        ensures ok { IfOk result (λ begun. AnswersStep Begin began_of (Ok begun.0)) }
+        ensures err { IfErr result (λ fault. AnswersStep Begin began_of (Err fault)) }
+        ensures begun { IfOk result (λ begun. BeginsAt J.opened is_kept begun.0 begun.1) }
     {
-        self.desk(rt).begin()
+        let mut desk = self.desk(rt);
+        match desk.begin() {
+            Ok(session) => {
+                let front = desk.known_if(rt, is_kept);
+                Ok((session, front))
+            }
+            Err(fault) => Err(fault),
+        }
     }
 
     /// Puts the room in as it was opened.
-    pub fn put_in<R: Wait>(&self, rt: &R, room: OpenedRoom<D>)
+    pub fn put_in<R: Wait>(&self, rt: &R, room: OpenedRoom<D, J>)
         // The room is as the opening of some device leaves it. Whatever history that device's image stands for, the room shows
         // the state that the device opens as.
         requires opened { IsFresh D.state room.room }
@@ -474,7 +609,7 @@ impl<D: Pmem + Drop> Shared<D> {
     }
 
     /// Wakes the thread that watches a group, if the group is complete because another commit won't come.
-    pub fn urge(&self, desk: &Desk<D>) {
+    pub fn urge(&self, desk: &Desk<D, J>) {
         if desk.roles.is_watched() && desk.is_whole() {
             self.moved.notify_all();
         }
@@ -507,7 +642,7 @@ impl<D: Pmem + Drop> Shared<D> {
     }
 
     /// Takes the room out.
-    pub fn take_out<R: Wait>(&self, rt: &R) -> OpenedRoom<D> {
+    pub fn take_out<R: Wait>(&self, rt: &R) -> OpenedRoom<D, J> {
         let mut desk = self.desk.lock(rt);
         for _ in rt.forever() {
             if let Some(room) = desk.room.take() {

@@ -28,15 +28,3 @@ impl CommitError {
         }
     }
 }
-
-/// For a caller that begins again after a conflict and stops at any other fault.
-impl From<CommitError> for Fault {
-    ghost use Rattle.std.specs.Prelude.{◌≡◌, ◌⊎◌};
-    ghost use Rattle.database.specs.declared.error.CommitError.TheVariants.{Refused, Open};
-
-    ghost from_gives = { λ error fault. (error ≡ Refused fault) ⊎ (error ≡ Open fault) };
-
-    fn from(error: CommitError) -> Fault {
-        error.fault()
-    }
-}

@@ -3,8 +3,10 @@
 //! `Roles` says which of the two roles is taken. A thread that takes a turn of the committer leads, also if the group is empty.
 
 use crate::desk::{Desk, Shared};
+use crate::ending::Ending;
 use crate::error::CommitError;
 use base::Ts;
+use history::Origin;
 use roles::{Next, Turn};
 use std::sync::{MutexGuard, Wait};
 use std::thread;
@@ -16,20 +18,21 @@ const PATIENCE: u64 = 500;
 
 const NAPS: u64 = 4;
 
-impl<D: SyncAhead + Drop> Shared<D> {
+impl<D: SyncAhead + Drop, J: Origin> Shared<D, J> {
     ghost use Rattle.database.specs.Committing.{IsAnsweredAt};
 
-    /// Joins the group that is being formed, and waits until the session's commit with this timestamp is covered, or won't be. The last one to
+    /// Joins the group that is being formed, and waits until the session's commit with this timestamp is covered, or won't be. If the history is
+    /// kept and the commit is covered, it also returns how the session ended. The last one to
     /// come leads the group: it makes the committer's ticks itself, so that nobody has to be woken for them. The first one watches, and leads if
     /// others don't come.
     pub fn wait<'a, R: Wait>(
         &'a self,
         rt: &R,
-        desk: MutexGuard<'a, Desk<D>>,
+        desk: MutexGuard<'a, Desk<D, J>>,
         session: u8,
         timestamp: Ts,
-    ) -> Result<(), CommitError>
-        ensures { IsAnsweredAt session timestamp result }
+    ) -> (Result<(), CommitError>, Option<Ending<J>>)
+        ensures { IsAnsweredAt session timestamp result.0 }
     {
         let mut desk = desk;
         desk.group.join();
@@ -56,14 +59,15 @@ impl<D: SyncAhead + Drop> Shared<D> {
         session: u8,
         timestamp: Ts,
         place: usize,
-    ) -> Result<(), CommitError>
-        ensures { IsAnsweredAt session timestamp result }
+    ) -> (Result<(), CommitError>, Option<Ending<J>>)
+        ensures { IsAnsweredAt session timestamp result.0 }
     {
         let mut answers = self.enter_answers(rt);
         for _ in rt.forever() {
             let answer = answers.take(place, session, timestamp);
             if let Some(answer) = answer {
-                return answer;
+                let ending = answers.take_ending(place);
+                return (answer, ending);
             }
             answers = self.answered.wait(rt, answers);
         }
@@ -74,20 +78,20 @@ impl<D: SyncAhead + Drop> Shared<D> {
     fn lead<'a, R: Wait>(
         &'a self,
         rt: &R,
-        desk: MutexGuard<'a, Desk<D>>,
+        desk: MutexGuard<'a, Desk<D, J>>,
         session: u8,
         timestamp: Ts,
-    ) -> Result<(), CommitError>
-        ensures { IsAnsweredAt session timestamp result }
+    ) -> (Result<(), CommitError>, Option<Ending<J>>)
+        ensures { IsAnsweredAt session timestamp result.0 }
     {
         let mut desk = self.gather(rt, desk);
         for _ in rt.forever() {
-            let answer = desk.answer_to(session, timestamp);
+            let (answer, ending) = desk.answer_to_with_ending(session, timestamp);
             if let Some(answer) = answer {
                 desk.group.leave(session);
                 desk.leave();
                 self.end_lead(desk);
-                return answer;
+                return (answer, ending);
             }
             desk = self.take_lead(rt, desk);
         }
@@ -98,8 +102,8 @@ impl<D: SyncAhead + Drop> Shared<D> {
     fn gather<'a, R: Wait>(
         &'a self,
         rt: &R,
-        desk: MutexGuard<'a, Desk<D>>,
-    ) -> MutexGuard<'a, Desk<D>> {
+        desk: MutexGuard<'a, Desk<D, J>>,
+    ) -> MutexGuard<'a, Desk<D, J>> {
         let mut desk = desk;
         let before = desk.missing();
         if before == 0 || desk.roles.is_led() || !desk.group.may_grow() {
@@ -118,8 +122,8 @@ impl<D: SyncAhead + Drop> Shared<D> {
     fn watch<'a, R: Wait>(
         &'a self,
         rt: &R,
-        desk: MutexGuard<'a, Desk<D>>,
-    ) -> MutexGuard<'a, Desk<D>> {
+        desk: MutexGuard<'a, Desk<D, J>>,
+    ) -> MutexGuard<'a, Desk<D, J>> {
         let mut desk = desk;
         for _ in 0..NAPS {
             let missing = desk.missing();
@@ -134,8 +138,8 @@ impl<D: SyncAhead + Drop> Shared<D> {
     fn nap<'a, R: Wait>(
         &'a self,
         rt: &R,
-        desk: MutexGuard<'a, Desk<D>>,
-    ) -> MutexGuard<'a, Desk<D>> {
+        desk: MutexGuard<'a, Desk<D, J>>,
+    ) -> MutexGuard<'a, Desk<D, J>> {
         let seen = self.moved.notifications();
         drop(desk);
         self.moved.sleep(rt, seen, Duration::from_micros(PATIENCE));
@@ -147,8 +151,8 @@ impl<D: SyncAhead + Drop> Shared<D> {
     fn take_lead<'a, R: Wait>(
         &'a self,
         rt: &R,
-        desk: MutexGuard<'a, Desk<D>>,
-    ) -> MutexGuard<'a, Desk<D>> {
+        desk: MutexGuard<'a, Desk<D, J>>,
+    ) -> MutexGuard<'a, Desk<D, J>> {
         let (mut desk, turn) = self.cover_group(rt, desk);
         self.notify(rt, &mut desk, turn);
         match turn.next_of_leader() {
@@ -165,8 +169,8 @@ impl<D: SyncAhead + Drop> Shared<D> {
     pub fn pass<'a, R: Wait>(
         &'a self,
         rt: &R,
-        desk: MutexGuard<'a, Desk<D>>,
-    ) -> MutexGuard<'a, Desk<D>> {
+        desk: MutexGuard<'a, Desk<D, J>>,
+    ) -> MutexGuard<'a, Desk<D, J>> {
         self.exit(desk);
         thread::yield_now();
         self.desk(rt)
@@ -176,8 +180,8 @@ impl<D: SyncAhead + Drop> Shared<D> {
     pub fn cover_group<'a, R: Wait>(
         &'a self,
         rt: &R,
-        desk: MutexGuard<'a, Desk<D>>,
-    ) -> (MutexGuard<'a, Desk<D>>, Turn) {
+        desk: MutexGuard<'a, Desk<D, J>>,
+    ) -> (MutexGuard<'a, Desk<D, J>>, Turn) {
         let mut desk = desk;
         if !desk.roles.take() {
             return (desk, Turn::Busy);
@@ -192,7 +196,7 @@ impl<D: SyncAhead + Drop> Shared<D> {
     }
 
     // Leaves those who came during the group's sync to the committer's worker, and wakes the threads that got replies.
-    fn end_lead(&self, desk: MutexGuard<'_, Desk<D>>) {
+    fn end_lead(&self, desk: MutexGuard<'_, Desk<D, J>>) {
         let mut desk = desk;
         let are_left = !desk.group.is_empty();
         self.recall(&mut desk, are_left);
@@ -203,8 +207,8 @@ impl<D: SyncAhead + Drop> Shared<D> {
     pub fn take_over<'a, R: Wait>(
         &'a self,
         rt: &R,
-        desk: MutexGuard<'a, Desk<D>>,
-    ) -> (MutexGuard<'a, Desk<D>>, Turn) {
+        desk: MutexGuard<'a, Desk<D, J>>,
+    ) -> (MutexGuard<'a, Desk<D, J>>, Turn) {
         if desk.group.is_empty() {
             return self.cover_group(rt, desk);
         }

@@ -1,30 +1,38 @@
 //! No clause can name what a lock holds, so the type of what the desk's lock holds carries its run. The run has all steps since the
 //! device was opened, and among them the tick that ended the committer, if one has. Only steps change what the room shows.
 
+ghost use Rattle.std.specs.Option.{ForSome};
 ghost use Rattle.room.specs.Runs.{HasTaken};
+ghost use Rattle.room_logs.specs.Logs.{HasLog};
 ghost use Rattle.database.specs.Ended.{EndedAlong};
 
 use crate::database::Report;
 use base::Ts;
 use base::fault::Fault;
 use base::geometry::Geometry;
+use base::step::Step;
+use history::{Front, Log, Origin};
 use pmem::Pmem;
 use room::{Room, Status, Tick, Usage, Visit};
+use std::sync::Wait;
 use sync_ahead::SyncAhead;
 
 /// The room of a device that was opened. It shows the end of a run from that opening: the thread that holds the lock extends the run by
 /// steps, and in no other way.
 #[derive(Drop)]
-pub struct OpenedRoom<D: Pmem> {
+pub struct OpenedRoom<D: Pmem, J: Origin> {
     pub(crate) room: Room<D>,
     /// Why nothing more will be covered: the fault that the committer was refused with, in this very run.
     pub(crate) ended: Option<Fault>,
     /// Of every value: the room shows the end of a run from the opening of some device. If a fault is kept as the reason why the
     /// committer has ended, a tick in that run was refused with it.
     ghost run: { ∥ HasTaken D.state room (EndedAlong ended) ∥₁ },
+    /// The history, if one is kept: the steps that the room has made since its device was opened, except for reads and polls.
+    pub(crate) log: Option<Log<J>>,
+    ghost logged: { ForSome log (λ log. ∥ HasLog D.state J.opened room log ∥₁) },
 }
 
-impl<D: Pmem + Drop> OpenedRoom<D> {
+impl<D: Pmem + Drop, J: Origin> OpenedRoom<D, J> {
     ghost use Rattle.std.specs.Prelude.{◌≡◌, ◌≢◌, ◌≤◌, ◌-◌, None, Some, IsSome, Ok, Err};
     ghost use Rattle.base.specs.declared.fault.Fault.TheVariants.{OutOfMemory};
     ghost use Rattle.base.specs.declared.step.Step.TheVariants.{Commit, Collect};
@@ -35,17 +43,23 @@ impl<D: Pmem + Drop> OpenedRoom<D> {
     ghost use Rattle.room.specs.Room.{Leads, Shows, ShowsStatus, covered_by};
     ghost use Rattle.room.specs.Runs.{ComesTo};
     ghost use Rattle.room.specs.Usage.{ShowsUsage};
+    ghost use Rattle.database.specs.Histories.{KnownIf, LogsQuiet};
     ghost use Rattle.database.specs.Obeys.{RepeatsTimes};
     ghost use Rattle.database.specs.Opening.{IsFresh};
     ghost use Rattle.database.specs.Reports.{ShowsReport};
 
-    /// The room as it was opened.
-    pub fn new(room: Room<D>) -> OpenedRoom<D>
+    /// The room as it was opened, and its history, if one is kept.
+    pub fn new(room: Room<D>, log: Option<Log<J>>) -> OpenedRoom<D, J>
         requires opened { IsFresh D.state room }
+        requires logged { ForSome log (λ log. HasLog D.state J.opened room log) }
         ensures room { result.room ≡ room }
         ensures ended { result.ended ≡ None }
     {
-        OpenedRoom { room, ended: None }
+        OpenedRoom {
+            room,
+            ended: None,
+            log,
+        }
     }
 
     /// A tick of the committer. If it is refused, the fault is kept, except for lack of memory, which passes.
@@ -61,6 +75,7 @@ impl<D: Pmem + Drop> OpenedRoom<D> {
     {
         let returned = self.room.advance();
         self.ended = ended_by(&returned, self.ended);
+        note(&mut self.log, &returned, &Step::Commit);
         returned
     }
 
@@ -70,8 +85,11 @@ impl<D: Pmem + Drop> OpenedRoom<D> {
         ensures step { Leads D.state self.old.room self.new.room Collect (visited result) }
 
         ensures ended { self.new.ended ≡ self.old.ended }
+        ensures log { LogsQuiet self.old.log self.new.log }
     {
-        self.room.collect()
+        let returned = self.room.collect();
+        note(&mut self.log, &returned, &Step::Collect);
+        returned
     }
 
     /// Visits of the collector that change nothing, made at once, this many at most. Returns how many.
@@ -81,8 +99,25 @@ impl<D: Pmem + Drop> OpenedRoom<D> {
         ensures most { result ≤ most }
 
         ensures ended { self.new.ended ≡ self.old.ended }
+        ensures log { LogsQuiet self.old.log self.new.log }
     {
-        self.room.pass(most)
+        let passed = self.room.pass(most);
+        note_visits(&mut self.log, passed);
+        passed
+    }
+
+    /// The history so far, if that is asked for. It waits forever if none is kept.
+    pub fn known_if<R: Wait>(&self, rt: &R, is_kept: bool) -> Option<Front<J>>
+        ensures { KnownIf is_kept self.now.log result }
+    {
+        if !is_kept {
+            return None;
+        }
+        if let Some(log) = &self.log {
+            return Some(log.front());
+        }
+        for _ in rt.forever() {}
+        unreachable!()
     }
 
     /// The layout of the device.
@@ -137,8 +172,47 @@ impl<D: Pmem + Drop> OpenedRoom<D> {
     }
 }
 
-ghost use Rattle.std.specs.Prelude.{◌≡◌, ◌≢◌, ◌⊎◌, Some, Err};
+ghost use Rattle.std.specs.Prelude.{◌≡◌, ◌≢◌, ◌⊎◌, ◌∷◌, [], Some, Err, is_ok, replicate};
 ghost use Rattle.base.specs.declared.fault.Fault.TheVariants.{OutOfMemory};
+ghost use Rattle.base.specs.declared.step.Step.TheVariants.{Collect};
+ghost use Rattle.database.specs.Histories.{Logs, made_if};
+
+/// Adds a step to the history if it was made, and if one is kept.
+#[inline(always)]
+pub fn note<J: Origin, T>(log: &mut Option<Log<J>>, returned: &Result<T, Fault>, step: &Step)
+    ensures { Logs (made_if (is_ok returned.now) step.now) log.old log.new }
+{
+    if returned.is_ok() {
+        add(log, step);
+    }
+}
+
+// Adds as many visits of the collector to the history, if one is kept.
+fn note_visits<J: Origin>(log: &mut Option<Log<J>>, visits: u64)
+    ensures { Logs (replicate visits Collect) log.old log.new }
+{
+    if log.is_none() {
+        return;
+    }
+    for _added in 0..visits {
+        add(log, &Step::Collect);
+    }
+}
+
+// Adds a step to the history, if one is kept. A history that has grown past what is known of it isn't kept any more; that doesn't
+// happen.
+#[inline(always)]
+fn add<J: Origin>(log: &mut Option<Log<J>>, step: &Step)
+    ensures { Logs (step.now ∷ []) log.old log.new }
+{
+    let is_added = match log {
+        Some(kept) => kept.add(step),
+        None => return,
+    };
+    if !is_added {
+        *log = None;
+    }
+}
 
 // The fault that has ended the committer after a tick with this result; `before` is the one that had ended it before, if any.
 fn ended_by(returned: &Result<Tick, Fault>, before: Option<Fault>) -> Option<Fault>
@@ -153,7 +227,7 @@ fn ended_by(returned: &Result<Tick, Fault>, before: Option<Fault>) -> Option<Fau
     }
 }
 
-impl<D: SyncAhead + Drop> OpenedRoom<D> {
+impl<D: SyncAhead + Drop, J: Origin> OpenedRoom<D, J> {
     ghost use Rattle.std.specs.Prelude.{◌≡◌};
     ghost use Rattle.machine.specs.Machine.{State};
     ghost use Rattle.room.specs.Room.{Shows, device_of};
@@ -164,6 +238,7 @@ impl<D: SyncAhead + Drop> OpenedRoom<D> {
         ensures device { device_of D.state self.new.room ≡ device_of D.state self.old.room }
         ensures shows { (q : State) → Shows D.state self.old.room q → Shows D.state self.new.room q }
         ensures ended { self.new.ended ≡ self.old.ended }
+        ensures log { self.new.log ≡ self.old.log }
     {
         self.room.begin_sync()
     }
@@ -174,6 +249,7 @@ impl<D: SyncAhead + Drop> OpenedRoom<D> {
         ensures device { device_of D.state self.new.room ≡ device_of D.state self.old.room }
         ensures shows { (q : State) → Shows D.state self.old.room q → Shows D.state self.new.room q }
         ensures ended { self.new.ended ≡ self.old.ended }
+        ensures log { self.new.log ≡ self.old.log }
     {
         self.room.end_sync(pending);
     }

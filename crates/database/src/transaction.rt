@@ -5,28 +5,35 @@ ghost use Rattle.base.specs.declared.step.Step.TheVariants.{Abort};
 ghost use Rattle.database.specs.Replies.{done_of};
 ghost use Rattle.database.specs.Obeys.{AnswersStep};
 ghost use Rattle.database.specs.Committing.{HasAborted};
+ghost use Rattle.std.specs.Prelude.{◌≡◌, is_some};
 
 use crate::committing::{put_collecting, write_all};
-use crate::desk::Shared;
+use crate::desk::{Desk, Shared};
 use crate::error::CommitError;
 use crate::steps;
+use crate::trace::Trace;
 use base::Ts;
 use base::fault::Fault;
 use base::key::Key;
 use base::row::Row;
+use history::{Front, Origin};
 use pmem::Pmem;
 use std::alloc::Global;
+use std::marker::Brand;
 use std::sync::{Arc, Wait};
 use sync_ahead::SyncAhead;
 
 /// Reads and writes of one snapshot. A drop aborts it. A commit and an abort take it apart, so no drop aborts it a second time.
-pub struct Transaction<'a, D: Pmem + Drop, R: Wait> {
+pub struct Transaction<'a, D: Pmem + Drop, R: Wait, J: Origin = Brand> {
     pub(crate) rt: &'a R,
-    pub(crate) shared: &'a Arc<Shared<D>, Global>,
+    pub(crate) shared: &'a Arc<Shared<D, J>, Global>,
     pub(crate) session: u8,
+    /// What it knows of the history, if that is kept.
+    pub(crate) trace: Option<Trace<J>>,
+    ghost kept: { is_some trace ≡ J.kept },
 }
 
-impl<D: Pmem + Drop, R: Wait> Drop for Transaction<'_, D, R> {
+impl<D: Pmem + Drop, R: Wait, J: Origin> Drop for Transaction<'_, D, R, J> {
     fn drop(self)
         // A run ends in the abort of its session, whatever the reply to that was. A commit and an abort take the transaction
         // apart, and no drop comes after them.
@@ -36,13 +43,18 @@ impl<D: Pmem + Drop, R: Wait> Drop for Transaction<'_, D, R> {
             rt,
             shared,
             session,
+            trace: _,
         } = self;
         let _ = give_up(rt, shared, session);
     }
 }
 
 // Aborts the transaction of this session.
-fn give_up<D: Pmem + Drop, R: Wait>(rt: &R, shared: &Shared<D>, session: u8) -> Result<(), Fault>
+fn give_up<D: Pmem + Drop, J: Origin, R: Wait>(
+    rt: &R,
+    shared: &Shared<D, J>,
+    session: u8,
+) -> Result<(), Fault>
     ensures { AnswersStep (Abort session) done_of result }
 {
     let mut desk = shared.desk(rt);
@@ -52,33 +64,83 @@ fn give_up<D: Pmem + Drop, R: Wait>(rt: &R, shared: &Shared<D>, session: u8) -> 
     aborted
 }
 
-impl<'a, D: SyncAhead + Drop, R: Wait> Transaction<'a, D, R> {
+impl<'a, D: SyncAhead + Drop, R: Wait, J: Origin> Transaction<'a, D, R, J> {
     ghost use Rattle.std.specs.Prelude.{◌≡◌, Ok, Err, IfOk, IfErr, MatchResult};
     ghost use Rattle.base.specs.declared.step.Step.TheVariants.{Get, Scan, Delete, Abort};
     ghost use Rattle.database.specs.Replies.{row_of, rows_of, done_of};
     ghost use Rattle.database.specs.Obeys.{AnswersStep};
+    ghost use Rattle.std.specs.Prelude.{false, is_ok, is_some};
+    ghost use Rattle.base.specs.declared.step.Step.TheVariants.{Put};
     ghost use Rattle.database.specs.Committing.{AnswersPut, AnswersWrites, ReportsCommit, ReportsError};
+    ghost use Rattle.database.specs.Histories.{Does, DoesWrites, HasCommitted, KeepsUp, Replies, Sees, begun_in, made_if, seen_in, traced};
+    ghost use Rattle.database.specs.Obeys.{log_in};
 
     pub(crate) fn new(
         rt: &'a R,
-        shared: &'a Arc<Shared<D>, Global>,
+        shared: &'a Arc<Shared<D, J>, Global>,
         session: u8,
-    ) -> Transaction<'a, D, R>
-        ensures { result.session ≡ session }
+        begun: Option<Front<J>>,
+    ) -> Transaction<'a, D, R, J>
+        requires kept { is_some begun ≡ J.kept }
+        ensures session { result.session ≡ session }
+        ensures trace { result.trace ≡ traced begun }
     {
         Transaction {
             rt,
             shared,
             session,
+            trace: Trace::of(begun),
+        }
+    }
+
+    // Keeps how far the history has come.
+    fn keep(&mut self, desk: &Desk<D, J>)
+        ensures session { self.new.session ≡ self.old.session }
+        ensures trace { KeepsUp self.old.trace (log_in desk.now.room) self.new.trace }
+
+        // If it isn't kept, the transaction is what it was, at Err too.
+        ensures same { J.kept ≡ false → self.new ≡ self.old }
+    {
+        let seen = match &self.trace {
+            Some(_) => desk.known(self.rt),
+            None => return,
+        };
+        if let Some(trace) = &mut self.trace {
+            trace.seen = seen;
+        }
+    }
+
+    /// The history up to its begin, if that is kept.
+    pub fn begun(&self) -> Option<Front<J>>
+        ensures { result ≡ begun_in self.now.trace }
+    {
+        match &self.trace {
+            Some(trace) => Some(trace.begun.again()),
+            None => None,
+        }
+    }
+
+    /// The history up to its own last step, if that is kept.
+    pub fn seen(&self) -> Option<Front<J>>
+        ensures { result ≡ seen_in self.now.trace }
+    {
+        match &self.trace {
+            Some(trace) => Some(trace.seen.again()),
+            None => None,
         }
     }
 
     /// The row under the key.
     pub fn get(&self, key: Key) -> Result<Option<Row>, Fault>
         // A run ends in this step of the transaction's session, and what is returned is read off its reply, at Ok and at Err.
-        ensures { AnswersStep (Get self.now.session key) row_of result }
+        ensures answers { AnswersStep (Get self.now.session key) row_of result }
+
+        // If the history is kept, the row is the reply to this step in the state that the history leads to. Since the transaction's own
+        // last step its session has made none.
+        ensures sees { IfOk result (λ row. Sees J.opened self.now.session self.now.trace (λ q. Replies q (Get self.now.session key) row_of (Ok row))) }
     {
         let mut desk = self.shared.desk(self.rt);
+        desk.attend(self.rt, self.session, &self.trace);
         let Some(room) = &mut desk.room else {
             unreachable!()
         };
@@ -88,10 +150,14 @@ impl<'a, D: SyncAhead + Drop, R: Wait> Transaction<'a, D, R> {
     /// The rows of the table at the keys from `lo` to `hi`, both included, by rising key.
     pub fn scan(&self, table: u16, lo: u64, hi: u64) -> Result<Vec<(Key, Row)>, Fault>
         // A run ends in this step of the transaction's session, and what is returned is read off its reply, at Ok and at Err.
-        ensures { MatchResult result (λ rows. AnswersStep (Scan self.now.session table lo hi) rows_of (Ok rows.items))
+        ensures answers { MatchResult result (λ rows. AnswersStep (Scan self.now.session table lo hi) rows_of (Ok rows.items))
             (λ fault. AnswersStep (Scan self.now.session table lo hi) rows_of (Err fault)) }
+
+        // If the history is kept, the rows are the reply to this step in the state that the history leads to, as for `get`.
+        ensures sees { IfOk result (λ rows. Sees J.opened self.now.session self.now.trace (λ q. Replies q (Scan self.now.session table lo hi) rows_of (Ok rows.items))) }
     {
         let mut desk = self.shared.desk(self.rt);
+        desk.attend(self.rt, self.session, &self.trace);
         let Some(room) = &mut desk.room else {
             unreachable!()
         };
@@ -108,14 +174,22 @@ impl<'a, D: SyncAhead + Drop, R: Wait> Transaction<'a, D, R> {
         // returned is the last put's.
         ensures made { AnswersPut self.old.session key row result }
 
-        // The transaction is what it was, at Err too: what comes next is of the same session.
-        ensures same { self.new ≡ self.old }
+        // It is the same transaction. If its history is kept, that goes on from its last step, and has of its session this put, if it was made, and no
+        // other step.
+        ensures session { self.new.session ≡ self.old.session }
+        ensures does { Does self.old.session (made_if (is_ok result) (Put self.old.session key row)) self.old.trace self.new.trace }
+
+        // If it isn't kept, the transaction is what it was, at Err too.
+        ensures same { J.kept ≡ false → self.new ≡ self.old }
     {
         let mut desk = self.shared.desk(self.rt);
+        desk.attend(self.rt, self.session, &self.trace);
         let Some(room) = &mut desk.room else {
             unreachable!()
         };
-        put_collecting(room, self.session, key, row)
+        let returned = put_collecting(room, self.session, key, row);
+        self.keep(&desk);
+        returned
     }
 
     /// Deletes the row under the key, if there is one.
@@ -123,14 +197,22 @@ impl<'a, D: SyncAhead + Drop, R: Wait> Transaction<'a, D, R> {
         // A run ends in this step of the transaction's session, and what is returned is read off its reply, at Ok and at Err.
         ensures made { AnswersStep (Delete self.old.session key) done_of result }
 
-        // The transaction is what it was, at Err too.
-        ensures same { self.new ≡ self.old }
+        // It is the same transaction. If its history is kept, that goes on from its last step, and has of its session this deletion, if it was made, and no
+        // other step.
+        ensures session { self.new.session ≡ self.old.session }
+        ensures does { Does self.old.session (made_if (is_ok result) (Delete self.old.session key)) self.old.trace self.new.trace }
+
+        // If it isn't kept, the transaction is what it was, at Err too.
+        ensures same { J.kept ≡ false → self.new ≡ self.old }
     {
         let mut desk = self.shared.desk(self.rt);
+        desk.attend(self.rt, self.session, &self.trace);
         let Some(room) = &mut desk.room else {
             unreachable!()
         };
-        steps::delete(room, self.session, key)
+        let returned = steps::delete(room, self.session, key);
+        self.keep(&desk);
+        returned
     }
 
     /// Makes these writes in order, up to the first that is refused: as `put`, or as `delete` if there is no row. They take the
@@ -141,14 +223,22 @@ impl<'a, D: SyncAhead + Drop, R: Wait> Transaction<'a, D, R> {
         // first that was refused, and what is returned is its fault.
         ensures made { AnswersWrites self.old.session writes.now result }
 
-        // The transaction is what it was, at Err too.
-        ensures same { self.new ≡ self.old }
+        // It is the same transaction. If its history is kept, that goes on from its last step, and has of its session these writes, or those that were made before the refusal, and no
+        // other step.
+        ensures session { self.new.session ≡ self.old.session }
+        ensures does { DoesWrites self.old.session writes.now result self.old.trace self.new.trace }
+
+        // If it isn't kept, the transaction is what it was, at Err too.
+        ensures same { J.kept ≡ false → self.new ≡ self.old }
     {
         let mut desk = self.shared.desk(self.rt);
+        desk.attend(self.rt, self.session, &self.trace);
         let Some(room) = &mut desk.room else {
             unreachable!()
         };
-        write_all(room, self.session, writes)
+        let returned = write_all(room, self.session, writes);
+        self.keep(&desk);
+        returned
     }
 
     /// Rolls the transaction back, as a drop does, and fails if the device has failed.
@@ -160,6 +250,7 @@ impl<'a, D: SyncAhead + Drop, R: Wait> Transaction<'a, D, R> {
             rt,
             shared,
             session,
+            trace: _,
         } = self;
         give_up(rt, shared, session)
     }
@@ -187,11 +278,39 @@ impl<'a, D: SyncAhead + Drop, R: Wait> Transaction<'a, D, R> {
         // ended, or a tick was refused memory.
         ensures err { IfErr result (ReportsError self.entry.session) }
     {
+        match self.commit_known() {
+            Ok(done) => Ok(done.timestamp),
+            Err(error) => Err(error),
+        }
+    }
+
+    /// The same, and returns the history up to the end of the transaction, if that is kept.
+    pub fn commit_known(self) -> Result<Committed<J>, CommitError>
+        // As for `commit`.
+        ensures ok { IfOk result (λ done. ReportsCommit self.entry.session done.timestamp) }
+        ensures err { IfErr result (ReportsError self.entry.session) }
+
+        // If the history is kept, what is returned goes on from the last step of the transaction, and can be made from whatever the
+        // device opened as. Of the session it then has the draw of this very timestamp, which was the next one, stamps and its
+        // end, and no other step. Or, without a timestamp, its draw and its end, and no other step.
+        ensures history { IfOk result (λ done. HasCommitted J.opened self.entry.session self.entry.trace done.timestamp done.front) }
+    {
         let Transaction {
             rt,
             shared,
             session,
+            trace,
         } = self;
-        shared.commit(rt, shared.desk(rt), session)
+        match shared.commit(rt, shared.desk(rt), session, trace) {
+            Ok((timestamp, front)) => Ok(Committed { timestamp, front }),
+            Err(error) => Err(error),
+        }
     }
+}
+
+/// What a commit returns: its timestamp, or `None` if nothing was written, and the history up to its transaction's end, if that is kept.
+#[derive(Drop)]
+pub struct Committed<J: Origin = Brand> {
+    pub timestamp: Option<Ts>,
+    pub front: Option<Front<J>>,
 }

@@ -13,6 +13,7 @@ use crate::opened::OpenedRoom;
 use base::batch::Batch;
 use base::fault::Fault;
 use base::step::Stage;
+use history::Origin;
 use pmem::Pmem;
 use roles::Turn;
 use room::{Tick, Visit};
@@ -30,7 +31,7 @@ const LEAST_VISITS: u64 = 64;
 const MOST_VISITS: u64 = 1_024;
 
 // A tick of the committer.
-fn tick<D: Pmem + Drop>(desk: &mut Desk<D>) -> Turn
+fn tick<D: Pmem + Drop, J: Origin>(desk: &mut Desk<D, J>) -> Turn
     // The room, if it is there, makes one tick, and no other step. What the tick was refused with is kept as the reason why the
     // committer has ended, and nothing else is. Lack of memory ends nothing. How often in a row it was refused memory is counted:
     // one more if it was, as before after another refusal, and none after any other reply. The rows that it covered are counted.
@@ -61,7 +62,7 @@ fn rows_of(batch: &Batch) -> u64
 }
 
 /// Visits of the collector, up to the end of a round at most.
-pub fn collect<D: Pmem + Drop>(desk: &mut Desk<D>) -> Turn
+pub fn collect<D: Pmem + Drop, J: Origin>(desk: &mut Desk<D, J>) -> Turn
     // The room makes visits, and no other step, and none of them ends the committer. The rows that were covered count on, and
     // from 0 once a round has ended.
     ensures visits { IsTrue (is_some desk.old.room) → InRoom (λ old new. Repeats D.state old new Collect) desk.old.room desk.new.room }
@@ -85,7 +86,7 @@ pub fn collect<D: Pmem + Drop>(desk: &mut Desk<D>) -> Turn
 }
 
 // A part of a round's visits, up to its end at most.
-fn visit_some<D: Pmem + Drop>(room: &mut OpenedRoom<D>) -> Turn
+fn visit_some<D: Pmem + Drop, J: Origin>(room: &mut OpenedRoom<D, J>) -> Turn
     ensures visits { Repeats D.state room.old.room room.new.room Collect }
     ensures ended { room.new.ended ≡ room.old.ended }
 {
@@ -101,7 +102,7 @@ fn visit_some<D: Pmem + Drop>(room: &mut OpenedRoom<D>) -> Turn
     Turn::Unfinished
 }
 
-impl<D: Pmem + Drop> Desk<D> {
+impl<D: Pmem + Drop, J: Origin> Desk<D, J> {
     ghost use Rattle.std.specs.Prelude.{◌≡◌, ◌≢◌, IsSome, Ok};
     ghost use Rattle.base.specs.declared.fault.Fault.TheVariants.{OutOfMemory};
     ghost use Rattle.base.specs.declared.step.Reply.TheVariants.{Refused};
@@ -176,10 +177,10 @@ impl<D: Pmem + Drop> Desk<D> {
     }
 }
 
-impl<D: Pmem + Drop> Shared<D> {
+impl<D: Pmem + Drop, J: Origin> Shared<D, J> {
     /// Replies to those who wait for their commit, and wakes others whom the turn concerns: threads that wait for another's commit,
     /// and the collector if a round is due, unless a sync wakes it. A thread that waits for its own commit sleeps on.
-    pub fn notify<R: Wait>(&self, rt: &R, desk: &mut Desk<D>, turn: Turn) {
+    pub fn notify<R: Wait>(&self, rt: &R, desk: &mut Desk<D, J>, turn: Turn) {
         if !turn.is_news() {
             return;
         }
@@ -191,7 +192,7 @@ impl<D: Pmem + Drop> Shared<D> {
     }
 }
 
-impl<D: SyncAhead + Drop> Shared<D> {
+impl<D: SyncAhead + Drop, J: Origin> Shared<D, J> {
     ghost use Rattle.std.specs.Prelude.{◌≡◌, IsTrue, is_some};
     ghost use Rattle.std.specs.Sync.Mutex.{mutex_guard_value};
     ghost use Rattle.roles.specs.declared.turn.Turn.TheVariants.{Stopped};
@@ -201,8 +202,8 @@ impl<D: SyncAhead + Drop> Shared<D> {
     pub fn take_ticks<'a, R: Wait>(
         &'a self,
         rt: &R,
-        desk: MutexGuard<'a, Desk<D>>,
-    ) -> (MutexGuard<'a, Desk<D>>, Turn)
+        desk: MutexGuard<'a, Desk<D, J>>,
+    ) -> (MutexGuard<'a, Desk<D, J>>, Turn)
         ensures stopped { result.1 ≡ Stopped → IsTrue (is_some (ended_of (mutex_guard_value result.0).room)) }
     {
         let mut desk = desk;
@@ -221,8 +222,8 @@ impl<D: SyncAhead + Drop> Shared<D> {
     fn sync_ahead<'a, R: Wait>(
         &'a self,
         rt: &R,
-        desk: MutexGuard<'a, Desk<D>>,
-    ) -> MutexGuard<'a, Desk<D>> {
+        desk: MutexGuard<'a, Desk<D, J>>,
+    ) -> MutexGuard<'a, Desk<D, J>> {
         let mut desk = desk;
         let Some(mut pending) = desk.begin_sync() else {
             return desk;
@@ -239,7 +240,7 @@ impl<D: SyncAhead + Drop> Shared<D> {
     }
 }
 
-impl<D: SyncAhead + Drop> Desk<D> {
+impl<D: SyncAhead + Drop, J: Origin> Desk<D, J> {
     // Hands out a sync, if the next tick would wait for one.
     fn begin_sync(&mut self) -> Option<D::Pending> {
         let Some(room) = &mut self.room else {

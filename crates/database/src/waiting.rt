@@ -8,19 +8,23 @@ ghost use Rattle.database.specs.declared.error.CommitError.TheVariants.{Refused}
 
 use crate::committing::prepare;
 use crate::desk::{Desk, Shared};
+use crate::ending::end_after;
 use crate::error::CommitError;
+use crate::trace::Trace;
 use base::Ts;
 use base::fault::Fault;
 use base::key::Key;
 use base::row::Row;
+use history::{Front, Origin};
 use roles::Next;
 use std::sync::{MutexGuard, Wait};
 use sync_ahead::SyncAhead;
 
-impl<D: SyncAhead + Drop> Shared<D> {
+impl<D: SyncAhead + Drop, J: Origin> Shared<D, J> {
     ghost use Rattle.std.specs.Prelude.{Ok, IfOk, IfErr};
     ghost use Rattle.base.specs.declared.key.Key.{Key};
     ghost use Rattle.base.specs.declared.fault.Fault.TheVariants.{Conflict};
+    ghost use Rattle.database.specs.Histories.{HasCommitted, PreparesAfter};
     ghost use Rattle.database.specs.Committing.{IsPrepared, HasAborted, ConflictsAt, IsSettledUpTo, ReportsCommit, ReportsUnprepared, ReportsError, ReportsWritten, ReportsUnwritten};
 
     /// Makes these writes in a transaction of their own and commits it. Everything up to the last stamp is one turn of the lock.
@@ -34,34 +38,42 @@ impl<D: SyncAhead + Drop> Shared<D> {
     {
         let mut desk = self.desk(rt);
         match desk.begin_with(writes) {
-            Ok(session) => self.commit(rt, desk, session),
+            Ok(session) => match self.commit(rt, desk, session, None) {
+                Ok((timestamp, _)) => Ok(timestamp),
+                Err(error) => Err(error),
+            },
             Err(fault) => Err(CommitError::Refused(fault)),
         }
     }
 
-    /// Commits the transaction of this session, and ends it.
+    /// Commits the transaction of this session, and ends it. If its last step is known, it also returns the history up to its end.
     pub fn commit<'a, R: Wait>(
         &'a self,
         rt: &R,
-        desk: MutexGuard<'a, Desk<D>>,
+        desk: MutexGuard<'a, Desk<D, J>>,
         session: u8,
-    ) -> Result<Option<Ts>, CommitError>
-        ensures ok { IfOk result (ReportsCommit session) }
+        trace: Option<Trace<J>>,
+    ) -> Result<(Option<Ts>, Option<Front<J>>), CommitError>
+        ensures ok { IfOk result (λ done. ReportsCommit session done.0) }
+        ensures history { IfOk result (λ done. HasCommitted J.opened session trace done.0 done.1) }
         ensures err { IfErr result (ReportsError session) }
     {
-        let (desk, prepared, drawn) = self.prepare(rt, desk, session);
+        let (desk, prepared, drawn, front) = self.prepare(rt, desk, session, &trace);
         match prepared {
             Ok(timestamp) => match timestamp {
-                Some(timestamp) => match self.wait(rt, desk, session, timestamp) {
-                    Ok(()) => Ok(Some(timestamp)),
-                    Err(error) => Err(error),
-                },
+                Some(timestamp) => {
+                    let (answer, ending) = self.wait(rt, desk, session, timestamp);
+                    match answer {
+                        Ok(()) => Ok((Some(timestamp), end_after(rt, session, front, ending))),
+                        Err(error) => Err(error),
+                    }
+                }
                 None => {
                     let mut desk = desk;
                     desk.leave();
                     self.urge(&desk);
                     self.exit(desk);
-                    Ok(None)
+                    Ok((None, front))
                 }
             },
             Err(error) => {
@@ -73,13 +85,20 @@ impl<D: SyncAhead + Drop> Shared<D> {
     }
 
     // Draws and stamps, once the committer has reserved timestamps. Returns the timestamp, if something was written, and the greatest
-    // timestamp drawn by then, by any session.
+    // timestamp drawn by then, by any session. If the session's last step is known, it also returns the history up to there.
     fn prepare<'a, R: Wait>(
         &'a self,
         rt: &R,
-        desk: MutexGuard<'a, Desk<D>>,
+        desk: MutexGuard<'a, Desk<D, J>>,
         session: u8,
-    ) -> (MutexGuard<'a, Desk<D>>, Result<Option<Ts>, CommitError>, Ts)
+        trace: &Option<Trace<J>>,
+    ) -> (
+        MutexGuard<'a, Desk<D, J>>,
+        Result<Option<Ts>, CommitError>,
+        Ts,
+        Option<Front<J>>,
+    )
+        ensures history { IfOk result.1 (λ drawn. PreparesAfter J.opened session trace.now drawn result.3) }
         ensures ok { IfOk result.1 (λ drawn. IsPrepared session (Ok drawn)) }
         ensures err { IfErr result.1 (ReportsUnprepared session) }
         ensures conflict { (key : Key) → result.1 ≡ Err (Refused (Conflict key)) → ConflictsAt session key result.2 }
@@ -87,17 +106,24 @@ impl<D: SyncAhead + Drop> Shared<D> {
         let mut desk = desk;
         for _ in rt.forever() {
             if desk.lacks_numbers() {
-                return (desk, Err(CommitError::Refused(Fault::TimestampsOut)), 0);
+                return (
+                    desk,
+                    Err(CommitError::Refused(Fault::TimestampsOut)),
+                    0,
+                    None,
+                );
             }
+            desk.attend(rt, session, trace);
             if let Some(room) = &mut desk.room {
                 let prepared = prepare(rt, room, session);
                 let drawn = room.last_drawn();
                 if !is_full(&prepared) {
-                    return (desk, prepared, drawn);
+                    let front = desk.known_if(rt, trace.is_some());
+                    return (desk, prepared, drawn, front);
                 }
                 desk = self.take_turn(rt, desk);
                 if desk.lacks_memory() {
-                    return (desk, Err(CommitError::Refused(Fault::OutOfMemory)), 0);
+                    return (desk, Err(CommitError::Refused(Fault::OutOfMemory)), 0, None);
                 }
             } else {
                 desk = self.moved.wait(rt, desk);
@@ -133,9 +159,9 @@ impl<D: SyncAhead + Drop> Shared<D> {
     fn settle<'a, R: Wait>(
         &'a self,
         rt: &R,
-        desk: MutexGuard<'a, Desk<D>>,
+        desk: MutexGuard<'a, Desk<D, J>>,
         timestamp: Ts,
-    ) -> MutexGuard<'a, Desk<D>>
+    ) -> MutexGuard<'a, Desk<D, J>>
         ensures { IsSettledUpTo timestamp }
     {
         let mut desk = desk;
@@ -156,8 +182,8 @@ impl<D: SyncAhead + Drop> Shared<D> {
     fn take_turn<'a, R: Wait>(
         &'a self,
         rt: &R,
-        desk: MutexGuard<'a, Desk<D>>,
-    ) -> MutexGuard<'a, Desk<D>> {
+        desk: MutexGuard<'a, Desk<D, J>>,
+    ) -> MutexGuard<'a, Desk<D, J>> {
         let mut desk = desk;
         if 1 < desk.open {
             if !desk.roles.is_led() {

@@ -7,6 +7,7 @@ ghost use Rattle.base.specs.declared.fault.Fault.TheVariants.{OutOfMemory, NoThr
 use crate::desk::{Desk, Shared};
 use crate::turns;
 use base::fault::Fault;
+use history::Origin;
 use roles::{Next, Turn};
 use std::alloc::Global;
 use std::sync::{Arc, MutexGuard, Wait};
@@ -18,7 +19,8 @@ use sync_ahead::SyncAhead;
 pub fn start_workers<
     R: Threads + Wait + Copy + Drop + Send + 'static,
     D: SyncAhead + Drop + Send + Sync + 'static,
->(rt: &R, shared: &Arc<Shared<D>, Global>) -> Result<(), Fault>
+    J: Origin + Send + Sync + 'static,
+>(rt: &R, shared: &Arc<Shared<D, J>, Global>) -> Result<(), Fault>
 where
     D::Pending: Send,
     ensures { IfErr result (λ fault. (fault ≡ OutOfMemory) ⊎ (fault ≡ NoThread)) }
@@ -43,7 +45,8 @@ enum Duty {
 fn spawn<
     R: Threads + Wait + Copy + Drop + Send + 'static,
     D: SyncAhead + Drop + Send + Sync + 'static,
->(rt: &R, shared: &Arc<Shared<D>, Global>, duty: Duty) -> Result<(), Fault>
+    J: Origin + Send + Sync + 'static,
+>(rt: &R, shared: &Arc<Shared<D, J>, Global>, duty: Duty) -> Result<(), Fault>
 where
     D::Pending: Send,
     ensures { IfErr result (λ fault. (fault ≡ OutOfMemory) ⊎ (fault ≡ NoThread)) }
@@ -66,7 +69,11 @@ where
 }
 
 // One turn after another, until the database is closed. The lock is free between two turns.
-fn work<R: Wait + Drop, D: SyncAhead + Drop>(rt: &R, shared: &Arc<Shared<D>, Global>, duty: Duty) {
+fn work<R: Wait + Drop, D: SyncAhead + Drop, J: Origin>(
+    rt: &R,
+    shared: &Arc<Shared<D, J>, Global>,
+    duty: Duty,
+) {
     for _ in rt.forever() {
         let desk = shared.enter(rt);
         if desk.roles.is_closing {
@@ -81,10 +88,10 @@ fn work<R: Wait + Drop, D: SyncAhead + Drop>(rt: &R, shared: &Arc<Shared<D>, Glo
 }
 
 // A turn of the committer. The database may be closed while it syncs.
-fn commit<'a, R: Wait, D: SyncAhead + Drop>(
+fn commit<'a, R: Wait, D: SyncAhead + Drop, J: Origin>(
     rt: &R,
-    shared: &'a Shared<D>,
-    desk: MutexGuard<'a, Desk<D>>,
+    shared: &'a Shared<D, J>,
+    desk: MutexGuard<'a, Desk<D, J>>,
 ) {
     let (mut desk, turn) = shared.take_over(rt, desk);
     shared.notify(rt, &mut desk, turn);
@@ -103,10 +110,10 @@ fn commit<'a, R: Wait, D: SyncAhead + Drop>(
 }
 
 // A turn of the collector, which sleeps if no round is due, or if its round may wait. Threads that wait for the lock get it between two turns.
-fn collect<'a, R: Wait, D: SyncAhead + Drop>(
+fn collect<'a, R: Wait, D: SyncAhead + Drop, J: Origin>(
     rt: &R,
-    shared: &'a Shared<D>,
-    desk: MutexGuard<'a, Desk<D>>,
+    shared: &'a Shared<D, J>,
+    desk: MutexGuard<'a, Desk<D, J>>,
 ) {
     let mut desk = desk;
     match turns::collect(&mut desk) {

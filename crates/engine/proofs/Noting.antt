@@ -6,8 +6,9 @@ use Rattle.base.specs.declared.step.Reply.{Reply}
 use Rattle.machine.specs.Machine.{State}
 use Rattle.room.specs.declared.status.Status.{Status}
 use Rattle.room.specs.Room.{ShowsStatus}
-use Rattle.engine.specs.declared.due.Due.{Due}
-use Rattle.engine.specs.Due.{covered_after, due_after, goes_on, tick_after, wakes_waiting, wanted_after, wants_record, wants_record_of}
+use Rattle.roles.specs.declared.due.Due.{Due}
+use Rattle.roles.specs.Dues.{falls_due}
+use Rattle.engine.specs.Due.{covered_after, due_after, fails, goes_on, tick_after, wakes_waiting, wanted_after, wants_record, wants_record_of}
 
 -- what was taken in of the reply
 pub record IsTakenIn (old mid : Due) (reply : Reply) : Type 0 where
@@ -19,14 +20,18 @@ pub record IsTakenIn (old mid : Due) (reply : Reply) : Type 0 where
   pub collector : mid.news.collector ≡ old.news.collector
   pub waiting : mid.news.waiting ≡ (old.news.waiting || wakes_waiting reply)
 
--- and a visit was made due then
-pub record IsWanted (mid new : Due) : Type 0 where
-  pub visit : new.visit ≡ true
-  pub collector : new.news.collector ≡ (mid.news.collector || not mid.visit)
-  pub others : (new.news.committer ≡ mid.news.committer) × (new.news.waiting ≡ mid.news.waiting)
+-- and a round fell due then, or didn't
+pub record IsBegun (mid new : Due) (enough : ℕ) (must : Bool) : Type 0 where
+  pub visit : new.visit ≡ (mid.visit || falls_due enough must mid.visit mid.is_slot_wanted mid.covered)
+  pub collector : new.news.collector ≡ (mid.news.collector || falls_due enough must mid.visit mid.is_slot_wanted mid.covered)
+  pub covered : new.covered ≡ (if falls_due enough must mid.visit mid.is_slot_wanted mid.covered then 0 else mid.covered)
+  pub wanted : new.is_slot_wanted ≡ (not (falls_due enough must mid.visit mid.is_slot_wanted mid.covered) && mid.is_slot_wanted)
   pub tick : new.tick ≡ mid.tick
-  pub covered : new.covered ≡ if mid.visit then mid.covered else 0
-  pub wanted : new.is_slot_wanted ≡ if mid.visit then mid.is_slot_wanted else false
+  pub others : (new.news.committer ≡ mid.news.committer) × (new.news.waiting ≡ mid.news.waiting)
+
+-- what is due then, if no record is needed
+pub noted-due : (old mid new : Due) (reply : Reply) (enough : ℕ) (must : Bool) → IsTakenIn old mid reply → must ≡ fails reply → IsBegun mid new enough must → new ≡ due_after old reply false enough
+noted-due old mid new reply enough must taken failed begun = grind arith
 
 -- a reply that makes a record due leaves a tick due or not, as it was
 wants-same : (reply : Reply) (dirty : ℕ) (gaps : List Gap) (next window : ℕ) → wants_record_of reply dirty gaps next window ≡ true → (due : Bool) → tick_after due reply ≡ due

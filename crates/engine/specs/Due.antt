@@ -1,12 +1,13 @@
 -- What is due for the workers after a step, and who is to be notified.
-use Rattle.std.specs.Prelude.{ℕ, ◌+◌, ◌*◌, ◌-◌, ◌/◌, ◌^◌, nat_le, nat_lt, min, max, Bool, true, false, not, ◌&&◌, ◌||◌, if◌then◌else◌, List, [], ◌∷◌, length}
+use Rattle.std.specs.Prelude.{ℕ, ◌+◌, ◌*◌, ◌-◌, ◌^◌, nat_lt, min, Bool, true, false, not, ◌&&◌, ◌||◌, if◌then◌else◌, List, [], ◌∷◌, length}
 use Rattle.base.specs.Records.{Record}
 use Rattle.base.specs.declared.gap.Gap.{Gap}
 use Rattle.base.specs.declared.fault.Fault.TheVariants.{Device as DeviceFault, Failed, OutOfMemory, SlotsOut, TimestampsOut, WindowFull}
 use Rattle.base.specs.declared.step.Reply.{Reply}
 use Rattle.base.specs.declared.step.Reply.TheVariants.{Covered, Drawn, Idle, Refused, Stamped, SweepEnd}
-use Rattle.engine.specs.declared.due.Due.{Due}
-use Rattle.engine.specs.declared.due.News.{News}
+use Rattle.roles.specs.declared.due.Due.{Due}
+use Rattle.roles.specs.declared.due.News.{News}
+use Rattle.roles.specs.Dues.{falls_due, nobody}
 
 -- A tick is due once all keys of a commit are stamped, if a step waits for timestamps, and if the device fails, since the committer is
 -- to see that. After one that found nothing to do, none is due
@@ -62,10 +63,6 @@ fails (Refused DeviceFault) = true
 fails (Refused Failed) = true
 fails _ = false
 
--- a fourth of the slots, and at least one: a round is due once that many commits were covered
-abbrev pub fourth_of : ℕ → ℕ
-fourth_of slots = max (slots / 4) 1
-
 -- the reply says that a sweep has ended
 abbrev pub ends_sweep : Reply → Bool
 ends_sweep SweepEnd = true
@@ -75,13 +72,9 @@ ends_sweep _ = false
 abbrev pub goes_on : Due → Reply → Bool
 goes_on old reply = old.visit && not (ends_sweep reply)
 
--- there is reason for a round: a slot is needed, enough commits were covered, or the device failed
-abbrev pub has_reason : ℕ → Due → Reply → Bool
-has_reason enough old reply = wanted_after old.is_slot_wanted reply || (nat_le enough (covered_after old.covered reply) || fails reply)
-
--- a round falls due: there is reason for one, and none goes on
-abbrev pub falls_due : ℕ → Due → Reply → Bool
-falls_due enough old reply = not (goes_on old reply) && has_reason enough old reply
+-- a round falls due after the reply; one must begin if the device fails, so that the collector sees that
+abbrev pub begins_round : ℕ → Due → Reply → Bool
+begins_round enough old reply = falls_due enough (fails reply) (goes_on old reply) (wanted_after old.is_slot_wanted reply) (covered_after old.covered reply)
 
 -- ---- what a step leaves due
 
@@ -89,7 +82,7 @@ falls_due enough old reply = not (goes_on old reply) && has_reason enough old re
 abbrev pub news_after : Due → Reply → Bool → ℕ → News
 news_after old reply wants enough = record {
   committer = old.news.committer || (not old.tick && (tick_after old.tick reply || wants));
-  collector = old.news.collector || falls_due enough old reply;
+  collector = old.news.collector || begins_round enough old reply;
   waiting = old.news.waiting || wakes_waiting reply;
 }
 
@@ -100,20 +93,12 @@ news_after old reply wants enough = record {
 abbrev pub due_after : Due → Reply → Bool → ℕ → Due
 due_after old reply wants enough = record {
   tick = tick_after old.tick reply || wants;
-  visit = goes_on old reply || falls_due enough old reply;
-  covered = if falls_due enough old reply then 0 else covered_after old.covered reply;
-  is_slot_wanted = not (falls_due enough old reply) && wanted_after old.is_slot_wanted reply;
+  visit = goes_on old reply || begins_round enough old reply;
+  covered = if begins_round enough old reply then 0 else covered_after old.covered reply;
+  is_slot_wanted = not (begins_round enough old reply) && wanted_after old.is_slot_wanted reply;
   news = news_after old reply wants enough;
 }
-
--- nobody is to be notified
-abbrev pub nobody : News
-nobody = record { committer = false; collector = false; waiting = false }
 
 -- the same is due, and all were notified
 abbrev pub delivered : Due → Due
 delivered due = record due { news = nobody }
-
--- when an engine starts: a room that is lent may have gaps to sweep, and a record may be due
-abbrev pub due_first : Due
-due_first = record { tick = true; visit = true; covered = 0; is_slot_wanted = false; news = nobody }

@@ -13,6 +13,7 @@ use Rattle.base.specs.declared.step.Reply.TheVariants.{Refused as RefusedWith}
 use Rattle.machine.specs.Machine.{State}
 use Rattle.pmem.specs.Device.{Device}
 use Rattle.pmem.specs.declared.device.Pmem.{Ghosts}
+use Rattle.roles.specs.Dues.{is_too_often}
 use Rattle.room.specs.Room.{Leads, Shows}
 use Rattle.audited.specs.Audit.{IsLastOfRun, Keeps, Stays}
 use Rattle.audited.specs.declared.audited.Audited.{Audited}
@@ -79,11 +80,7 @@ halted_after halted step note place = first_of (halting step note place) halted
 -- why nothing will be covered: the tick that ended the committer, or that it was refused memory more than a hundred times in a row
 abbrev pub why_not : Option Halt → ℕ → Option Why
 why_not (Some halt) refusals = Some (Halted halt)
-why_not None refusals = if nat_lt 100 refusals then Some Memory else None
-
--- a worker sleeps after more than a hundred refusals in a row, unless the engine is being closed
-abbrev pub sleeps : Bool → ℕ → Bool
-sleeps closing refusals = not closing && nat_lt 100 refusals
+why_not None refusals = if is_too_often refusals then Some Memory else None
 
 -- ---- a wait for a timestamp
 

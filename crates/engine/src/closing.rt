@@ -15,19 +15,18 @@ use room::Status;
 /// Asks the workers to end, exactly if no fewer sessions came back than were handed out. Otherwise all stays as it was.
 pub fn may_close<D: Pmem + Drop, J: Origin>(desk: &mut Desk<D, J>, count: u64) -> bool
     ensures may { IsTrue result ↔ (desk.old.handed ≤ count) }
-    ensures closing { IsTrue result → desk.new.closing ≡ true }
+    ensures closing { IsTrue result → desk.new.workers ≡ record desk.old.workers { is_closing = true } }
     ensures refused { IsFalse result → desk.new ≡ desk.old }
     ensures handed { desk.new.handed ≡ desk.old.handed }
     ensures room { desk.new.audited ≡ desk.old.audited }
 
     // What else is under the lock stays.
-    ensures halted { (desk.new.halted ≡ desk.old.halted) × (desk.new.refusals ≡ desk.old.refusals) }
-    ensures due { (desk.new.due ≡ desk.old.due) × (desk.new.asleep ≡ desk.old.asleep) }
+    ensures halted { desk.new.halted ≡ desk.old.halted }
 {
     if count < desk.handed {
         return false;
     }
-    desk.closing = true;
+    desk.workers.close();
     true
 }
 
@@ -44,8 +43,7 @@ pub fn take_room<D: Pmem + Drop, J: Origin, B: Drop>(
 
     // A room that is taken out is no longer there. What else is under the lock stays.
     ensures taken { IfSome result (λ _. desk.new.audited ≡ None) }
-    ensures rest { (desk.new.closing ≡ desk.old.closing) × (desk.new.handed ≡ desk.old.handed) × (desk.new.halted ≡ desk.old.halted) × (desk.new.refusals ≡ desk.old.refusals) }
-    ensures due { (desk.new.due ≡ desk.old.due) × (desk.new.asleep ≡ desk.old.asleep) }
+    ensures rest { (desk.new.handed ≡ desk.old.handed) × (desk.new.halted ≡ desk.old.halted) × (desk.new.workers ≡ desk.old.workers) }
 {
     let Some(audited) = &desk.audited else {
         return None;

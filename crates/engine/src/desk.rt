@@ -4,7 +4,7 @@
 ghost use Rattle.std.specs.Option.{ForSome};
 ghost use Rattle.engine.specs.Origins.{IsFrom, HasHalted, WasHalted};
 
-use crate::due::{Due, News};
+use crate::due::{makes_record_due, note};
 use crate::halt::{Halt, Why};
 use crate::origin::Origin;
 use audited::{Audited, Receipt};
@@ -12,35 +12,9 @@ use base::Ts;
 use base::fault::Fault;
 use base::step::{Note, Reply, Step};
 use pmem::Pmem;
+use roles::{Workers, enough_for_round, lacks_memory};
 use room::Status;
 use std::marker::PhantomData;
-
-/// How often in a row a worker may be refused memory before it sleeps, and the wait for the committer fails.
-pub const REFUSALS: u64 = 100;
-
-/// What a worker does.
-#[derive(Clone, Copy)]
-pub enum Duty {
-    Commit,
-    Collect,
-}
-
-impl Duty {
-    ghost use Rattle.std.specs.Prelude.{◌≡◌};
-    ghost use Rattle.base.specs.declared.step.Step.TheVariants.{Commit, Collect};
-    ghost use Rattle.engine.specs.declared.desk.Duty.TheVariants.{Commit as OfCommitter, Collect as OfCollector};
-
-    /// The step that it makes.
-    pub fn step(self) -> Step
-        ensures commit { (self ≡ OfCommitter) → result ≡ Commit }
-        ensures collect { (self ≡ OfCollector) → result ≡ Collect }
-    {
-        match self {
-            Duty::Commit => Step::Commit,
-            Duty::Collect => Step::Collect,
-        }
-    }
-}
 
 /// What is under the room's lock.
 #[derive(Drop)]
@@ -49,16 +23,10 @@ pub struct Desk<D: Pmem, J: Origin> {
     pub audited: Option<Audited<D>>,
     /// How many sessions were handed out.
     pub handed: u64,
-    /// The workers are to end.
-    pub closing: bool,
-    /// A worker sleeps, since it was refused memory.
-    pub asleep: bool,
-    /// How often in a row the committer was refused memory.
-    pub refusals: u64,
+    /// What the workers have to do, and whether they rest or have to end.
+    pub workers: Workers,
     /// The tick of the committer that was refused, which ended it.
     halted: Option<Halt>,
-    /// What the workers have to do.
-    due: Due,
     of: PhantomData<J>,
     ghost from: { ForSome audited (IsFrom D.state J.image) },
     ghost ended: { ForSome halted (HasHalted J.image) },
@@ -67,7 +35,7 @@ pub struct Desk<D: Pmem, J: Origin> {
 }
 
 impl<D: Pmem + Drop, J: Origin> Desk<D, J> {
-    ghost use Rattle.std.specs.Prelude.{◌≡◌, ◌≤◌, ◌↔◌, ◌+◌, ◌⊎◌, ◌^◌, IsTrue, true, false, min, nat_lt, is_some, Some, None, IfSome, IfNone, IfErr, OnErr, MatchOption, MatchResult};
+    ghost use Rattle.std.specs.Prelude.{◌≡◌, ◌≤◌, ◌↔◌, ◌+◌, ◌⊎◌, ◌^◌, IsTrue, is_some, Some, None, IfSome, IfNone, IfErr, OnErr, MatchOption, MatchResult};
     ghost use Rattle.base.specs.Batches.{Batch};
     ghost use Rattle.base.specs.declared.fault.Fault.TheVariants.{OutOfMemory};
     ghost use Rattle.base.specs.declared.step.Reply.TheVariants.{Covered};
@@ -75,26 +43,22 @@ impl<D: Pmem + Drop, J: Origin> Desk<D, J> {
     ghost use Rattle.machine.specs.Machine.{State};
     ghost use Rattle.room.specs.Room.{Shows};
     ghost use Rattle.engine.specs.Origins.{HasCovered, IsWhy};
-    ghost use Rattle.engine.specs.declared.desk.Duty.TheVariants.{Commit, Collect};
-    ghost use Rattle.engine.specs.Due.{delivered, due_after, due_first, fourth_of, wants_record};
-    ghost use Rattle.engine.specs.Lending.{HasMade, MakesOnly, has_failed, is_covered, halted_after, refusals_after, sleeps, why_not, waited};
+    ghost use Rattle.roles.specs.Dues.{LeavesWork, LeavesRest, enough_for, first_workers};
+    ghost use Rattle.engine.specs.Due.{due_after, wants_record};
+    ghost use Rattle.engine.specs.Lending.{HasMade, MakesOnly, has_failed, is_covered, halted_after, refusals_after, why_not, waited};
 
     /// No room, no session, no refusal and no end. A tick and a visit are due.
     pub fn new() -> Desk<D, J>
         ensures empty { result.audited ≡ None }
         ensures handed { result.handed ≡ 0 }
-        ensures open { result.closing ≡ false }
-        ensures calm { (result.refusals ≡ 0) × (result.halted ≡ None) × (result.asleep ≡ false) }
-        ensures due { result.due ≡ due_first }
+        ensures workers { result.workers ≡ first_workers }
+        ensures calm { result.halted ≡ None }
     {
         Desk {
             audited: None,
             handed: 0,
-            closing: false,
-            asleep: false,
-            refusals: 0,
+            workers: Workers::new(),
             halted: None,
-            due: Due::new(),
             of: PhantomData,
         }
     }
@@ -104,7 +68,7 @@ impl<D: Pmem + Drop, J: Origin> Desk<D, J> {
         requires from { IsFrom D.state J.image audited }
         ensures room { self.new.audited ≡ Some audited }
         ensures halted { self.new.halted ≡ None }
-        ensures rest { (self.new.handed ≡ self.old.handed) × (self.new.closing ≡ self.old.closing) × (self.new.refusals ≡ self.old.refusals) × (self.new.asleep ≡ self.old.asleep) × (self.new.due ≡ self.old.due) }
+        ensures rest { (self.new.handed ≡ self.old.handed) × (self.new.workers ≡ self.old.workers) }
     {
         self.halted = None;
         self.audited = Some(audited);
@@ -128,10 +92,9 @@ impl<D: Pmem + Drop, J: Origin> Desk<D, J> {
         ensures full { OnErr result (self.old.handed + 1 ≡ 2 ^ 64) }
 
         // Nothing else changes.
-        ensures closing { self.new.closing ≡ self.old.closing }
+        ensures workers { self.new.workers ≡ self.old.workers }
         ensures room { self.new.audited ≡ self.old.audited }
-        ensures halted { (self.new.halted ≡ self.old.halted) × (self.new.refusals ≡ self.old.refusals) }
-        ensures due { (self.new.due ≡ self.old.due) × (self.new.asleep ≡ self.old.asleep) }
+        ensures halted { self.new.halted ≡ self.old.halted }
     {
         match self.handed.checked_add(1) {
             Some(handed) => {
@@ -152,8 +115,8 @@ impl<D: Pmem + Drop, J: Origin> Desk<D, J> {
         ensures halted { IfSome result (λ made. MatchOption made.1 (self.new.halted ≡ self.old.halted) (λ receipt. self.new.halted ≡ halted_after self.old.halted receipt.step receipt.note receipt.place)) }
 
         // No step is made, and nothing changed, exactly if the engine is being closed or there is no room.
-        ensures none { (result ≡ None) ↔ (IsTrue self.old.closing ⊎ (self.old.audited ≡ None)) }
-        ensures same { IfNone result ((self.new.audited ≡ self.old.audited) × (self.new.halted ≡ self.old.halted) × (self.new.refusals ≡ self.old.refusals)) }
+        ensures none { (result ≡ None) ↔ (IsTrue self.old.workers.is_closing ⊎ (self.old.audited ≡ None)) }
+        ensures same { IfNone result ((self.new.audited ≡ self.old.audited) × (self.new.halted ≡ self.old.halted) × (self.new.workers ≡ self.old.workers)) }
 
         // Otherwise the step asked, and no other, was made in the room. It is kept last, with its reply's note, and leads where
         // the reply does. Or, for lack of memory, it was neither kept nor made.
@@ -164,15 +127,13 @@ impl<D: Pmem + Drop, J: Origin> Desk<D, J> {
 
         // How often in a row the committer was refused memory: one more if its step was refused it, none once one is kept, and as
         // before after the collector's.
-        ensures refusals { IfSome result (λ made. self.new.refusals ≡ refusals_after self.old.refusals step.now (is_some made.1)) }
+        ensures refusals { IfSome result (λ made. self.new.workers.refusals ≡ refusals_after self.old.workers.refusals step.now (is_some made.1)) }
 
         // Nothing else changes.
-        ensures closing { self.new.closing ≡ self.old.closing }
+        ensures workers { LeavesWork self.old.workers self.new.workers }
         ensures handed { self.new.handed ≡ self.old.handed }
-        ensures asleep { self.new.asleep ≡ self.old.asleep }
-        ensures due { self.new.due ≡ self.old.due }
     {
-        if self.closing {
+        if self.workers.is_closing {
             return None;
         }
         let Some(audited) = &mut self.audited else {
@@ -183,11 +144,11 @@ impl<D: Pmem + Drop, J: Origin> Desk<D, J> {
             Some(receipt) => {
                 let halted = newer(halting(&receipt), self.halted);
                 self.halted = halted;
-                self.refusals = refusals_after(self.refusals, step, true);
+                count(&mut self.workers, step, true);
                 Some((reply, Some(receipt)))
             }
             None => {
-                self.refusals = refusals_after(self.refusals, step, false);
+                count(&mut self.workers, step, false);
                 Some((reply, None))
             }
         }
@@ -195,17 +156,15 @@ impl<D: Pmem + Drop, J: Origin> Desk<D, J> {
 
     /// Notes the reply to a step, and what it made due.
     pub fn note(&mut self, reply: &Reply)
-        // As for `Due::note`. A fourth of the room's slots is enough for a round, and the state says whether a record is needed.
+        // As for `due::note`. A fourth of the room's slots is enough for a round, and the state says whether a record is needed.
         // If there is no room, what was due stays due.
-        ensures due { MatchOption self.old.audited (self.new.due ≡ self.old.due)
-            (λ audited. (q : State) → Shows D.state audited.room q → self.new.due ≡ due_after self.old.due reply.now (wants_record reply.now q.ruling q.next q.layout.window) (fourth_of q.layout.slots)) }
+        ensures due { MatchOption self.old.audited (self.new.workers.due ≡ self.old.workers.due)
+            (λ audited. (q : State) → Shows D.state audited.room q → self.new.workers.due ≡ due_after self.old.workers.due reply.now (wants_record reply.now q.ruling q.next q.layout.window) (enough_for q.layout.slots)) }
 
         // What else is under the lock stays.
-        ensures asleep { self.new.asleep ≡ self.old.asleep }
+        ensures rest { LeavesRest self.old.workers self.new.workers }
         ensures room { self.new.audited ≡ self.old.audited }
         ensures handed { self.new.handed ≡ self.old.handed }
-        ensures closing { self.new.closing ≡ self.old.closing }
-        ensures refusals { self.new.refusals ≡ self.old.refusals }
         ensures halted { self.new.halted ≡ self.old.halted }
     {
         let Some(audited) = &self.audited else {
@@ -213,62 +172,11 @@ impl<D: Pmem + Drop, J: Origin> Desk<D, J> {
         };
         let geometry = audited.geometry();
         let makes_record_due = makes_record_due(reply, &audited.status(), geometry.window());
-        let quarter = (geometry.slots() / 4).max(1);
-        self.due.note(reply, quarter);
+        let enough = enough_for_round(geometry.slots());
+        note(&mut self.workers.due, reply, enough);
         if makes_record_due {
-            self.due.want_tick();
+            self.workers.due.want_tick();
         }
-    }
-
-    /// Whether a worker has something to do.
-    pub fn is_due(&self, duty: Duty) -> bool
-        ensures commit { (duty ≡ Commit) → result ≡ self.now.due.tick }
-        ensures collect { (duty ≡ Collect) → result ≡ self.now.due.visit }
-    {
-        match duty {
-            Duty::Commit => self.due.has_tick(),
-            Duty::Collect => self.due.has_visit(),
-        }
-    }
-
-    /// Whom to notify of what was noted since the previous call.
-    pub fn take_news(&mut self) -> News
-        ensures news { result ≡ self.old.due.news }
-
-        // All are notified, and what else is under the lock stays.
-        ensures delivered { self.new.due ≡ delivered self.old.due }
-        ensures asleep { self.new.asleep ≡ self.old.asleep }
-        ensures room { self.new.audited ≡ self.old.audited }
-        ensures handed { self.new.handed ≡ self.old.handed }
-        ensures closing { self.new.closing ≡ self.old.closing }
-        ensures refusals { self.new.refusals ≡ self.old.refusals }
-        ensures halted { self.new.halted ≡ self.old.halted }
-    {
-        self.due.take_news()
-    }
-
-    /// Lets the committer try once more before lack of memory ends the wait that begins now.
-    pub fn allow_a_try(&mut self)
-        ensures refusals { self.new.refusals ≡ min self.old.refusals 100 }
-        ensures rest { (self.new.handed ≡ self.old.handed) × (self.new.closing ≡ self.old.closing) × (self.new.asleep ≡ self.old.asleep) }
-        ensures room { self.new.audited ≡ self.old.audited }
-        ensures halted { self.new.halted ≡ self.old.halted }
-        ensures due { self.new.due ≡ self.old.due }
-    {
-        self.refusals = self.refusals.min(REFUSALS);
-    }
-
-    /// Whether a worker that was refused memory this often in a row is to sleep. Of the committer it is counted here, since a wait
-    /// that began meanwhile lets it try once more.
-    pub fn sleeps(&self, duty: Duty, refusals: u64) -> bool
-        ensures commit { (duty ≡ Commit) → result ≡ sleeps self.now.closing self.now.refusals }
-        ensures collect { (duty ≡ Collect) → result ≡ sleeps self.now.closing refusals }
-    {
-        let counted = match duty {
-            Duty::Commit => self.refusals,
-            Duty::Collect => refusals,
-        };
-        !self.closing && REFUSALS < counted
     }
 
     /// The tick that ended the committer, if it has ended.
@@ -283,12 +191,12 @@ impl<D: Pmem + Drop, J: Origin> Desk<D, J> {
     pub fn why_not(&self) -> Option<Why>
         // Of what is under the lock: the tick with which the committer was refused, and otherwise lack of memory after more than
         // a hundred refusals in a row.
-        ensures why { result ≡ why_not self.now.halted self.now.refusals }
+        ensures why { result ≡ why_not self.now.halted self.now.workers.refusals }
         ensures from { IfSome result (IsWhy J.image) }
     {
         match self.halted {
             Some(halt) => Some(Why::Halted(halt)),
-            None => if REFUSALS < self.refusals {
+            None => if lacks_memory(self.workers.refusals) {
                 Some(Why::Memory)
             } else {
                 None
@@ -302,7 +210,7 @@ impl<D: Pmem + Drop, J: Origin> Desk<D, J> {
         // A wait for a timestamp lasts exactly until it is persisted and not long, or nothing will be covered, or the device has
         // failed. If it isn't covered, the reason is as for `why_not`.
         ensures over { MatchOption self.now.audited (result ≡ None)
-            (λ audited. (q : State) → Shows D.state audited.room q → result ≡ waited (is_covered q.ruling timestamp) (why_not self.now.halted self.now.refusals) (has_failed audited.entries.items)) }
+            (λ audited. (q : State) → Shows D.state audited.room q → result ≡ waited (is_covered q.ruling timestamp) (why_not self.now.halted self.now.workers.refusals) (has_failed audited.entries.items)) }
         ensures from { IfSome result (λ over. IfErr over (IsWhy J.image)) }
     {
         let Some(audited) = &self.audited else {
@@ -324,7 +232,7 @@ impl<D: Pmem + Drop, J: Origin> Desk<D, J> {
 ghost use Rattle.std.specs.Prelude.{◌≡◌, IfSome};
 ghost use Rattle.base.specs.declared.step.Step.TheVariants.{Commit};
 ghost use Rattle.base.specs.declared.step.Note.TheVariants.{Refused};
-ghost use Rattle.engine.specs.Due.{wants_record_of};
+ghost use Rattle.roles.specs.Dues.{LeavesWork};
 ghost use Rattle.engine.specs.Lending.{first_of, has_failed, is_covered_in, halting, refusals_after};
 
 // Whether the record covers the timestamp, if that was drawn since the room was opened.
@@ -368,26 +276,17 @@ fn newer(found: Option<Halt>, before: Option<Halt>) -> Option<Halt>
     }
 }
 
-// How often in a row the committer was refused memory, after a step that was kept or wasn't.
-fn refusals_after(refusals: u64, step: &Step, kept: bool) -> u64
-    ensures { result ≡ refusals_after refusals step.now kept }
+// Counts how often in a row the committer was refused memory, after a step that was kept or wasn't.
+fn count(workers: &mut Workers, step: &Step, kept: bool)
+    ensures refusals { workers.new.refusals ≡ refusals_after workers.old.refusals step.now kept }
+    ensures rest { LeavesWork workers.old workers.new }
 {
     match step {
-        Step::Commit => if kept { 0 } else { refusals.saturating_add(1) },
-        _ => refusals,
-    }
-}
-
-// Whether a record is due after the step though it stamped nothing: few timestamps are left, or swept gaps are to be dropped.
-fn makes_record_due(reply: &Reply, status: &Status, window: u64) -> bool
-    ensures { result ≡ wants_record_of reply.now status.now.dirty status.now.gaps status.now.next window }
-{
-    match reply {
-        Reply::Drawn(_) => {
-            let left = status.dirty.saturating_sub(status.next);
-            left.saturating_mul(2) < window
-        }
-        Reply::SweepEnd => !status.gaps.as_slice().is_empty(),
-        _ => false,
+        Step::Commit => if kept {
+            workers.calm();
+        } else {
+            workers.refuse();
+        },
+        _ => {}
     }
 }

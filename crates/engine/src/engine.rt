@@ -2,7 +2,6 @@
 //! So a start that fails can return the room as it was.
 
 use crate::closing::{may_close, take_room};
-use crate::desk::Duty;
 use crate::gate::Gate;
 use crate::keeping::Board;
 use crate::opening::board_of;
@@ -15,6 +14,7 @@ use base::fault::Fault;
 use base::step::Note;
 use board::{History, Reader, Token};
 use pmem::Pmem;
+use roles::Duty;
 use room::Status;
 use std::alloc::Global;
 use std::sync::{Arc, Mutex, Wait};
@@ -98,7 +98,7 @@ impl<
         let collector = match spawn_worker(rt, &shared, Duty::Collect, Note::SweepEnd, collector) {
             Ok(collector) => collector,
             Err(fault) => {
-                desk.closing = true;
+                desk.workers.close();
                 drop(desk);
                 committer.join(rt);
                 return Err((fault, audited));

@@ -2,7 +2,6 @@
 //! the committer tries again before its next tick. In between the lock is free, so what waits on the board is known by what was
 //! announced there.
 
-use crate::desk::Duty;
 use crate::keeping::Board;
 use crate::origin::Origin;
 use crate::shared::Shared;
@@ -10,6 +9,7 @@ use base::batch::Batch;
 use base::fault::Fault;
 use board::{Naming, Token};
 use pmem::Pmem;
+use roles::Duty;
 use std::alloc::Global;
 use std::sync::{Arc, Wait};
 

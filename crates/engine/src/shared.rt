@@ -1,12 +1,13 @@
 //! A thread asks under the lock before it sleeps, and what it asks for is changed only under the lock. So no call to wake is
 //! missed. The board has a lock of its own, since its writer waits for readers, and no session is to wait for those.
 
-use crate::desk::{Desk, Duty};
+use crate::desk::Desk;
 use crate::halt::{Halt, Why};
 use crate::origin::Origin;
 use base::Ts;
 use base::step::Reply;
 use pmem::Pmem;
+use roles::Duty;
 use std::sync::{Condvar, Mutex, MutexGuard, Wait};
 use std::thread;
 
@@ -30,7 +31,8 @@ impl<D: Pmem + Drop, J: Origin, B: Drop> Shared<D, J, B> {
     ghost use Rattle.std.specs.Sync.Mutex.{mutex_guard_value};
     ghost use Rattle.machine.specs.Machine.{State};
     ghost use Rattle.room.specs.Room.{Shows};
-    ghost use Rattle.engine.specs.Due.{delivered, due_after, fourth_of, wants_record};
+    ghost use Rattle.roles.specs.Dues.{LeavesRest, enough_for};
+    ghost use Rattle.engine.specs.Due.{delivered, due_after, wants_record};
     ghost use Rattle.engine.specs.Lending.{HasMade};
     ghost use Rattle.engine.specs.Origins.{HasHalted, IsWhy};
 
@@ -64,8 +66,7 @@ impl<D: Pmem + Drop, J: Origin, B: Drop> Shared<D, J, B> {
     // Takes the lock for a session, and wakes the workers that sleep.
     fn desk<R: Wait>(&self, rt: &R) -> MutexGuard<'_, Desk<D, J>> {
         let mut desk = self.desk.lock(rt);
-        if desk.asleep {
-            desk.asleep = false;
+        if desk.workers.wake() {
             self.woken.notify_all();
         }
         desk
@@ -78,7 +79,7 @@ impl<D: Pmem + Drop, J: Origin, B: Drop> Shared<D, J, B> {
         ensures { IfErr result (IsWhy J.image) }
     {
         let mut desk = self.desk(rt);
-        desk.allow_a_try();
+        desk.workers.allow_a_try();
         for _ in rt.forever() {
             if let Some(over) = desk.waited(timestamp) {
                 return over;
@@ -103,10 +104,10 @@ impl<D: Pmem + Drop, J: Origin, B: Drop> Shared<D, J, B> {
     pub fn wait_for_turn<R: Wait>(&self, rt: &R, duty: Duty) -> bool {
         let mut desk = self.desk.lock(rt);
         for _ in rt.forever() {
-            if desk.closing || desk.audited.is_none() {
+            if desk.workers.is_closing || desk.audited.is_none() {
                 return false;
             }
-            if desk.is_due(duty) {
+            if desk.workers.is_due(duty) {
                 return true;
             }
             desk = match duty {
@@ -120,19 +121,17 @@ impl<D: Pmem + Drop, J: Origin, B: Drop> Shared<D, J, B> {
     /// Notes the reply to a step, and wakes the threads that have to know.
     pub fn notify(&self, desk: &mut Desk<D, J>, reply: &Reply)
         // As for `Desk::note`, and all who have to know are notified.
-        ensures due { MatchOption desk.old.audited (desk.new.due ≡ delivered desk.old.due)
-            (λ audited. (q : State) → Shows D.state audited.room q → desk.new.due ≡ delivered (due_after desk.old.due reply.now (wants_record reply.now q.ruling q.next q.layout.window) (fourth_of q.layout.slots))) }
+        ensures due { MatchOption desk.old.audited (desk.new.workers.due ≡ delivered desk.old.workers.due)
+            (λ audited. (q : State) → Shows D.state audited.room q → desk.new.workers.due ≡ delivered (due_after desk.old.workers.due reply.now (wants_record reply.now q.ruling q.next q.layout.window) (enough_for q.layout.slots))) }
 
         // What else is under the lock stays.
-        ensures asleep { desk.new.asleep ≡ desk.old.asleep }
+        ensures rest { LeavesRest desk.old.workers desk.new.workers }
         ensures room { desk.new.audited ≡ desk.old.audited }
         ensures handed { desk.new.handed ≡ desk.old.handed }
-        ensures closing { desk.new.closing ≡ desk.old.closing }
-        ensures refusals { desk.new.refusals ≡ desk.old.refusals }
         ensures halted { desk.new.halted ≡ desk.old.halted }
     {
         desk.note(reply);
-        let news = desk.take_news();
+        let news = desk.workers.due.take_news();
         if news.committer {
             self.ticks.notify_all();
         }
@@ -147,26 +146,26 @@ impl<D: Pmem + Drop, J: Origin, B: Drop> Shared<D, J, B> {
     /// Whether the engine is being closed.
     pub fn is_closing<R: Wait>(&self, rt: &R) -> bool {
         let desk = self.desk.lock(rt);
-        desk.closing || desk.audited.is_none()
+        desk.workers.is_closing || desk.audited.is_none()
     }
 
     /// Lets a worker rest that was refused memory this often in a row. It yields, and after too many refusals it sleeps until a
     /// session takes the lock or the engine is being closed.
     pub fn rest<R: Wait>(&self, rt: &R, duty: Duty, refusals: u64) {
         let mut desk = self.desk.lock(rt);
-        if !desk.sleeps(duty, refusals) {
+        if !desk.workers.rests(duty, refusals) {
             drop(desk);
             thread::yield_now();
             return;
         }
-        desk.asleep = true;
+        desk.workers.fall_asleep();
         drop(self.woken.wait(rt, desk));
     }
 
     /// Counts that the committer was refused memory for what it covered. Too many of these end a wait.
     pub fn count_refusal<R: Wait>(&self, rt: &R) {
         let mut desk = self.desk.lock(rt);
-        desk.refusals = desk.refusals.saturating_add(1);
+        desk.workers.refuse();
         self.moved.notify_all();
     }
 

@@ -1,7 +1,6 @@
 //! A worker makes one step each time that it takes the lock, so sessions make steps between any two operations of a cycle. What
 //! a tick covers is published before the next tick, so batches come to the board in their order.
 
-use crate::desk::Duty;
 use crate::gate::{Gate, Go};
 use crate::keeping::Board;
 use crate::origin::Origin;
@@ -12,6 +11,7 @@ use base::fault::Fault;
 use base::step::{Note, Reply, Step};
 use board::{Naming, Token};
 use pmem::Pmem;
+use roles::Duty;
 use std::alloc::Global;
 use std::sync::{Arc, Wait};
 use std::thread;
@@ -38,6 +38,8 @@ pub struct Turn<J: Naming> {
 ghost use Rattle.std.specs.Prelude.{◌≡◌, ◌⊎◌, IfSome, IfOk, IfErr, MatchResult};
 ghost use Rattle.std.specs.Option.{ForSome};
 ghost use Rattle.base.specs.declared.fault.Fault.TheVariants.{OutOfMemory, NoThread};
+ghost use Rattle.base.specs.declared.step.Step.TheVariants.{Commit, Collect};
+ghost use Rattle.roles.specs.declared.workers.Duty.TheVariants.{Commit as OfCommitter, Collect as OfCollector};
 ghost use Rattle.base.specs.Replies.{note_of};
 ghost use Rattle.engine.specs.Posting.{IsPosted, IsTurn, IsTurnOf, Misses};
 
@@ -87,7 +89,7 @@ fn work<R: Wait + Drop, D: Pmem + Drop, J: Origin, G: Gate>(
         if matches!(gate.pass(&last), Go::Stop) {
             break;
         }
-        match take_turn(rt, shared, &duty.step()) {
+        match take_turn(rt, shared, &step_of(duty)) {
             Ok(made) => {
                 last = made.note;
                 refusals = 0;
@@ -103,6 +105,17 @@ fn work<R: Wait + Drop, D: Pmem + Drop, J: Origin, G: Gate>(
         }
     }
     gate
+}
+
+// The step that a worker makes.
+fn step_of(duty: Duty) -> Step
+    ensures commit { (duty ≡ OfCommitter) → result ≡ Commit }
+    ensures collect { (duty ≡ OfCollector) → result ≡ Collect }
+{
+    match duty {
+        Duty::Commit => Step::Commit,
+        Duty::Collect => Step::Collect,
+    }
 }
 
 // A tick. What it covered is published then.

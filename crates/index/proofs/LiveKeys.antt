@@ -1,24 +1,21 @@
 -- The keys of entries that have a covered row, each once.
-use Rattle.std.proofs.Common.{◌≡◌, ℕ, suc, Bool, true, false, cond, ◌||◌, List, [], ◌∷◌, map, length, refl, sym, ◌∙◌, ap, arith, is_some}
-use Rattle.std.specs.Prelude.{Some, unwrap_or, slice_get, filter, count_by}
+use Rattle.std.proofs.Common.{◌≡◌, ℕ, suc, ◌+◌, ◌-◌, ◌<◌, ◌≤◌, Bool, true, false, cond, ◌||◌, List, [], ◌∷◌, ◌++◌, map, length, get_or, set, refl, sym, ◌∙◌, ap, subst, arith, is_some}
+use Rattle.std.specs.Prelude.{Some, unwrap_or, slice_get, filter, swap_remove}
 use Rattle.std.specs.List.{IsDistinct, AllByRecursion, list_any}
 use Rattle.std.specs.Cmp.{IsEquivalence}
+use Rattle.std.proofs.lemmas.Option.{slice_get_within, get_or_from_slice_get}
 use Rattle.std.proofs.lemmas.List.{length-map}
-use Rattle.std.proofs.lemmas.List.Sums.{length-filter}
+use Rattle.std.proofs.lemmas.List.Sums.{length-filter, sum_by-set, sum_by_push, sum_by-swap_remove, get_or-le-sum_by}
 use Rattle.std.proofs.lemmas.Map.Made.{length-from_same_keys}
 use Rattle.base.specs.declared.key.Key.{Key}
 use Rattle.base.specs.Keys.{key_eq, lookup_key}
 use Rattle.base.proofs.Keys.{key_eq-true, key_eq-same, key_eq-swap}
 use Rattle.index.specs.declared.entry.Entry.{Entry}
 use Rattle.index.specs.Entries.{blank, entry_at, live_of, ArePlaced}
-use Rattle.index.specs.Counting.{AreLive}
+use Rattle.index.specs.Counting.{AreLive, is_live, live_number}
 
 abbrev Entries : Type 0
 Entries = List (Key × Entry)
-
--- it has a covered row
-abbrev pub is_live : Key × Entry → Bool
-is_live e = is_some (live_of e.1)
 
 abbrev keys_of : Entries → List Key
 keys_of entries = map (λ (e : Key × Entry). e.0) entries
@@ -90,9 +87,49 @@ live-members (e ∷ entries) apart key = by (live-members entries apart.1 key) (
     by rest false live false same = rest
 
 -- their number is the length of any list that has each of their keys once
-pub live-counted : (places : List (Key × ℕ)) (entries : Entries) → ArePlaced places entries → (keys : List Key) → AreLive keys entries → count_by is_live entries ≡ length keys
+pub live-counted : (places : List (Key × ℕ)) (entries : Entries) → ArePlaced places entries → (keys : List Key) → AreLive keys entries → live_number entries ≡ length keys
 live-counted places entries placed keys live =
     let apart : IsDistinct key_eq (keys_of entries) = distinct entries (once-placed places entries placed) in
     sym (length-filter is_live entries)
     ∙ sym (length-map (filter is_live entries) (λ (e : Key × Entry). e.0))
     ∙ sym (length-from_same_keys laws keys (keys_of (filter is_live entries)) live.once (live-distinct entries apart) (λ key. live.same key ∙ sym (live-members entries apart key)))
+
+-- ---- their number once the entries are changed
+
+abbrev one-if : Bool → ℕ
+one-if b = cond b 1 0
+
+-- one entry becomes another
+live-set : (entries : Entries) (place : ℕ) (x y : Key × Entry) → slice_get entries place ≡ Some x → live_number (set entries place y) + one-if (is_live x) ≡ live_number entries + one-if (is_live y)
+live-set entries place x y at =
+    ap (λ (e : Key × Entry). live_number (set entries place y) + one-if (is_live e)) (sym (get_or_from_slice_get entries place x y at))
+    ∙ sum_by-set (λ (e : Key × Entry). one-if (is_live e)) entries place y y (slice_get_within entries place x at)
+
+-- each of them counts
+live-some : (entries : Entries) (place : ℕ) (x : Key × Entry) → place < length entries → x ≡ get_or entries place x → one-if (is_live x) ≤ live_number entries
+live-some entries place x lt read = subst (λ (e : Key × Entry). one-if (is_live e) ≤ live_number entries) (sym read) (get_or-le-sum_by (λ (e : Key × Entry). one-if (is_live e)) entries place x lt)
+
+-- what it is then, if one that is live or not becomes one that is so or not
+pub live-changed : (live before after : ℕ) (entries : Entries) (place : ℕ) (x y : Key × Entry) → live ≡ live_number entries → slice_get entries place ≡ Some x → before ≡ one-if (is_live x) → after ≡ one-if (is_live y)
+    → (before ≤ live) × (live - before + after ≡ live_number (set entries place y))
+live-changed live before after entries place x y is at was will =
+    let some = live-some entries place x (slice_get_within entries place x at) (sym (get_or_from_slice_get entries place x x at)) in
+    let sets = live-set entries place x y at in
+    (omega (arith, is, was, some), omega (arith, is, was, will, some, sets))
+
+pub live-same : (live : ℕ) (entries : Entries) (place : ℕ) (x y : Key × Entry) → live ≡ live_number entries → slice_get entries place ≡ Some x → is_live x ≡ is_live y → live ≡ live_number (set entries place y)
+live-same live entries place x y is at same = omega (arith, is, live-set entries place x y at, ap (λ (b : Bool). one-if b) same)
+
+-- if a blank one comes behind them
+pub live-blank : (live : ℕ) (entries more : Entries) (key : Key) (entry : Entry) → live ≡ live_number entries → entry ≡ blank → more ≡ entries ++ (key, entry) ∷ [] → live ≡ live_number more
+live-blank live entries more key entry is none added =
+    let none' : one-if (is_live (key, entry)) ≡ 0 = ap (λ (e : Entry). one-if (is_some (live_of e))) none in
+    omega (arith, is, ap live_number added, sum_by_push (λ (e : Key × Entry). one-if (is_live e)) entries (key, entry), none')
+
+-- if one is taken out
+pub live-less : (live gone : ℕ) (entries left : Entries) (place : ℕ) (x : Key × Entry) → live ≡ live_number entries → place < length entries → x ≡ get_or entries place x → left ≡ swap_remove entries place x → gone ≡ one-if (is_live x)
+    → (gone ≤ live) × (live - gone ≡ live_number left)
+live-less live gone entries left place x is lt read out was =
+    let some = live-some entries place x lt read in
+    let sum = (λ i. live_number (out i) + one-if (is_live (read i))) ∙ sum_by-swap_remove (λ (e : Key × Entry). one-if (is_live e)) entries place x lt in
+    (omega (arith, is, was, some), omega (arith, is, was, some, sum))

@@ -16,7 +16,7 @@ pub struct Entry {
 }
 
 impl Entry {
-    ghost use Rattle.std.specs.Prelude.{◌≡◌};
+    ghost use Rattle.std.specs.Prelude.{◌≡◌, is_some, if◌then◌else◌};
     ghost use Rattle.index.specs.Entries.{blank, live_of, head_of};
 
     // The entry of a key without versions.
@@ -36,6 +36,14 @@ impl Entry {
         ensures { result ≡ live_of self.now }
     {
         if self.ended { None } else { self.newest }
+    }
+
+    // How many covered rows its key has.
+    #[inline(always)]
+    pub(crate) fn live_number(&self) -> usize
+        ensures { result ≡ (if is_some (live_of self.now) then 1 else 0) }
+    {
+        if self.live().is_some() { 1 } else { 0 }
     }
 
     // The newest version with a row.

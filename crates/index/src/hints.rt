@@ -37,16 +37,10 @@ pub(crate) fn note(hints: &mut [u32], key: Key, place: usize) {
     }
 }
 
-/// Hints of where these entries are, half as many again as there may be keys.
-pub(crate) fn hints_of(
-    alloc: Global,
-    keys: usize,
-    entries: &[KeyedEntry],
-) -> Result<Vec<u32>, AllocError> {
+/// Hints that nothing is noted in, half as many again as there may be keys.
+pub(crate) fn blank_hints(alloc: Global, keys: usize) -> Result<Vec<u32>, AllocError> {
     let count = keys.saturating_add(keys / 2).saturating_add(FEWEST);
-    let mut hints = vec![in alloc; 0; count]?;
-    note_all(hints.as_mut_slice(), entries);
-    Ok(hints)
+    vec![in alloc; 0; count]
 }
 
 // The entry of each key is at its place.

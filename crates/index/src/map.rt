@@ -1,5 +1,5 @@
 use crate::entry::{Entry, KeyedEntry};
-use crate::hints::{hint_for, hints_of, note, widen};
+use crate::hints::{blank_hints, hint_for, note, widen};
 use base::fault::Fault;
 use base::key::Key;
 use base::{SlotNo, Ts};
@@ -19,16 +19,22 @@ pub struct Known {
 pub struct HintedEntries {
     entries: Vec<KeyedEntry>,
     hints: Vec<u32>,
+    // How many of the keys have a covered row.
+    live: usize,
 }
 
 impl Model for HintedEntries {
-    ghost use Rattle.std.specs.Prelude.{List};
+    ghost use Rattle.std.specs.Prelude.{◌≡◌, List};
     ghost use Rattle.base.specs.declared.key.Key.{Key};
     ghost use Rattle.index.specs.declared.entry.Entry.{Entry};
 
     ghost Value = { List (Key × Entry) };
 
+    ghost use Rattle.index.specs.Counting.{live_number};
+
     ghost view = { λ h. h.entries.items };
+
+    ghost invariant = { λ h. h.live ≡ live_number h.entries.items };
 }
 
 impl HintedEntries {
@@ -43,8 +49,18 @@ impl HintedEntries {
     ) -> Result<HintedEntries, AllocError>
         ensures { IfOk result (λ listed. listed ≡ entries.items) }
     {
-        let hints = hints_of(alloc, keys, entries.as_slice())?;
-        Ok(HintedEntries { entries, hints })
+        let mut hints = blank_hints(alloc, keys)?;
+        let mut live = 0;
+        for place in 0..entries.len() {
+            let found = &entries[place];
+            note(hints.as_mut_slice(), found.key(), place);
+            live += found.entry().live_number();
+        }
+        Ok(HintedEntries {
+            entries,
+            hints,
+            live,
+        })
     }
 }
 
@@ -57,20 +73,23 @@ pub struct Index {
     pub(crate) places: BTreeMap<Key, u32, Global>,
     // Places at which entries may be: tried first, with a search if the entry isn't there.
     hints: Vec<u32>,
+    // How many of the keys have a covered row.
+    pub(crate) live: usize,
 }
 
 impl Model for Index {
-    ghost use Rattle.std.specs.Prelude.{List};
+    ghost use Rattle.std.specs.Prelude.{◌≡◌, List};
     ghost use Rattle.base.specs.declared.key.Key.{Key};
     ghost use Rattle.index.specs.declared.entry.Entry.{Entry};
 
     ghost Value = { List (Key × Entry) };
 
     ghost use Rattle.index.specs.Entries.{ArePlaced};
+    ghost use Rattle.index.specs.Counting.{live_number};
 
     ghost view = { λ i. i.entries.items };
 
-    ghost invariant = { λ i. ArePlaced i.places.entries i.entries.items };
+    ghost invariant = { λ i. ArePlaced i.places.entries i.entries.items × (i.live ≡ live_number i.entries.items) };
 }
 
 impl Index {
@@ -88,6 +107,7 @@ impl Index {
             entries: Vec::new(alloc),
             places: BTreeMap::new(alloc),
             hints: Vec::new(alloc),
+            live: 0,
         }
     }
 
@@ -96,11 +116,16 @@ impl Index {
         requires { ArePlaced places.entries listed }
         ensures { result ≡ listed }
     {
-        let HintedEntries { entries, hints } = listed;
+        let HintedEntries {
+            entries,
+            hints,
+            live,
+        } = listed;
         Index {
             entries,
             places,
             hints,
+            live,
         }
     }
 
@@ -224,6 +249,8 @@ impl Index {
         ensures room { KeepsRoom self.old self.new }
         ensures place { IsAt self.new place key }
     {
+        let before = self.entry_in(place, key).live_number();
+        self.live = self.live - before + entry.live_number();
         self.entries[place] = KeyedEntry::new(key, entry);
     }
 
@@ -237,10 +264,10 @@ impl Index {
         self.entries[place].draw(slot, ts);
     }
 
-    // Adds this entry for a key that has none.
-    fn add(&mut self, key: Key, entry: Entry) -> Result<(), Fault>
+    // Adds a blank entry for a key that has none.
+    fn add(&mut self, key: Key) -> Result<(), Fault>
         requires { has_room self.old key ≡ false }
-        ensures sets { OnOk result (Sets self.old self.new key entry) }
+        ensures sets { OnOk result (Sets self.old self.new key blank) }
         ensures room { OnOk result (GainsRoom self.old self.new key) }
         ensures fault { IfErr result (λ fault. fault ≡ OutOfMemory) }
         ensures err { OnErr result (self.new ≡ self.old) }
@@ -258,7 +285,8 @@ impl Index {
         let Ok(_) = self.places.insert(key, small) else {
             return Err(Fault::OutOfMemory);
         };
-        self.entries.push_reserved(KeyedEntry::new(key, entry));
+        self.entries
+            .push_reserved(KeyedEntry::new(key, Entry::blank()));
         note(self.hints.as_mut_slice(), key, place);
         Ok(())
     }
@@ -278,7 +306,7 @@ impl Index {
                 Ok(()) => Ok(()),
                 Err(fault) => Err(fault),
             },
-            None => self.add(key, Entry::blank()),
+            None => self.add(key),
         }
     }
 
@@ -421,7 +449,8 @@ impl Index {
         let last = self.entries.len() - 1;
         let moved = self.entries[last].key();
         give_place(&mut self.places, key, moved);
-        self.entries.swap_remove(place);
+        let removed = self.entries.swap_remove(place);
+        self.live -= removed.entry().live_number();
         note(self.hints.as_mut_slice(), moved, place);
     }
 }

@@ -1,23 +1,21 @@
 -- What has to be so before `committed` is printed.
 use Rattle.std.specs.Prelude.{◌≡◌, ◌∷◌, [], ℕ, ⊤, Option, Some, None, Result, Ok, Err}
 use Rattle.database.specs.Committing.{ReportsCommit, ReportsWritten}
-use Rattle.database.specs.declared.error.CommitError.{CommitError}
-use Rattle.database.specs.declared.error.CommitError.TheVariants.{Open, Refused}
+use Rattle.base.specs.declared.fault.Fault.{Fault}
 use Rattle.kv.specs.declared.command.Request.{Request}
 use Rattle.kv.specs.declared.command.Request.TheVariants.{Put, Delete, Commit}
-use Rattle.kv.specs.declared.refusal.Stop.TheVariants.{InCommit}
+use Rattle.kv.specs.declared.failure.Failure.{Failure}
+use Rattle.kv.specs.declared.failure.Failure.TheVariants.{InCommit}
 use Rattle.kv.specs.declared.session.Answer.{Answer}
 use Rattle.kv.specs.declared.session.Answer.TheVariants.{Committed, Done}
-use Rattle.kv.specs.declared.session.Failed.{Failed}
-use Rattle.kv.specs.declared.session.Failed.TheVariants.{Stopped}
+use Rattle.store.specs.declared.error.StoreError.{StoreError}
 
--- How what a commit returned is passed on: `committed` with its timestamp, `done` if nothing was written, and that it isn't known exactly if
--- the commit said so
-abbrev pub PassesOn : Result (Option ℕ) CommitError → Result Answer Failed → Type 0
+-- How what a commit returned is passed on: `committed` with its timestamp, `done` if nothing was written, and otherwise a failure, which says
+-- that it isn't known whether the commit is kept if the commit said so
+abbrev pub PassesOn : Result (Option ℕ) StoreError → Result Answer Failure → Type 0
 PassesOn (Ok (Some t)) result = result ≡ Ok (Committed t)
 PassesOn (Ok None) result = result ≡ Ok Done
-PassesOn (Err (Open _)) result = result ≡ Err (Stopped InCommit)
-PassesOn (Err (Refused _)) result = (failed : Failed) × (result ≡ Err failed)
+PassesOn (Err error) result = (failure : Failure) × (result ≡ Err failure) × ((fault : Fault) → error ≡ StoreError.Unknown fault → failure ≡ InCommit)
 
 -- `committed` and `done` are only for a commit that returned so
 abbrev pub IsEarnedBy : (Option ℕ → Type 0) → Answer → Type 0

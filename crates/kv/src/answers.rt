@@ -1,15 +1,15 @@
 ghost use Rattle.kv.specs.Earned.{Commits, IsEarnedBy};
 ghost use Rattle.kv.specs.declared.command.Request.{Request};
 
+use crate::failure::Failure;
 use crate::help::{LARGER, ROWS, TOPICS, Topic, Word};
-use crate::refusal::Sentence;
 use crate::rows::Shown;
 use crate::session::Answer;
-use crate::statistics::Statistics;
 use base::row::Row;
 use std::alloc::Global;
 use std::io;
 use std::io::Write;
+use store::Status;
 
 // The most answers of one short line that are held.
 const MOST_HELD: usize = 16;
@@ -122,14 +122,14 @@ impl<'a, R: Print> Printer<'a, R> {
             Answer::Row(Some(row)) => println!(self.rt; "row {}", self.shown(row)),
             Answer::Row(None) => println!(self.rt; "none"),
             Answer::Count(count) => println!(self.rt; "count {count}"),
-            Answer::Status(statistics) => self.print_status(statistics),
+            Answer::Status(status) => self.print_status(status),
             _ => Ok(()),
         }
     }
 
-    fn print_status(&self, statistics: &Statistics) -> io::Result<()> {
-        println!(self.rt; "{statistics}")?;
-        self.end_list(Statistics::LINES)
+    fn print_status(&self, status: &Status) -> io::Result<()> {
+        println!(self.rt; "{status}")?;
+        self.end_list(Status::LINES)
     }
 
     // Prints the end of a list of this many lines, unless a person reads it and sees its end.
@@ -142,12 +142,12 @@ impl<'a, R: Print> Printer<'a, R> {
     }
 
     /// Prints that a line is refused, if a program reads what is printed. What is held is printed first.
-    pub fn refuse(&mut self, name: &str, sentence: &Sentence<'_>) -> io::Result<()> {
+    pub fn refuse(&mut self, failure: &Failure) -> io::Result<()> {
         self.flush()?;
         if self.manner.is_table {
             Ok(())
         } else {
-            println!(self.rt; "refused {name} {sentence}")
+            println!(self.rt; "refused {} {failure}", failure.name())
         }
     }
 

@@ -1,4 +1,4 @@
-use crate::refusal::Refusal;
+use crate::failure::Failure;
 use std::alloc::Global;
 use std::io::{BufRead, BufReader, Read};
 use std::{io, str};
@@ -75,12 +75,12 @@ fn decoded(bytes: &[u8]) -> Line<'_> {
 }
 
 /// The text of a line.
-pub fn text_of(line: Line<'_>) -> Result<&str, Refusal> {
+pub fn text_of(line: Line<'_>) -> Result<&str, Failure> {
     match line {
         Line::Text(text) => Ok(text),
-        Line::NotText(_) => Err(Refusal::NotText),
-        Line::TooLong(_) => Err(Refusal::LineTooLong(MOST_BYTES)),
-        Line::Cut => Err(Refusal::Cut),
+        Line::NotText(_) => Err(Failure::NotText),
+        Line::TooLong(_) => Err(Failure::LineTooLong(MOST_BYTES)),
+        Line::Cut => Err(Failure::Cut),
     }
 }
 

@@ -1,20 +1,19 @@
+use crate::failure::Failure;
 use crate::help::{Word, find_word};
 use crate::input::{Line, Lines, text_of};
 use crate::numbers::parse_number;
 use crate::progress::Progress;
-use crate::refusal::{Refusal, Stop};
-use crate::session::{Failed, commit};
+use crate::session::commit;
 use crate::words::{parse_key_and_row, split_line};
 use anyhow::anyhow;
 use base::fault::Fault;
 use base::key::Key;
 use base::row::Row;
-use database::{Database, Transaction};
 use std::alloc::Global;
 use std::io::BufRead;
 use std::rt::Clock;
 use std::sync::Wait;
-use store::Device;
+use store::{Store, Transaction};
 
 /// The most puts in a transaction.
 pub const MOST_PUTS: u64 = 32;
@@ -23,9 +22,9 @@ pub const MOST_PUTS: u64 = 32;
 #[derive(Drop)]
 pub struct Loader<'a, R: Eprint + Clock + Wait + Drop> {
     alloc: Global,
-    database: &'a Database<Device, R>,
+    store: &'a Store<R>,
     progress: Progress<'a, R>,
-    open: Option<Transaction<'a, Device, R>>,
+    open: Option<Transaction<'a, R>>,
     // A begin was read, but not its commit yet.
     is_begun: bool,
     // How many rows the transaction has.
@@ -37,14 +36,10 @@ pub struct Loader<'a, R: Eprint + Clock + Wait + Drop> {
 }
 
 impl<'a, R: Eprint + Clock + Wait + Drop> Loader<'a, R> {
-    pub fn new(
-        alloc: Global,
-        database: &'a Database<Device, R>,
-        progress: Progress<'a, R>,
-    ) -> Loader<'a, R> {
+    pub fn new(alloc: Global, store: &'a Store<R>, progress: Progress<'a, R>) -> Loader<'a, R> {
         Loader {
             alloc,
-            database,
+            store,
             progress,
             open: None,
             is_begun: false,
@@ -61,34 +56,34 @@ impl<'a, R: Eprint + Clock + Wait + Drop> Loader<'a, R> {
     }
 
     /// Puts the rows of the lines up to the end, or up to a line that is refused.
-    pub fn load<I: BufRead + Drop>(&mut self, lines: &mut Lines<I>) -> Result<(), Failed> {
+    pub fn load<I: BufRead + Drop>(&mut self, lines: &mut Lines<I>) -> Result<(), Failure> {
         for _ in 0..u64::MAX {
-            let Some(line) = lines.next_line().map_err(Stop::Input)? else {
+            let Some(line) = lines.next_line().map_err(Failure::Input)? else {
                 break;
             };
             let part = part_of(self.alloc, line)?;
             self.take(part)?;
         }
         if self.is_begun {
-            return Err(Failed::Refused(Refusal::Unfinished));
+            return Err(Failure::Unfinished);
         }
         self.keep()
     }
 
-    fn take(&mut self, part: Part) -> Result<(), Failed> {
+    fn take(&mut self, part: Part) -> Result<(), Failure> {
         match part {
             Part::Row(key, row) => self.put(key, row),
             Part::Begin => self.begin(),
             Part::Commit => self.commit(),
-            Part::End(rows) => Ok(self.end_list(rows)?),
+            Part::End(rows) => self.end_list(rows),
             Part::Other => Ok(()),
         }
     }
 
-    fn put(&mut self, key: Key, row: Row) -> Result<(), Failed> {
+    fn put(&mut self, key: Key, row: Row) -> Result<(), Failure> {
         let mut transaction = match self.open.take() {
             Some(transaction) => transaction,
-            None => self.database.begin()?,
+            None => self.store.begin()?,
         };
         transaction.put(key, row)?;
         self.open = Some(transaction);
@@ -101,7 +96,7 @@ impl<'a, R: Eprint + Clock + Wait + Drop> Loader<'a, R> {
     }
 
     // From here on only the commit keeps what is put.
-    fn begin(&mut self) -> Result<(), Failed> {
+    fn begin(&mut self) -> Result<(), Failure> {
         if self.is_begun {
             return Err(refused("load: begin within begin"));
         }
@@ -110,7 +105,7 @@ impl<'a, R: Eprint + Clock + Wait + Drop> Loader<'a, R> {
         Ok(())
     }
 
-    fn commit(&mut self) -> Result<(), Failed> {
+    fn commit(&mut self) -> Result<(), Failure> {
         if !self.is_begun {
             return Err(refused("load: commit without begin"));
         }
@@ -120,10 +115,10 @@ impl<'a, R: Eprint + Clock + Wait + Drop> Loader<'a, R> {
     }
 
     // Ends a list that should have this many rows.
-    fn end_list(&mut self, rows: u64) -> Result<(), Refusal> {
+    fn end_list(&mut self, rows: u64) -> Result<(), Failure> {
         let listed = self.listed;
         if listed != rows {
-            return Err(Refusal::Words(anyhow!(
+            return Err(Failure::Words(anyhow!(
                 "load: the list had {rows} rows, and {listed} of them came"
             )));
         }
@@ -132,7 +127,7 @@ impl<'a, R: Eprint + Clock + Wait + Drop> Loader<'a, R> {
     }
 
     // Commits the rows that are put.
-    fn keep(&mut self) -> Result<(), Failed> {
+    fn keep(&mut self) -> Result<(), Failure> {
         if let Some(transaction) = self.open.take() {
             let _ = commit(transaction)?;
             self.kept = self.kept.saturating_add(self.puts);
@@ -143,8 +138,8 @@ impl<'a, R: Eprint + Clock + Wait + Drop> Loader<'a, R> {
     }
 }
 
-fn refused(reason: &'static str) -> Failed {
-    Failed::Refused(Refusal::Words(anyhow!("{reason}")))
+fn refused(reason: &'static str) -> Failure {
+    Failure::Words(anyhow!("{reason}"))
 }
 
 // What a line means to a load.
@@ -159,15 +154,15 @@ enum Part {
     Other,
 }
 
-fn part_of(alloc: Global, line: Line<'_>) -> Result<Part, Refusal> {
+fn part_of(alloc: Global, line: Line<'_>) -> Result<Part, Failure> {
     let text = text_of(line)?;
     match split_line(alloc, text) {
         Ok(words) => parse_part(words.as_slice()),
-        Err(_) => Err(Refusal::Fault(Fault::OutOfMemory)),
+        Err(_) => Err(Failure::Fault(Fault::OutOfMemory)),
     }
 }
 
-fn parse_part(words: &[&str]) -> Result<Part, Refusal> {
+fn parse_part(words: &[&str]) -> Result<Part, Failure> {
     let Some((name, rest)) = words.split_first() else {
         return Ok(Part::Other);
     };
@@ -181,7 +176,7 @@ fn parse_part(words: &[&str]) -> Result<Part, Refusal> {
 }
 
 // A line that begins with a table's number, or with a word that wbl prints.
-fn parse_other(name: &str, rest: &[&str]) -> Result<Part, Refusal> {
+fn parse_other(name: &str, rest: &[&str]) -> Result<Part, Failure> {
     match (name, rest) {
         ("ready" | "closed", []) | ("sound", _) => Ok(Part::Other),
         ("end", [rows]) => Ok(Part::End(parse_number("load", "end", rows)?)),
@@ -190,11 +185,11 @@ fn parse_other(name: &str, rest: &[&str]) -> Result<Part, Refusal> {
     }
 }
 
-fn parse_put(table: &str, key: &str, row: &str) -> Result<Part, Refusal> {
+fn parse_put(table: &str, key: &str, row: &str) -> Result<Part, Failure> {
     let (key, row) = parse_key_and_row("load", table, key, row)?;
     Ok(Part::Row(key, row))
 }
 
-fn wrong_part() -> Refusal {
-    Refusal::Words(anyhow!("load: expected put TABLE KEY ROW, or TABLE KEY ROW"))
+fn wrong_part() -> Failure {
+    Failure::Words(anyhow!("load: expected put TABLE KEY ROW, or TABLE KEY ROW"))
 }

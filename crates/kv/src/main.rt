@@ -4,6 +4,7 @@
 
 mod answers;
 mod command;
+mod failure;
 mod help;
 mod input;
 mod listing;
@@ -13,11 +14,9 @@ mod opening;
 mod options;
 mod pages;
 mod progress;
-mod refusal;
 mod rows;
 mod session;
 mod shell;
-mod statistics;
 mod words;
 mod work;
 

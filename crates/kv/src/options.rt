@@ -1,5 +1,5 @@
 use crate::command::{Command, Request};
-use crate::refusal::Refusal;
+use crate::failure::Failure;
 use crate::rows::may_be_text;
 use crate::words::parse_words;
 use anyhow::anyhow;
@@ -150,9 +150,9 @@ fn number<'a>(alloc: Global, name: &'a str) -> Arg<'a> {
 }
 
 /// What the words of the command line ask for.
-pub fn read_options<'a>(matches: &ArgMatches<'a>) -> Result<Options<'a>, Refusal> {
+pub fn read_options<'a>(matches: &ArgMatches<'a>) -> Result<Options<'a>, Failure> {
     let Some(file) = matches.get_str("FILE") else {
-        return Err(Refusal::Words(anyhow!("no file is named")));
+        return Err(Failure::Words(anyhow!("no file is named")));
     };
     let layout = read_layout(matches)?;
     let command = read_command(matches.get_strs("COMMAND").unwrap_or(&[]))?;
@@ -166,7 +166,7 @@ pub fn read_options<'a>(matches: &ArgMatches<'a>) -> Result<Options<'a>, Refusal
 }
 
 // What no option sets comes from the standard layout.
-fn read_layout(matches: &ArgMatches<'_>) -> Result<Layout, Refusal> {
+fn read_layout(matches: &ArgMatches<'_>) -> Result<Layout, Failure> {
     let standard = standard_layout();
     let slots = matches.get_one::<u64>("slots");
     let places = matches.get_one::<u64>("places");
@@ -174,7 +174,7 @@ fn read_layout(matches: &ArgMatches<'_>) -> Result<Layout, Refusal> {
     let lines = matches.get_one::<u64>("lines");
     let is_wide = matches.get_flag("wide");
     if is_wide && lines.is_some() {
-        return Err(Refusal::Words(anyhow!("--wide and --lines are two ways to ask for a width")));
+        return Err(Failure::Words(anyhow!("--wide and --lines are two ways to ask for a width")));
     }
     let geometry = geometry_of(
         lines,
@@ -212,13 +212,13 @@ fn geometry_of(
 }
 
 // The command after the file's name, if there is one.
-fn read_command(words: &[&str]) -> Result<Option<Given>, Refusal> {
+fn read_command(words: &[&str]) -> Result<Option<Given>, Failure> {
     if words.is_empty() {
         return Ok(None);
     }
     let command = parse_words(words)?;
     match command.why_not_alone() {
-        Some(reason) => Err(Refusal::Words(anyhow!("{reason}"))),
+        Some(reason) => Err(Failure::Words(anyhow!("{reason}"))),
         None => Ok(Some(Given {
             command,
             is_doubtful: is_doubtful(&command, words),

@@ -1,13 +1,11 @@
 //! Rows of a snapshot, some at a time, so that what is printed takes no memory for all of them.
 
 use crate::command::Range;
-use base::fault::Fault;
 use base::key::Key;
 use base::row::Row;
-use database::Transaction;
 use std::alloc::Global;
 use std::sync::Wait;
-use store::Device;
+use store::{Snapshot, StoreError};
 
 /// The most rows that are read at once. A page may have a few more: those that a transaction has written itself.
 const MOST_ROWS: usize = 256;
@@ -38,17 +36,17 @@ impl RangePages {
     pub fn next<R: Wait + Drop>(
         &mut self,
         alloc: Global,
-        transaction: &Transaction<'_, Device, R>,
-    ) -> Result<Vec<(Key, Row)>, Fault> {
+        snapshot: &Snapshot<'_, R>,
+    ) -> Result<Vec<(Key, Row)>, StoreError> {
         let most = (MOST_ROWS as u64).min(self.range.limit) as usize;
         if self.is_over || most == 0 {
             return Ok(Vec::new(alloc));
         }
         let Range { table, lo, hi, .. } = self.range;
         let rows = if self.range.is_reverse {
-            transaction.last_rows(table, lo, hi, most)?
+            snapshot.last(table, lo..=hi, most)?
         } else {
-            transaction.first_rows(table, lo, hi, most)?
+            snapshot.first(table, lo..=hi, most)?
         };
         match rows.last() {
             Some((key, _)) => self.go_on(key.key, rows.len()),
@@ -77,13 +75,13 @@ impl RangePages {
 /// How many rows a table has.
 pub fn count_rows<R: Wait + Drop>(
     alloc: Global,
-    transaction: &Transaction<'_, Device, R>,
+    snapshot: &Snapshot<'_, R>,
     table: u16,
-) -> Result<usize, Fault> {
+) -> Result<usize, StoreError> {
     let mut pages = RangePages::new(Range::whole(table));
     let mut count: usize = 0;
     for _ in 0..u64::MAX {
-        let rows = pages.next(alloc, transaction)?;
+        let rows = pages.next(alloc, snapshot)?;
         if rows.is_empty() {
             break;
         }
@@ -109,12 +107,12 @@ impl AllPages {
     /// The next rows by rising key, or `None` at the end. There may be no rows before the end, too.
     pub fn next<R: Wait + Drop>(
         &mut self,
-        transaction: &Transaction<'_, Device, R>,
-    ) -> Result<Option<Vec<(Key, Row)>>, Fault> {
+        snapshot: &Snapshot<'_, R>,
+    ) -> Result<Option<Vec<(Key, Row)>>, StoreError> {
         let Some(first) = self.first else {
             return Ok(None);
         };
-        let page = transaction.page(first, LAST_KEY, MOST_ROWS)?;
+        let page = snapshot.page(first, LAST_KEY, MOST_ROWS)?;
         self.first = key_behind(page.reached);
         Ok(Some(page.rows.into_items()))
     }

@@ -1,4 +1,4 @@
-use crate::refusal::Refusal;
+use crate::failure::Failure;
 use anyhow::{Error, anyhow, bail};
 use base::row::Row;
 use hex::decode_to_slice;
@@ -12,7 +12,7 @@ pub fn may_be_text(word: &str) -> bool {
 }
 
 /// The row that a word spells: text in quotation marks, two hexadecimal digits for each byte, or `-` for no bytes.
-pub fn parse_row(command: &str, word: &str) -> Result<Row, Refusal> {
+pub fn parse_row(command: &str, word: &str) -> Result<Row, Failure> {
     match word.strip_prefix('"') {
         Some(text) => Ok(parse_text(command, text)?),
         None if word == "-" => Ok(Row::new(&[])?),
@@ -20,15 +20,15 @@ pub fn parse_row(command: &str, word: &str) -> Result<Row, Refusal> {
     }
 }
 
-fn parse_digits(command: &str, word: &str) -> Result<Row, Refusal> {
+fn parse_digits(command: &str, word: &str) -> Result<Row, Failure> {
     let length = word.len() / 2;
     let mut bytes = [0; Row::LIMIT];
     if length > Row::LIMIT {
-        return Err(Refusal::Words(anyhow!("{command}: ROW has {length} bytes: {LIMITS}")));
+        return Err(Failure::Words(anyhow!("{command}: ROW has {length} bytes: {LIMITS}")));
     }
     match decode_to_slice(word, &mut bytes[..length]) {
         Ok(()) => Ok(Row::new(&bytes[..length])?),
-        Err(_) => Err(Refusal::Row(anyhow!("{command}: ROW {}", Bare(word)))),
+        Err(_) => Err(Failure::Row(anyhow!("{command}: ROW {}", Bare(word)))),
     }
 }
 

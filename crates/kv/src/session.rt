@@ -2,20 +2,18 @@ ghost use Rattle.std.specs.Prelude.{◌≡◌, ◌∷◌, [], ℕ, List, Option,
 ghost use Rattle.database.specs.Committing.{ReportsCommit, ReportsWritten};
 ghost use Rattle.kv.specs.Earned.{Commits, IsEarnedBy, PassesOn};
 ghost use Rattle.kv.specs.declared.session.Answer.TheVariants.{Begun, Aborted, Row as RowRead, Count as Counted, Status as StatusRead};
-ghost use Rattle.kv.specs.declared.statistics.Statistics.{Statistics};
+ghost use Rattle.store.specs.declared.status.Status.{Status as StatusValue};
 
-use crate::command::{Range, Request};
+use crate::command::Request;
+use crate::failure::Failure;
 use crate::pages::{RangePages, count_rows};
-use crate::refusal::{Refusal, Stop};
-use crate::statistics::Statistics;
 use base::Ts;
-use base::fault::Fault;
 use base::key::Key;
 use base::row::Row;
-use database::{CommitError, Database, Transaction};
 use std::alloc::Global;
+use std::ops::Deref;
 use std::sync::Wait;
-use store::Device;
+use store::{Snapshot, Status, Store, StoreError, Transaction};
 
 /// What the store returns.
 #[derive(Drop)]
@@ -29,7 +27,7 @@ pub enum Answer {
     Done,
     Row(Option<Row>),
     Count(usize),
-    Status(Statistics),
+    Status(Status),
     /// Rows, which are read and printed some at a time.
     Listing(Listing),
 }
@@ -45,65 +43,37 @@ pub enum Listing {
     Dump,
 }
 
-/// Why a line isn't run: it is refused, or no more lines can be run at all.
-#[derive(Drop)]
-pub enum Failed {
-    Refused(Refusal),
-    Stopped(Stop),
-}
-
-/// A transaction to read from.
+/// What rows are read from: the transaction that is open, or a snapshot of its own.
 #[derive(Drop)]
 pub enum Reads<'b, 'a, R: Wait + Drop> {
-    Open(&'b Transaction<'a, Device, R>),
-    Own(Transaction<'a, Device, R>),
+    Open(&'b Transaction<'a, R>),
+    Own(Snapshot<'a, R>),
 }
 
 impl<'a, R: Wait + Drop> Reads<'_, 'a, R> {
-    pub fn transaction(&self) -> &Transaction<'a, Device, R> {
+    pub fn snapshot(&self) -> &Snapshot<'a, R> {
         match self {
-            Reads::Open(transaction) => transaction,
-            Reads::Own(transaction) => transaction,
+            Reads::Open(transaction) => transaction.deref(),
+            Reads::Own(snapshot) => snapshot,
         }
     }
 }
 
-impl From<Refusal> for Failed {
-    fn from(refusal: Refusal) -> Failed {
-        Failed::Refused(refusal)
-    }
-}
-
-impl From<Stop> for Failed {
-    fn from(stop: Stop) -> Failed {
-        Failed::Stopped(stop)
-    }
-}
-
-impl From<Fault> for Failed {
-    fn from(fault: Fault) -> Failed {
-        match fault {
-            Fault::Device | Fault::Failed => Failed::Stopped(Stop::Device),
-            fault => Failed::Refused(Refusal::Fault(fault)),
-        }
-    }
-}
-
-/// A database, and the transaction that is open on it.
+/// A store, and the transaction that is open on it.
 #[derive(Drop)]
 pub struct Session<'a, R: Wait + Drop> {
     alloc: Global,
-    database: &'a Database<Device, R>,
-    open: Option<Transaction<'a, Device, R>>,
+    store: &'a Store<R>,
+    open: Option<Transaction<'a, R>>,
     // The number of the line that was refused in a transaction. The transaction is aborted, but its end hasn't been read yet.
     broken: Option<u64>,
 }
 
 impl<'a, R: Wait + Drop> Session<'a, R> {
-    pub fn new(alloc: Global, database: &'a Database<Device, R>) -> Session<'a, R> {
+    pub fn new(alloc: Global, store: &'a Store<R>) -> Session<'a, R> {
         Session {
             alloc,
-            database,
+            store,
             open: None,
             broken: None,
         }
@@ -124,7 +94,7 @@ impl<'a, R: Wait + Drop> Session<'a, R> {
     }
 
     /// Runs a request. Outside a transaction it is a transaction by itself.
-    pub fn answer(&mut self, request: &Request) -> Result<Answer, Failed>
+    pub fn answer(&mut self, request: &Request) -> Result<Answer, Failure>
         // `committed` is returned only if a commit of this request returned so.
         ensures earned { IfOk result (IsEarnedBy (Commits request.now)) }
     {
@@ -143,29 +113,29 @@ impl<'a, R: Wait + Drop> Session<'a, R> {
         }
     }
 
-    fn begin(&mut self) -> Result<Answer, Failed>
+    fn begin(&mut self) -> Result<Answer, Failure>
         ensures { IfOk result (λ answer. answer ≡ Begun) }
     {
         if self.is_open() {
-            return Err(Failed::Refused(Refusal::Open));
+            return Err(Failure::Open);
         }
-        self.open = Some(self.database.begin()?);
+        self.open = Some(self.store.begin()?);
         Ok(Answer::Begun)
     }
 
-    fn commit(&mut self) -> Result<Answer, Failed>
+    fn commit(&mut self) -> Result<Answer, Failure>
         ensures { IfOk result (IsEarnedBy (λ outcome. (session : ℕ) × ReportsCommit session outcome)) }
     {
         if let Some(line) = self.broken.take() {
-            return Err(Failed::Refused(Refusal::NotCommitted(line)));
+            return Err(Failure::NotCommitted(line));
         }
         match self.open.take() {
             Some(transaction) => commit(transaction),
-            None => Err(Failed::Refused(Refusal::NotOpen)),
+            None => Err(Failure::NotOpen),
         }
     }
 
-    fn abort(&mut self) -> Result<Answer, Failed>
+    fn abort(&mut self) -> Result<Answer, Failure>
         ensures { IfOk result (λ answer. answer ≡ Aborted) }
     {
         if self.broken.take().is_some() {
@@ -176,95 +146,75 @@ impl<'a, R: Wait + Drop> Session<'a, R> {
                 transaction.abort()?;
                 Ok(Answer::Aborted)
             }
-            None => Err(Failed::Refused(Refusal::NotOpen)),
+            None => Err(Failure::NotOpen),
         }
     }
 
     // Writes the row under the key, or deletes what is there.
-    fn write(&mut self, key: Key, row: Option<Row>) -> Result<Answer, Failed>
+    fn write(&mut self, key: Key, row: Option<Row>) -> Result<Answer, Failure>
         ensures { IfOk result (IsEarnedBy (ReportsWritten ((key, row) ∷ []))) }
     {
         self.test_whole()?;
         if let Some(transaction) = &mut self.open {
-            write(transaction, key, row)?;
+            transaction.write(&[(key, row)])?;
             return Ok(Answer::Written);
         }
-        answer_of(self.database.write(&[(key, row)]))
+        answer_of(self.store.write(&[(key, row)]))
     }
 
-    fn get(&mut self, key: Key) -> Result<Answer, Failed>
+    fn get(&mut self, key: Key) -> Result<Answer, Failure>
         ensures { IfOk result (λ answer. (row : Option (List ℕ)) × (answer ≡ RowRead row)) }
     {
-        self.test_whole()?;
-        if let Some(transaction) = &self.open {
-            return Ok(Answer::Row(transaction.get(key)?));
-        }
-        let transaction = self.database.begin()?;
-        Ok(Answer::Row(transaction.get(key)?))
+        let reads = self.reads()?;
+        Ok(Answer::Row(reads.snapshot().get(key)?))
     }
 
-    fn count(&mut self, table: u16) -> Result<Answer, Failed>
+    fn count(&mut self, table: u16) -> Result<Answer, Failure>
         ensures { IfOk result (λ answer. (count : ℕ) × (answer ≡ Counted count)) }
     {
-        self.test_whole()?;
-        if let Some(transaction) = &self.open {
-            return Ok(Answer::Count(count_rows(self.alloc, transaction, table)?));
-        }
-        let transaction = self.database.begin()?;
-        Ok(Answer::Count(count_rows(self.alloc, &transaction, table)?))
+        let reads = self.reads()?;
+        Ok(Answer::Count(count_rows(self.alloc, reads.snapshot(), table)?))
     }
 
-    /// What rows are read from: the transaction that is open, or one of its own.
-    pub fn reads(&self) -> Result<Reads<'_, 'a, R>, Failed> {
+    /// What rows are read from, unless a line of the transaction was refused.
+    pub fn reads(&self) -> Result<Reads<'_, 'a, R>, Failure> {
         self.test_whole()?;
         match &self.open {
             Some(transaction) => Ok(Reads::Open(transaction)),
-            None => Ok(Reads::Own(self.database.begin()?)),
+            None => Ok(Reads::Own(self.store.read()?)),
         }
     }
 
-    fn status(&mut self) -> Result<Answer, Failed>
-        ensures { IfOk result (λ answer. (statistics : Statistics) × (answer ≡ StatusRead statistics)) }
+    fn status(&mut self) -> Result<Answer, Failure>
+        ensures { IfOk result (λ answer. (status : StatusValue) × (answer ≡ StatusRead status)) }
     {
         self.test_whole()?;
-        let statistics = Statistics::of(&self.database.report());
-        Ok(Answer::Status(statistics))
+        Ok(Answer::Status(self.store.status()))
     }
 
-    fn test_whole(&self) -> Result<(), Failed> {
+    fn test_whole(&self) -> Result<(), Failure> {
         match self.broken {
-            Some(line) => Err(Failed::Refused(Refusal::Broken(line))),
+            Some(line) => Err(Failure::Broken(line)),
             None => Ok(()),
         }
     }
 }
 
-fn write<R: Wait + Drop>(
-    transaction: &mut Transaction<'_, Device, R>,
-    key: Key,
-    row: Option<Row>,
-) -> Result<(), Fault> {
-    match row {
-        Some(row) => transaction.put(key, row),
-        None => transaction.delete(key),
-    }
-}
-
 /// Commits what was written, and returns once that is durable.
-pub fn commit<R: Wait + Drop>(transaction: Transaction<'_, Device, R>) -> Result<Answer, Failed>
-    ensures { IfOk result (IsEarnedBy (ReportsCommit transaction.entry.session)) }
+pub fn commit<R: Wait + Drop>(transaction: Transaction<'_, R>) -> Result<Answer, Failure>
+    ensures { IfOk result (IsEarnedBy (ReportsCommit transaction.entry.snapshot.reads.session)) }
 {
     answer_of(transaction.commit())
 }
 
 // What is printed about a commit.
-fn answer_of(committed: Result<Option<Ts>, CommitError>) -> Result<Answer, Failed>
+fn answer_of(committed: Result<Option<Ts>, StoreError>) -> Result<Answer, Failure>
     ensures { PassesOn committed result }
 {
     match committed {
         Ok(Some(timestamp)) => Ok(Answer::Committed(timestamp)),
         Ok(None) => Ok(Answer::Done),
-        Err(CommitError::Open(_)) => Err(Failed::Stopped(Stop::InCommit)),
-        Err(CommitError::Refused(fault)) => Err(Failed::from(fault)),
+        Err(StoreError::Unknown(_)) => Err(Failure::InCommit),
+        Err(error) => Err(Failure::from(error)),
     }
 }

@@ -1,22 +1,21 @@
 use crate::answers::{Manner, Printer};
 use crate::command::{Command, Request};
+use crate::failure::Failure;
 use crate::input::Lines;
 use crate::listing::{Dumped, TableCounts};
 use crate::load::Loader;
 use crate::pages::{AllPages, RangePages};
 use crate::progress::Progress;
-use crate::refusal::{Refusal, Sentence, Stop};
-use crate::session::{Answer, Failed, Listing, Session};
-use crate::words::parse_line;
+use crate::session::{Answer, Listing, Session};
+use crate::words::{may_begin, parse_line};
 use base::fault::Fault;
-use database::{Database, Transaction};
 use std::alloc::Global;
 use std::io;
 use std::io::BufRead;
 use std::rt::Clock;
 use std::sync::Wait;
 use std::time::Instant;
-use store::Device;
+use store::{Snapshot, Store};
 
 /// How the lines ended.
 #[derive(Clone, Copy)]
@@ -42,14 +41,14 @@ impl Outcome {
 pub fn answer_lines<'a, R: Input + Print + Eprint + Clock + Wait + Drop>(
     rt: &'a R,
     alloc: Global,
-    database: &'a Database<Device, R>,
+    store: &'a Store<R>,
     manner: Manner,
     bails: bool,
-) -> Result<Outcome, Stop> {
-    let mut shell = Shell::new(rt, alloc, database, manner).map_err(Stop::Output)?;
+) -> Result<Outcome, Failure> {
+    let mut shell = Shell::new(rt, alloc, store, manner).map_err(Failure::Output)?;
     shell.bails = bails;
-    let mut lines = Lines::new(alloc, rt.reader()).map_err(Stop::Input)?;
-    println!(rt; "ready").map_err(Stop::Output)?;
+    let mut lines = Lines::new(alloc, rt.reader()).map_err(Failure::Input)?;
+    println!(rt; "ready").map_err(Failure::Output)?;
     let answered = shell.answer_each(&mut lines);
     let flushed = shell.flush();
     answered?;
@@ -61,12 +60,12 @@ pub fn answer_lines<'a, R: Input + Print + Eprint + Clock + Wait + Drop>(
 pub fn answer_command<'a, R: Input + Print + Eprint + Clock + Wait + Drop>(
     rt: &'a R,
     alloc: Global,
-    database: &'a Database<Device, R>,
+    store: &'a Store<R>,
     manner: Manner,
     command: &Command,
-) -> Result<Outcome, Stop> {
-    let mut shell = Shell::new(rt, alloc, database, manner).map_err(Stop::Output)?;
-    let mut lines = Lines::new(alloc, rt.reader()).map_err(Stop::Input)?;
+) -> Result<Outcome, Failure> {
+    let mut shell = Shell::new(rt, alloc, store, manner).map_err(Failure::Output)?;
+    let mut lines = Lines::new(alloc, rt.reader()).map_err(Failure::Input)?;
     let ran = shell.run(&mut lines, command);
     let flushed = shell.flush();
     ran?;
@@ -74,59 +73,59 @@ pub fn answer_command<'a, R: Input + Print + Eprint + Clock + Wait + Drop>(
     Ok(shell.outcome)
 }
 
-// Rows that are read from a transaction and printed.
+// Rows that are read from a snapshot and printed.
 #[derive(Clone, Copy)]
 struct List<'b, 'a, R: Wait + Drop> {
     alloc: Global,
     printer: &'b Printer<'a, R>,
-    transaction: &'b Transaction<'a, Device, R>,
+    snapshot: &'b Snapshot<'a, R>,
 }
 
 impl<R: Print + Wait + Drop> List<'_, '_, R> {
-    fn rows(&self, pages: RangePages) -> Result<(), Failed> {
+    fn rows(&self, pages: RangePages) -> Result<(), Failure> {
         let mut pages = pages;
-        let mut rows = pages.next(self.alloc, self.transaction)?;
-        self.printer.begin_rows().map_err(Stop::Output)?;
+        let mut rows = pages.next(self.alloc, self.snapshot)?;
+        self.printer.begin_rows().map_err(Failure::Output)?;
         let mut count: u64 = 0;
         for _ in 0..u64::MAX {
             if rows.is_empty() {
                 break;
             }
             let printed = self.printer.print_rows(rows.as_slice());
-            printed.map_err(Stop::Output)?;
+            printed.map_err(Failure::Output)?;
             count = count.saturating_add(rows.len() as u64);
-            rows = pages.next(self.alloc, self.transaction)?;
+            rows = pages.next(self.alloc, self.snapshot)?;
         }
-        Ok(self.printer.end_rows(count).map_err(Stop::Output)?)
+        self.printer.end_rows(count).map_err(Failure::Output)
     }
 
-    fn tables(&self) -> Result<(), Failed> {
+    fn tables(&self) -> Result<(), Failure> {
         let mut pages = AllPages::new();
-        let mut page = pages.next(self.transaction)?;
-        self.printer.begin_tables().map_err(Stop::Output)?;
+        let mut page = pages.next(self.snapshot)?;
+        self.printer.begin_tables().map_err(Failure::Output)?;
         let mut counts = TableCounts::new();
         for _ in 0..u64::MAX {
             let Some(rows) = page else {
                 break;
             };
             let printed = self.printer.count_rows(&mut counts, rows.as_slice());
-            printed.map_err(Stop::Output)?;
-            page = pages.next(self.transaction)?;
+            printed.map_err(Failure::Output)?;
+            page = pages.next(self.snapshot)?;
         }
-        Ok(self.printer.end_tables(counts).map_err(Stop::Output)?)
+        self.printer.end_tables(counts).map_err(Failure::Output)
     }
 
-    fn dump(&self) -> Result<(), Failed> {
+    fn dump(&self) -> Result<(), Failure> {
         let mut pages = AllPages::new();
         let mut dumped = Dumped::new();
         for _ in 0..u64::MAX {
-            let Some(rows) = pages.next(self.transaction)? else {
+            let Some(rows) = pages.next(self.snapshot)? else {
                 break;
             };
             let printed = self.printer.dump_rows(&mut dumped, rows.as_slice());
-            printed.map_err(Stop::Output)?;
+            printed.map_err(Failure::Output)?;
         }
-        Ok(self.printer.end_dump(dumped).map_err(Stop::Output)?)
+        self.printer.end_dump(dumped).map_err(Failure::Output)
     }
 }
 
@@ -135,7 +134,7 @@ impl<R: Print + Wait + Drop> List<'_, '_, R> {
 struct Shell<'a, R: Eprint + Clock + Wait + Drop> {
     alloc: Global,
     rt: &'a R,
-    database: &'a Database<Device, R>,
+    store: &'a Store<R>,
     session: Session<'a, R>,
     printer: Printer<'a, R>,
     is_timed: bool,
@@ -147,14 +146,14 @@ impl<'a, R: Print + Eprint + Clock + Wait + Drop> Shell<'a, R> {
     fn new(
         rt: &'a R,
         alloc: Global,
-        database: &'a Database<Device, R>,
+        store: &'a Store<R>,
         manner: Manner,
     ) -> io::Result<Shell<'a, R>> {
         Ok(Shell {
             alloc,
             rt,
-            database,
-            session: Session::new(alloc, database),
+            store,
+            session: Session::new(alloc, store),
             printer: Printer::new(alloc, rt, manner)?,
             is_timed: false,
             bails: false,
@@ -163,17 +162,17 @@ impl<'a, R: Print + Eprint + Clock + Wait + Drop> Shell<'a, R> {
     }
 
     // Prints the answers that are held.
-    fn flush(&mut self) -> Result<(), Stop> {
-        self.printer.flush().map_err(Stop::Output)
+    fn flush(&mut self) -> Result<(), Failure> {
+        self.printer.flush().map_err(Failure::Output)
     }
 
-    fn prompt(&mut self) -> Result<(), Stop> {
+    fn prompt(&mut self) -> Result<(), Failure> {
         let is_open = self.session.is_open();
-        self.printer.prompt(is_open).map_err(Stop::Output)
+        self.printer.prompt(is_open).map_err(Failure::Output)
     }
 
     // Runs each line. Before it waits for a line, it prints what is held.
-    fn answer_each<I: BufRead + Drop>(&mut self, lines: &mut Lines<I>) -> Result<(), Stop> {
+    fn answer_each<I: BufRead + Drop>(&mut self, lines: &mut Lines<I>) -> Result<(), Failure> {
         for _ in 0..u64::MAX {
             if !lines.has_line() {
                 self.flush()?;
@@ -187,15 +186,18 @@ impl<'a, R: Print + Eprint + Clock + Wait + Drop> Shell<'a, R> {
     }
 
     // Runs the next line. Returns whether another one may follow.
-    fn answer_line<I: BufRead + Drop>(&mut self, lines: &mut Lines<I>) -> Result<bool, Stop> {
-        let Some(line) = lines.next_line().map_err(Stop::Input)? else {
+    fn answer_line<I: BufRead + Drop>(&mut self, lines: &mut Lines<I>) -> Result<bool, Failure> {
+        let Some(line) = lines.next_line().map_err(Failure::Input)? else {
             return Ok(false);
         };
         match parse_line(self.alloc, line) {
             Ok(None) => {}
             Ok(Some(Command::Quit)) => return Ok(false),
             Ok(Some(command)) => self.run(lines, &command)?,
-            Err(unread) => self.refuse(lines.number(), unread.may_begin, &unread.refusal)?,
+            Err(failure) => {
+                let begins = may_begin(self.alloc, line);
+                self.refuse(lines.number(), begins, failure)?;
+            }
         }
         Ok(!self.has_bailed())
     }
@@ -210,14 +212,14 @@ impl<'a, R: Print + Eprint + Clock + Wait + Drop> Shell<'a, R> {
         &mut self,
         lines: &mut Lines<I>,
         command: &Command,
-    ) -> Result<(), Stop> {
+    ) -> Result<(), Failure> {
         let start = self.start();
         match self.answer(lines, command) {
             Ok(()) => {}
-            Err(Failed::Stopped(stop)) => return Err(stop),
-            Err(Failed::Refused(refusal)) => {
+            Err(failure) if failure.is_final() => return Err(failure),
+            Err(failure) => {
                 let begins = matches!(command, Command::Ask(Request::Begin));
-                self.refuse(lines.number(), begins, &refusal)?;
+                self.refuse(lines.number(), begins, failure)?;
             }
         }
         self.print_time(start)
@@ -227,33 +229,30 @@ impl<'a, R: Print + Eprint + Clock + Wait + Drop> Shell<'a, R> {
         &mut self,
         lines: &mut Lines<I>,
         command: &Command,
-    ) -> Result<(), Failed> {
+    ) -> Result<(), Failure> {
         match command {
-            Command::Ask(request) => self.ask(request),
+            Command::Ask(request) => {
+                let answer = self.session.answer(request)?;
+                if let Answer::Listing(listing) = &answer {
+                    return self.list(*listing);
+                }
+                self.printer.print(&answer).map_err(Failure::Output)
+            }
             Command::Load => self.load(lines),
             Command::Timing(is_timed) => self.set_timing(*is_timed),
-            Command::Help(word) => Ok(self.printer.answer_help(*word).map_err(Stop::Output)?),
+            Command::Help(word) => self.printer.answer_help(*word).map_err(Failure::Output),
             Command::Quit => Ok(()),
         }
     }
 
-    fn ask(&mut self, request: &Request) -> Result<(), Failed> {
-        let answer = self.session.answer(request)?;
-        if let Answer::Listing(listing) = &answer {
-            return self.list(*listing);
-        }
-        self.printer.print(&answer).map_err(Stop::Output)?;
-        Ok(())
-    }
-
     // Reads rows some at a time, and prints what is made of them.
-    fn list(&mut self, listing: Listing) -> Result<(), Failed> {
+    fn list(&mut self, listing: Listing) -> Result<(), Failure> {
         self.flush()?;
         let reads = self.session.reads()?;
         let list = List {
             alloc: self.alloc,
             printer: &self.printer,
-            transaction: reads.transaction(),
+            snapshot: reads.snapshot(),
         };
         match listing {
             Listing::Rows(pages) => list.rows(pages),
@@ -262,62 +261,57 @@ impl<'a, R: Print + Eprint + Clock + Wait + Drop> Shell<'a, R> {
         }
     }
 
-    fn set_timing(&mut self, is_timed: bool) -> Result<(), Failed> {
+    fn set_timing(&mut self, is_timed: bool) -> Result<(), Failure> {
         self.flush()?;
         self.is_timed = is_timed;
         let word = if is_timed { "on" } else { "off" };
-        println!(self.rt; "timing {word}").map_err(Stop::Output)?;
-        Ok(())
+        println!(self.rt; "timing {word}").map_err(Failure::Output)
     }
 
     // Puts the rows of the remaining lines, up to one that is refused. At the end it prints how many are kept.
-    fn load<I: BufRead + Drop>(&mut self, lines: &mut Lines<I>) -> Result<(), Failed> {
+    fn load<I: BufRead + Drop>(&mut self, lines: &mut Lines<I>) -> Result<(), Failure> {
         if self.session.is_open() {
-            return Err(Failed::Refused(Refusal::Open));
+            return Err(Failure::Open);
         }
         self.flush()?;
         let progress = Progress::new(self.rt, self.printer.manner.is_watched);
-        let mut loader = Loader::new(self.alloc, self.database, progress);
+        let mut loader = Loader::new(self.alloc, self.store, progress);
         let loaded = loader.load(lines);
         let kept = loader.end();
-        if let Err(failed) = loaded {
-            self.refuse_rest(lines.number(), failed)?;
+        if let Err(failure) = loaded {
+            self.refuse_rest(lines.number(), failure)?;
         }
-        println!(self.rt; "loaded {kept}").map_err(Stop::Output)?;
-        Ok(())
+        println!(self.rt; "loaded {kept}").map_err(Failure::Output)
     }
 
     // Says why a load ended before the input did.
-    fn refuse_rest(&mut self, line: u64, failed: Failed) -> Result<(), Stop> {
-        match failed {
-            Failed::Stopped(stop) => Err(stop),
-            Failed::Refused(refusal) => self.refuse(line, false, &refusal),
+    fn refuse_rest(&mut self, line: u64, failure: Failure) -> Result<(), Failure> {
+        if failure.is_final() {
+            return Err(failure);
         }
+        self.refuse(line, false, failure)
     }
 
     // Says that a line is refused and why, and breaks off the transaction that it belongs to. A person may type another line.
-    fn refuse(&mut self, line: u64, begins: bool, refusal: &Refusal) -> Result<(), Stop> {
-        self.note(refusal);
-        let geometry = self.database.geometry();
-        let sentence = Sentence { refusal, geometry };
-        self.printer
-            .refuse(refusal.name(), &sentence)
-            .map_err(Stop::Output)?;
+    fn refuse(&mut self, line: u64, begins: bool, failure: Failure) -> Result<(), Failure> {
+        let failure = failure.in_store(&self.store.layout());
+        self.note(&failure);
+        self.printer.refuse(&failure).map_err(Failure::Output)?;
         let is_prompted = self.printer.manner.is_prompted;
         let _ = match (is_prompted, line) {
-            (true, _) => eprintln!(self.rt; "refused: {sentence}"),
-            (false, 0) => eprintln!(self.rt; "kv: {sentence}"),
-            (false, _) => eprintln!(self.rt; "kv: line {line}: {sentence}"),
+            (true, _) => eprintln!(self.rt; "refused: {failure}"),
+            (false, 0) => eprintln!(self.rt; "kv: {failure}"),
+            (false, _) => eprintln!(self.rt; "kv: line {line}: {failure}"),
         };
-        if !(is_prompted && refusal.is_harmless()) {
+        if !(is_prompted && failure.is_harmless()) {
             self.session.break_off(line, begins && !is_prompted);
         }
         Ok(())
     }
 
-    fn note(&mut self, refusal: &Refusal) {
+    fn note(&mut self, failure: &Failure) {
         self.outcome.was_refused = true;
-        if matches!(refusal, Refusal::Fault(Fault::TimestampsOut)) {
+        if matches!(failure, Failure::Fault(Fault::TimestampsOut)) {
             self.outcome.is_spent = true;
         }
     }
@@ -342,7 +336,7 @@ impl<'a, R: Print + Eprint + Clock + Wait + Drop> Shell<'a, R> {
         }
     }
 
-    fn print_time(&mut self, start: Option<Instant>) -> Result<(), Stop> {
+    fn print_time(&mut self, start: Option<Instant>) -> Result<(), Failure> {
         let Some(start) = start else {
             return Ok(());
         };

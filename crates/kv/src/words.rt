@@ -1,8 +1,8 @@
 use crate::command::{Command, Range, Request};
+use crate::failure::Failure;
 use crate::help::{Word, find_word, topic_of};
 use crate::input::{Line, first_word, text_of};
 use crate::numbers::{parse_key, parse_number, parse_table};
-use crate::refusal::Refusal;
 use crate::rows::parse_row;
 use anyhow::{Error, anyhow, bail};
 use base::fault::Fault;
@@ -14,14 +14,6 @@ use strsim::osa_distance;
 
 // A word that becomes `begin` by this many edits may be a misspelling of it.
 const MOST_EDITS: usize = 2;
-
-/// A line that isn't a command.
-#[derive(Drop)]
-pub struct Unread {
-    pub refusal: Refusal,
-    /// Its first word is `begin`, or may be a misspelling of it.
-    pub may_begin: bool,
-}
 
 /// The words of a line. Everything from the first quotation mark on is one word, the last.
 pub fn split_line<'a>(alloc: Global, line: &'a str) -> Result<Vec<&'a str>, AllocError> {
@@ -36,20 +28,10 @@ pub fn split_line<'a>(alloc: Global, line: &'a str) -> Result<Vec<&'a str>, Allo
 }
 
 /// The command that a line spells, or `None` for a line without words.
-pub fn parse_line(alloc: Global, line: Line<'_>) -> Result<Option<Command>, Unread> {
-    match parse_text(alloc, line) {
-        Ok(command) => Ok(command),
-        Err(refusal) => {
-            let may_begin = may_begin(alloc, first_word(line));
-            Err(Unread { refusal, may_begin })
-        }
-    }
-}
-
-fn parse_text(alloc: Global, line: Line<'_>) -> Result<Option<Command>, Refusal> {
+pub fn parse_line(alloc: Global, line: Line<'_>) -> Result<Option<Command>, Failure> {
     let text = text_of(line)?;
     let Ok(words) = split_line(alloc, text) else {
-        return Err(Refusal::Fault(Fault::OutOfMemory));
+        return Err(Failure::Fault(Fault::OutOfMemory));
     };
     if words.is_empty() {
         return Ok(None);
@@ -57,9 +39,9 @@ fn parse_text(alloc: Global, line: Line<'_>) -> Result<Option<Command>, Refusal>
     Ok(Some(parse_words(words.as_slice())?))
 }
 
-// Whether the word is `begin` in any case, or may be a misspelling of it.
-fn may_begin(alloc: Global, word: &[u8]) -> bool {
-    match str::from_utf8(word) {
+/// Whether the first word of the line is `begin` in any case, or may be a misspelling of it.
+pub fn may_begin(alloc: Global, line: Line<'_>) -> bool {
+    match str::from_utf8(first_word(line)) {
         Ok(word) => is_near_begin(alloc, word).unwrap_or(true),
         Err(_) => true,
     }
@@ -71,13 +53,13 @@ fn is_near_begin(alloc: Global, word: &str) -> Result<bool, AllocError> {
 }
 
 /// The command that these words spell.
-pub fn parse_words(words: &[&str]) -> Result<Command, Refusal> {
+pub fn parse_words(words: &[&str]) -> Result<Command, Failure> {
     let Some((name, arguments)) = words.split_first() else {
-        return Err(Refusal::Words(anyhow!("no command: help lists the commands")));
+        return Err(Failure::Words(anyhow!("no command: help lists the commands")));
     };
     match find_word(name) {
         Some(word) => parse_command(word, arguments),
-        None => Err(Refusal::Unknown(unknown_word(name))),
+        None => Err(Failure::Unknown(unknown_word(name))),
     }
 }
 
@@ -98,7 +80,7 @@ fn unknown_word(name: &str) -> Error {
     }
 }
 
-fn parse_command(word: Word, arguments: &[&str]) -> Result<Command, Refusal> {
+fn parse_command(word: Word, arguments: &[&str]) -> Result<Command, Failure> {
     match (word, arguments) {
         (Word::Load, []) => Ok(Command::Load),
         (Word::Quit, []) => Ok(Command::Quit),
@@ -126,7 +108,7 @@ fn parse_timing(word: &str) -> Result<Command, Error> {
     }
 }
 
-fn parse_request(word: Word, arguments: &[&str]) -> Result<Request, Refusal> {
+fn parse_request(word: Word, arguments: &[&str]) -> Result<Request, Failure> {
     match (word, arguments) {
         (Word::Put, [table, key, row]) => parse_put(table, key, row),
         (Word::Del, [table, key]) => Ok(parse_delete(table, key)?),
@@ -134,11 +116,11 @@ fn parse_request(word: Word, arguments: &[&str]) -> Result<Request, Refusal> {
         (Word::Scan, _) => Ok(Request::Scan(parse_scan(arguments)?)),
         (Word::Count, [table]) => Ok(parse_count(table)?),
         (_, []) => Ok(parse_word(word)?),
-        _ => Err(Refusal::Words(wrong_words(word))),
+        _ => Err(Failure::Words(wrong_words(word))),
     }
 }
 
-fn parse_put(table: &str, key: &str, row: &str) -> Result<Request, Refusal> {
+fn parse_put(table: &str, key: &str, row: &str) -> Result<Request, Failure> {
     let (key, row) = parse_key_and_row("put", table, key, row)?;
     Ok(Request::Put { key, row })
 }
@@ -149,7 +131,7 @@ pub fn parse_key_and_row(
     table: &str,
     key: &str,
     row: &str,
-) -> Result<(Key, Row), Refusal> {
+) -> Result<(Key, Row), Failure> {
     let key = parse_key(command, table, key)?;
     let row = parse_row(command, row)?;
     Ok((key, row))

@@ -1,21 +1,19 @@
 use crate::answers::{Manner, Printer, Terminals};
 use crate::command::Command;
+use crate::failure::Failure;
 use crate::help::Word;
-use crate::opening::{open, reason_of};
+use crate::opening::open_store;
 use crate::options::{Options, command_line, read_options};
-use crate::refusal::{Failure, Reason, Refusal, Stop};
 use crate::shell::{Outcome, answer_command, answer_lines};
 use base::fault::Fault;
 use clap::error::ErrorKind;
-use database::{Database, Refused};
-use pmem_file::OpenError;
 use std::alloc::Global;
 use std::fs::File;
 use std::io;
 use std::rt::{Clock, Files};
 use std::sync::Wait;
 use std::thread::Threads;
-use store::Device;
+use store::{OpenError, StoreError};
 
 const DONE: u8 = 0;
 
@@ -61,11 +59,7 @@ pub fn obey_words<
             warn_of_row(rt, words);
         }
     }
-    match serve(rt, alloc, &options, manner) {
-        Ok(false) => DONE,
-        Ok(true) => REFUSED,
-        Err(failure) => fail(rt, options.file, &failure),
-    }
+    serve(rt, alloc, &options, manner)
 }
 
 /// Says that the words can't be read. Returns the exit status.
@@ -74,7 +68,7 @@ pub fn report_failed(rt: &impl Eprint, error: &io::Error) -> u8 {
     FAILED
 }
 
-fn report_bad_words(rt: &impl Eprint, error: &Refusal) -> u8 {
+fn report_bad_words(rt: &impl Eprint, error: &Failure) -> u8 {
     let _ = eprintln!(rt; "kv: {error}");
     BAD_WORDS
 }
@@ -116,23 +110,7 @@ fn print_help(
     printer.help(word)
 }
 
-// Says why the store couldn't be used to the end. Returns the exit status.
-fn fail(rt: &impl Eprint, name: &str, failure: &Failure) -> u8 {
-    if matches!(failure, Failure::Told) {
-        return FAILED;
-    }
-    let _ = eprintln!(rt; "kv: {name}: {failure}");
-    match failure {
-        Failure::HasLayout { .. } => BAD_WORDS,
-        Failure::File(OpenError::Trailing { length, .. }) => {
-            let _ = eprintln!(rt; "kv: truncate -s {length} {name} cuts them off");
-            FAILED
-        }
-        _ => FAILED,
-    }
-}
-
-// Opens the file, runs the command or each line of the input, and closes the file. Returns whether a line was refused.
+// Opens the file, runs the command or each line of the input, and closes the file. Returns the exit status.
 fn serve<
     R: Input
         + Print
@@ -146,52 +124,82 @@ fn serve<
         + Send
         + Sync
         + 'static,
->(rt: &R, alloc: Global, options: &Options<'_>, manner: Manner) -> Result<bool, Failure> {
-    let database = open_database(rt, alloc, options)?;
+>(rt: &R, alloc: Global, options: &Options<'_>, manner: Manner) -> u8 {
+    let store = match open_store(rt, alloc, options) {
+        Ok(store) => store,
+        Err(failure) => return fail(rt, options.file, &failure),
+    };
     let answered = match &options.command {
-        Some(given) => answer_command(rt, alloc, &database, manner, &given.command),
-        None => answer_lines(rt, alloc, &database, manner, options.bails),
+        Some(given) => answer_command(rt, alloc, &store, manner, &given.command),
+        None => answer_lines(rt, alloc, &store, manner, options.bails),
     };
-    let was_refused = close(database, answered)?;
-    if options.command.is_none() {
-        println!(rt; "closed").map_err(Stop::Output)?;
-    }
-    Ok(was_refused)
-}
-
-// Opens the file. Lines, and a command that puts rows, create it if it is missing.
-fn open_database<
-    R: Eprint + Clock + Files<File = File> + Threads + Wait + Copy + Drop + Send + Sync + 'static,
->(rt: &R, alloc: Global, options: &Options<'_>) -> Result<Database<Device, R>, Failure> {
-    let (device, _) = open(rt, alloc, options)?;
-    match Database::open(*rt, alloc, device) {
-        Ok(database) => Ok(database),
-        Err(Refused { fault, device }) => Err(Failure::NotOpened(reason_of(device, fault))),
+    match store.close() {
+        Ok(()) => end(rt, options, answered),
+        Err(error) => fail_close(rt, options.file, error, answered),
     }
 }
 
-// Closes the store. Returns whether a line was refused, or why the store couldn't be used to the end.
-fn close<R: Wait + Drop>(
-    database: Database<Device, R>,
-    answered: Result<Outcome, Stop>,
+// Says that the file is closed, or why no more lines were run. Returns the exit status.
+fn end(
+    rt: &(impl Print + Eprint),
+    options: &Options<'_>,
+    answered: Result<Outcome, Failure>,
+) -> u8 {
+    match say_closed(rt, options, answered) {
+        Ok(true) => REFUSED,
+        Ok(false) => DONE,
+        Err(failure) => fail(rt, options.file, &failure),
+    }
+}
+
+// Says that the file is closed, unless it was opened for one command. Returns whether a line was refused.
+fn say_closed(
+    rt: &impl Print,
+    options: &Options<'_>,
+    answered: Result<Outcome, Failure>,
 ) -> Result<bool, Failure> {
-    let reason = match database.close() {
-        Ok(device) => match device.close() {
-            Ok(_) => return Ok(answered?.was_refused),
-            Err(error) if error.kind() == io::ErrorKind::NotFound => return Err(Failure::Unlinked),
-            Err(error) => Reason::Io(error),
-        },
-        Err(Refused { fault, device }) => reason_of(device, fault),
-    };
-    if is_told(&answered, &reason) {
-        return Err(Failure::Told);
+    let outcome = answered?;
+    if options.command.is_none() {
+        println!(rt; "closed").map_err(Failure::Output)?;
     }
-    let stop = answered.err().unwrap_or(Stop::AtClose);
-    Err(Failure::NotClosed { reason, stop })
+    Ok(outcome.was_refused)
+}
+
+// Says why the store couldn't be used to the end. Returns the exit status.
+fn fail(rt: &impl Eprint, name: &str, failure: &Failure) -> u8 {
+    let _ = eprintln!(rt; "kv: {name}: {failure}");
+    match failure {
+        Failure::HasLayout { .. } => BAD_WORDS,
+        Failure::File(OpenError::Trailing { length, .. }) => {
+            let _ = eprintln!(rt; "kv: truncate -s {length} {name} cuts them off");
+            FAILED
+        }
+        _ => FAILED,
+    }
+}
+
+// Says why the store isn't closed, and what is kept, unless a line was refused for the same reason. Returns the exit status.
+fn fail_close(
+    rt: &impl Eprint,
+    name: &str,
+    error: StoreError,
+    answered: Result<Outcome, Failure>,
+) -> u8 {
+    let cause = match Failure::from(error) {
+        Failure::Lost(cause) if cause.kind() == io::ErrorKind::NotFound => {
+            return fail(rt, name, &Failure::Unlinked);
+        }
+        cause => cause,
+    };
+    if !is_told(&answered, &cause) {
+        let stop = answered.err().unwrap_or(Failure::AtClose);
+        let _ = eprintln!(rt; "kv: {name}: {cause}: {stop}");
+    }
+    FAILED
 }
 
 // Whether a line was refused for the same reason: no timestamps or record numbers are left.
-fn is_told(answered: &Result<Outcome, Stop>, reason: &Reason) -> bool {
+fn is_told(answered: &Result<Outcome, Failure>, cause: &Failure) -> bool {
     let is_spent = matches!(answered, Ok(outcome) if outcome.is_spent);
-    is_spent && matches!(reason, Reason::Fault(Fault::TimestampsOut))
+    is_spent && matches!(cause, Failure::Fault(Fault::TimestampsOut))
 }

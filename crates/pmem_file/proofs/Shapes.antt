@@ -14,7 +14,7 @@ use Rattle.log_area.specs.Rulings.{IsLaidOut}
 use Rattle.pmem_file.specs.declared.shape.Shape.{Shape}
 use Rattle.pmem_file.specs.Journaled.{places_named}
 use Rattle.pmem_file.proofs.Named.{named-of}
-use Rattle.pmem_file.specs.Shapes.{IsBlank, IsImageOf, HasItsPlaces, HasShape, IsMadeFor, IsGrown, IsGrowing, IsNothingBehind, IsOurs, KeepsNames, least_room, room_made, room_older, whole, padded}
+use Rattle.pmem_file.specs.Shapes.{IsBlank, IsImageOf, HasItsPlaces, HasShape, IsMadeFor, IsGrown, IsGrowing, IsNothingBehind, IsOurs, KeepsNames, room_made, room_needed, room_older, whole, padded}
 
 zero-magic : 0 ≢ magic
 zero-magic e = omega (arith, e)
@@ -145,22 +145,32 @@ growing-tail asked words size room file tail g =
     named x word is (inl zero) = inl (sym is ∙ zero)
     named x word is (inr name) = inr (sym is ∙ name)
 
--- a journal has room for an entry of all lines, however it was made
-made-entry : (words room : ℕ) → (room ≡ room_made words) ⊎ (room ≡ room_older words) → least_room words ≤ room
-made-entry words room (inl now) = grind (arith, now)
-made-entry words room (inr older) = grind (arith, older)
+-- the words are an image of one layout
+pub image-one : (asked : Option Layout) (a b : Layout) (words : List ℕ) → IsImageOf asked a words → IsImageOf asked b words → a ≡ b
+image-one asked a b words (inl laid) (inl other) = sym laid.laid_out ∙ other.laid_out
+image-one asked a b words (inl laid) (inr (is, blank)) = absurd (grind (arith, and_parts, eqb-true, laid.formatted, blank.first))
+image-one asked a b words (inr (is, blank)) (inl laid) = absurd (grind (arith, and_parts, eqb-true, laid.formatted, blank.first))
+image-one asked a b words (inr (is, blank)) (inr (is', blank')) = cc (sym is ∙ is')
+
+-- a journal has the room that it needs, however it was made
+made-entry : (a : Layout) (room : ℕ) → (room ≡ room_made a) ⊎ (room ≡ room_older a) → room_needed a ≤ room
+made-entry a room (inl now) = grind (arith, now)
+made-entry a room (inr older) = grind (arith, older)
+
+pub older_enough : (a : Layout) → room_needed a ≤ room_older a
+older_enough a = made-entry a (room_older a) (inr refl)
 
 pub no-ours-tail : (asked : Option Layout) (words : List ℕ) (size room : ℕ) → ((own : Layout) → ¬ IsImageOf asked own words) → IsFile size room (length words) → HasTail size room words
-    → ((image : List ℕ) (own : Layout) → least_room size ≤ room → Opens size room words image → ¬ IsImageOf asked own image) → ¬ IsOurs asked words
+    → ((image : List ℕ) (own : Layout) → room_needed own ≤ room → Opens size room words image → ¬ IsImageOf asked own image) → ¬ IsOurs asked words
 no-ours-tail asked words size room whole_not file tail none ours = elim ours [
   | inl one ↦ whole_not one.0 one.1
   | inr (inl j) ↦ (let same = one-tail words size room j.size j.room file j.is_file tail j.tail in moved j.size j.room same.0 same.1 j.image j.layout j.entry j.opens j.image_is)
   | inr (inr g) ↦ (let same = growing-tail asked words size room file tail g in
-      moved (total_words g.layout) g.room same.0 same.1 (take (total_words g.layout) words) g.layout (made-entry (total_words g.layout) g.room g.made) (grown-opens g) g.image_is)
+      moved (total_words g.layout) g.room same.0 same.1 (take (total_words g.layout) words) g.layout (made-entry g.layout g.room g.made) (grown-opens g) g.image_is)
 ]
   where
     None : ℕ → ℕ → Type 0
-    None size room = (image : List ℕ) (own : Layout) → least_room size ≤ room → Opens size room words image → ¬ IsImageOf asked own image
+    None size room = (image : List ℕ) (own : Layout) → room_needed own ≤ room → Opens size room words image → ¬ IsImageOf asked own image
 
     moved : (size' room' : ℕ) → size ≡ size' → room ≡ room' → None size' room'
     moved size' room' s r = subst (λ (n : ℕ). None n room') s (subst (λ (n : ℕ). None size n) r none)
@@ -189,13 +199,13 @@ growing-limits a words le laid =
 abbrev NoneOf : Option Layout → List ℕ → ℕ → ℕ → Type 0
 NoneOf asked words size room = (own : Layout) → length words ≡ size + room + 8 → IsNothingBehind size room (drop size words) → ¬ IsImageOf asked own (take size words)
 
-pub no-growing : (asked : Option Layout) (own : Layout) (words : List ℕ) (new older : Shape) → ((g : IsGrowing asked words) → own ≡ g.layout) → IsMadeFor own new → new.room ≡ room_made new.words → IsMadeFor own older
-    → older.room ≡ room_older older.words → NoneOf asked words new.words new.room → NoneOf asked words older.words older.room → ¬ IsGrowing asked words
+pub no-growing : (asked : Option Layout) (own : Layout) (words : List ℕ) (new older : Shape) → ((g : IsGrowing asked words) → own ≡ g.layout) → IsMadeFor own new → new.room ≡ room_made own → IsMadeFor own older
+    → older.room ≡ room_older own → NoneOf asked words new.words new.room → NoneOf asked words older.words older.room → ¬ IsGrowing asked words
 no-growing asked own words new older is made room made' room' none none' g =
     let size : total_words own ≡ total_words g.layout = ap total_words (is g) in
     elim g.made [
-      | inl now ↦ against new (made.words_are ∙ size) (room ∙ ap room_made (made.words_are ∙ size) ∙ sym now) none
-      | inr before ↦ against older (made'.words_are ∙ size) (room' ∙ ap room_older (made'.words_are ∙ size) ∙ sym before) none'
+      | inl now ↦ against new (made.words_are ∙ size) (room ∙ ap room_made (is g) ∙ sym now) none
+      | inr before ↦ against older (made'.words_are ∙ size) (room' ∙ ap room_older (is g) ∙ sym before) none'
     ]
   where
     against : (shape : Shape) → shape.words ≡ total_words g.layout → shape.room ≡ g.room → NoneOf asked words shape.words shape.room → ⊥
@@ -204,26 +214,29 @@ no-growing asked own words new older is made room made' room' none none' g =
 
 -- behind the image that the superblock names a journal was being made
 pub grown : (words : List ℕ) (own : Layout) (shape : Shape) → own ≡ layout_of words → IsTrue (is_in_limits (layout_of words)) → IsMadeFor own shape
-    → (shape.room ≡ room_made shape.words) ⊎ (shape.room ≡ room_older shape.words) → length words ≡ whole shape → IsNothingBehind shape.words shape.room (drop shape.words words) → IsGrown shape.words words
+    → (shape.room ≡ room_made own) ⊎ (shape.room ≡ room_older own) → length words ≡ whole shape → IsNothingBehind shape.words shape.room (drop shape.words words) → IsGrown shape.words words
 grown words own shape is limits made room size behind = record {
   some = omega (arith, size);
   limits = limits;
   size_is = made.words_are ∙ ap total_words is;
   room = shape.room;
-  made = room;
+  made = elim room [
+    | inl now ↦ inl (now ∙ ap room_made is)
+    | inr older ↦ inr (older ∙ ap room_older is)
+  ];
   whole_is = size;
   behind = behind;
 }
 
 -- behind the image that the superblock names nothing was being made
-pub ungrown : (words : List ℕ) (own : Layout) (new older : Shape) → own ≡ layout_of words → IsMadeFor own new → new.room ≡ room_made new.words → IsMadeFor own older → older.room ≡ room_older older.words
+pub ungrown : (words : List ℕ) (own : Layout) (new older : Shape) → own ≡ layout_of words → IsMadeFor own new → new.room ≡ room_made own → IsMadeFor own older → older.room ≡ room_older own
     → ((length words ≡ whole new) × IsNothingBehind new.words new.room (drop new.words words) → ⊥) → ((length words ≡ whole older) × IsNothingBehind older.words older.room (drop older.words words) → ⊥)
     → (size : ℕ) → ¬ IsGrown size words
 ungrown words own new older is made room made' room' none none' size g =
     let size_is : total_words own ≡ size = ap total_words is ∙ sym g.size_is in
     elim g.made [
-      | inl now ↦ against new (made.words_are ∙ size_is) (room ∙ ap room_made (made.words_are ∙ size_is) ∙ sym now) none
-      | inr before ↦ against older (made'.words_are ∙ size_is) (room' ∙ ap room_older (made'.words_are ∙ size_is) ∙ sym before) none'
+      | inl now ↦ against new (made.words_are ∙ size_is) (room ∙ ap room_made is ∙ sym now) none
+      | inr before ↦ against older (made'.words_are ∙ size_is) (room' ∙ ap room_older is ∙ sym before) none'
     ]
   where
     against : (shape : Shape) → shape.words ≡ size → shape.room ≡ g.room → ((length words ≡ whole shape) × IsNothingBehind shape.words shape.room (drop shape.words words) → ⊥) → ⊥

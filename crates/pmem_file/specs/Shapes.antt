@@ -1,9 +1,9 @@
 -- What the words of a file hold that is opened as a device.
-use Rattle.std.specs.Prelude.{◌≡◌, ◌⊎◌, ℕ, ◌+◌, ◌-◌, ◌*◌, ◌/◌, ◌<◌, ◌≤◌, ◌^◌, List, ◌++◌, drop, length, max, min, replicate, slice_index, take, true, IsTrue, Option, Some}
+use Rattle.std.specs.Prelude.{◌≡◌, ◌⊎◌, ℕ, ◌+◌, ◌-◌, ◌*◌, ◌/◌, ◌<◌, ◌≤◌, ◌^◌, if◌then◌else◌, List, ◌++◌, drop, length, max, min, replicate, slice_index, take, true, IsTrue, Option, Some}
 use Rattle.std.specs.IoError.{error_kind}
 use Rattle.std.specs.declared.io.ErrorKind.TheVariants.{OutOfMemory}
 use Rattle.base.specs.Images.{layout_of}
-use Rattle.base.specs.Layout.{Layout, is_in_limits, slot_start, total_words}
+use Rattle.base.specs.Layout.{Layout, is_in_limits, is_large, slot_start, total_words}
 use Rattle.journal.specs.Files.{HasTail, IsFile, Opens, tail_of}
 use Rattle.log_area.specs.Rulings.{IsLaidOut}
 use Rattle.pmem_file.specs.declared.opening.OpenError.{OpenError}
@@ -48,9 +48,14 @@ pub record HasShape (asked : Option Layout) (words : List ℕ) (shape : Shape) :
 abbrev pub KeepsNames : Option Layout → List ℕ → Shape → Type 0
 KeepsNames asked words shape = (size room : ℕ) → IsFile size room (length words) → HasTail size room words → ((own : Layout) → ¬ IsImageOf asked own words) → (shape.words ≡ size) × (shape.room ≡ room)
 
--- how many words a journal has room for at least: for an entry of all lines of an image of `words`, in whole lines
+-- the room of an entry of all lines of an image of `words`, in whole lines
 abbrev pub least_room : ℕ → ℕ
 least_room words = (9 * (words / 8) + 23) / 8 * 8
+
+-- How much room a journal has at least behind an image of the layout: for an entry of all lines. Behind a large image an ample one is
+-- enough, which has room for 58,254 lines.
+abbrev pub room_needed : Layout → ℕ
+room_needed a = if is_large a.version then min (least_room (total_words a)) 524288 else least_room (total_words a)
 
 -- each of these words is 0, or the one that the first tail of a file has there, behind an image of `size` words and a journal of
 -- `room`; its first is 0, so it doesn't count yet
@@ -63,24 +68,24 @@ pub record IsNothingBehind (size room : ℕ) (behind : List ℕ) : Type 0 where
   pub zeros : (word : ℕ) → word < room → slice_index behind word ≡ 0
   pub tail : IsFirstTail size room (drop room behind)
 
--- a shape that is made for an image of the layout: its journal has room for an entry of all lines
+-- a shape that is made for an image of the layout: its journal has the room that it needs there
 pub record IsMadeFor (a : Layout) (shape : Shape) : Type 0 where
   pub words_are : shape.words ≡ total_words a
   pub places_are : shape.places ≡ a.places
-  pub entry : 1 + 9 * (shape.words / 8) ≤ shape.room
+  pub entry : room_needed a ≤ shape.room
   pub fits : whole shape < 2 ^ 58
 
 -- ---- what a file of ours holds, however it was left
 
--- the room with which a journal is made: for three entries of all lines, if an ample one has as much, and for one at least
-abbrev pub room_made : ℕ → ℕ
-room_made words = max (max (least_room words) (min (3 * least_room words) 524288)) 131072
+-- the room with which a journal is made: for three entries of all lines, if an ample one has as much, and what it needs at least
+abbrev pub room_made : Layout → ℕ
+room_made a = max (max (room_needed a) (min (3 * least_room (total_words a)) 524288)) 131072
 
 -- the room with which older programs made it
-abbrev pub room_older : ℕ → ℕ
-room_older words = max (least_room words) 131072
+abbrev pub room_older : Layout → ℕ
+room_older a = max (least_room (total_words a)) 131072
 
--- an image with a journal behind it, which has room for an entry of all lines
+-- an image with a journal behind it, which has the room that it needs there
 pub record IsJournaled (asked : Option Layout) (words : List ℕ) : Type 0 where
   pub size : ℕ
   pub room : ℕ
@@ -88,7 +93,7 @@ pub record IsJournaled (asked : Option Layout) (words : List ℕ) : Type 0 where
   pub image : List ℕ
   pub is_file : IsFile size room (length words)
   pub tail : HasTail size room words
-  pub entry : least_room size ≤ room
+  pub entry : room_needed layout ≤ room
   pub opens : Opens size room words image
   pub image_is : IsImageOf asked layout image
 
@@ -96,7 +101,7 @@ pub record IsJournaled (asked : Option Layout) (words : List ℕ) : Type 0 where
 pub record IsGrowing (asked : Option Layout) (words : List ℕ) : Type 0 where
   pub layout : Layout
   pub room : ℕ
-  pub made : (room ≡ room_made (total_words layout)) ⊎ (room ≡ room_older (total_words layout))
+  pub made : (room ≡ room_made layout) ⊎ (room ≡ room_older layout)
   pub size : length words ≡ total_words layout + room + 8
   pub image_is : IsImageOf asked layout (take (total_words layout) words)
   pub named : IsTrue (is_in_limits (layout_of words)) → layout_of words ≡ layout
@@ -108,7 +113,7 @@ pub record IsGrown (size : ℕ) (words : List ℕ) : Type 0 where
   pub limits : IsTrue (is_in_limits (layout_of words))
   pub size_is : size ≡ total_words (layout_of words)
   pub room : ℕ
-  pub made : (room ≡ room_made size) ⊎ (room ≡ room_older size)
+  pub made : (room ≡ room_made (layout_of words)) ⊎ (room ≡ room_older (layout_of words))
   pub whole_is : length words ≡ size + room + 8
   pub behind : IsNothingBehind size room (drop size words)
 

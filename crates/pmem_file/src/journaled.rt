@@ -155,7 +155,7 @@ impl<I: Images> JournaledPmem<I> {
         ensures stored { result ≡ true → device_of self.new.trace ≡ stored word value (device_of self.old.trace) }
         ensures refused { result ≡ false → device_of self.new.trace ≡ failed (device_of self.old.trace) }
     {
-        if !keeps_places(&self.words, self.places, word, value) {
+        if word < 8 && !keeps_places(&self.words, self.places, word, value) {
             let _ = self.refuse();
             return false;
         }

@@ -1,14 +1,14 @@
 ghost use Rattle.std.specs.Prelude.{◌≡◌, ◌↔◌, ◌+◌, ◌*◌, ◌/◌, ◌<◌, ◌≤◌, ◌^◌, ℕ, List, drop, length, slice_index, take, Err, IfErr, IfNone, IfOk, IfSome, IsOk, IsTrue, None, OnSome, Some, true};
 ghost use Rattle.std.specs.IoError.{error_kind};
 ghost use Rattle.std.specs.declared.io.ErrorKind.TheVariants.{OutOfMemory};
-ghost use Rattle.base.specs.Layout.{Layout, is_in_limits};
+ghost use Rattle.base.specs.Layout.{Layout, is_in_limits, is_large};
 ghost use Rattle.base.specs.Images.{layout_of};
 ghost use Rattle.journal.specs.Files.{HasTail, IsFile, Opens};
 ghost use Rattle.journal.specs.Images.{last_image, room_of, storage_of};
 ghost use Rattle.journal.specs.Kept.{IsFound};
 ghost use Rattle.log_area.specs.Rulings.{IsLaidOut, layout_damage};
 ghost use Rattle.pmem_file.specs.declared.opening.OpenError.{OpenError};
-ghost use Rattle.pmem_file.specs.Shapes.{HasShape, IsBlank, IsFirstTail, IsForMemory, IsGrowing, IsGrown, IsImageOf, IsNothingBehind, IsOurs, KeepsNames, least_room, room_made, whole};
+ghost use Rattle.pmem_file.specs.Shapes.{HasShape, IsBlank, IsFirstTail, IsForMemory, IsGrowing, IsGrown, IsImageOf, IsNothingBehind, IsOurs, KeepsNames, least_room, room_made, room_needed, room_older, whole};
 
 use crate::journaled::JournaledPmem;
 use crate::opening::OpenError;
@@ -30,7 +30,9 @@ const MOST_BYTES: u64 = 4_563_437_952;
 // A journal of 1 MiB has room for two thousand commits of a row each, and only then the image is written in place.
 const LEAST_ROOM: usize = 131_072;
 
-// One of 4 MiB is long enough for any image: with more, opening would take longer, and no commit less.
+// One of 4 MiB is long enough for any image: with more, opening would take longer, and no commit less. It has room for all lines
+// that are stored to between two images, as far as a large image has no more of them: those of the rows of all transactions at
+// once, and of the slots in all gaps.
 const AMPLE_ROOM: usize = 524_288;
 
 /// What a file holds: an image, with its number of words and of places for records, and a journal behind it with its room, which may
@@ -50,26 +52,25 @@ impl Shape {
     #[tactic(auto, unfolding(base::specs::Layout::most_slots))]
     fn new(geometry: Geometry) -> Shape
         ensures made { IsMadeFor geometry result }
-        ensures room { result.room ≡ room_made result.words }
+        ensures room { result.room ≡ room_made geometry }
     {
-        let words = geometry.words() as usize;
         Shape {
-            words,
-            room: room_behind(words),
+            words: geometry.words() as usize,
+            room: room_made(geometry),
             places: geometry.places() as usize,
         }
     }
 
     // The same, with a journal as older programs made it.
+    #[tactic(auto, using(crate::proofs::Shapes::older_enough), unfolding(base::specs::Layout::most_slots))]
     fn older(geometry: Geometry) -> Shape
         ensures made { IsMadeFor geometry result }
-        ensures room { result.room ≡ room_older result.words }
+        ensures room { result.room ≡ room_older geometry }
     {
-        let shape = Shape::new(geometry);
         Shape {
-            words: shape.words,
-            room: least_room(shape.words).max(LEAST_ROOM),
-            places: shape.places,
+            words: geometry.words() as usize,
+            room: room_older(geometry),
+            places: geometry.places() as usize,
         }
     }
 
@@ -82,14 +83,42 @@ impl Shape {
 }
 
 // How much room a journal is made with: for three entries of all lines, so that the image is written in place once for that many
-// words of entries, if an ample one has as much; and at least for one.
-fn room_behind(words: usize) -> usize
-    requires { words < 2 ^ 32 }
-    ensures { result ≡ room_made words }
+// words of entries, if an ample one has as much; and at least what it needs.
+#[tactic(auto, unfolding(base::specs::Layout::most_slots))]
+fn room_made(geometry: Geometry) -> usize
+    ensures { result ≡ room_made geometry }
 {
-    let least = least_room(words);
+    let least = least_room(geometry.words() as usize);
     let several = least.saturating_mul(3).min(AMPLE_ROOM);
-    least.max(several).max(LEAST_ROOM)
+    room_needed(geometry).max(several).max(LEAST_ROOM)
+}
+
+// How much room older programs made it with.
+#[tactic(auto, unfolding(base::specs::Layout::most_slots))]
+fn room_older(geometry: Geometry) -> usize
+    ensures { result ≡ room_older geometry }
+{
+    least_room(geometry.words() as usize).max(LEAST_ROOM)
+}
+
+// How much room it needs: for an entry of all lines, and behind a large image no more than an ample one.
+#[tactic(auto, unfolding(base::specs::Layout::most_slots))]
+fn room_needed(geometry: Geometry) -> usize
+    ensures { result ≡ room_needed geometry }
+{
+    let least = least_room(geometry.words() as usize);
+    if is_large(geometry) {
+        least.min(AMPLE_ROOM)
+    } else {
+        least
+    }
+}
+
+fn is_large(geometry: Geometry) -> bool
+    ensures { result ≡ is_large geometry.version }
+{
+    let version = geometry.version();
+    version == Geometry::LARGE_VERSION || version == Geometry::LARGE_WIDE_VERSION
 }
 
 // For an entry of all lines: a word that begins it, and of each line its number and its words.
@@ -267,7 +296,7 @@ fn shape_in(alloc: Global, file: &[u64], asked: &Option<Geometry>) -> io::Result
     }
 }
 
-// The shape of a file with a tail. `None` if what it stands for isn't an image, or an entry of all lines doesn't fit.
+// The shape of a file with a tail. `None` if what it stands for isn't an image, or if the journal hasn't the room that it needs.
 #[tactic(auto, using(crate::proofs::Shapes::journaled))]
 fn journaled_shape(
     alloc: Global,
@@ -279,22 +308,22 @@ fn journaled_shape(
     requires file { IsFile words room (length file.now) }
     requires tail { HasTail words room file.now }
     ensures some { IfOk result (λ found. IfSome found (HasShape asked.now file.now)) }
-    ensures none { IfOk result (λ found. IfNone found ((image : List ℕ) (own : Layout) → least_room words ≤ room → Opens words room file.now image → ¬ IsImageOf asked.now own image)) }
+    ensures none { IfOk result (λ found. IfNone found ((image : List ℕ) (own : Layout) → room_needed own ≤ room → Opens words room file.now image → ¬ IsImageOf asked.now own image)) }
     ensures memory { IfErr result (λ error. error_kind error ≡ OutOfMemory) }
     ensures named { IfOk result (λ found. IfSome found (λ shape. (shape.words ≡ words) × (shape.room ≡ room))) }
 {
-    if room < least_room(words) {
+    let image = image_in(alloc, file, words, room)?;
+    let Some(own) = layout_of(alloc, image.as_slice(), asked)? else {
+        return Ok(None);
+    };
+    if room < room_needed(own) {
         return Ok(None);
     }
-    let image = image_in(alloc, file, words, room)?;
-    match layout_of(alloc, image.as_slice(), asked)? {
-        Some(own) => Ok(Some(Shape {
-            words,
-            room,
-            places: own.places() as usize,
-        })),
-        None => Ok(None),
-    }
+    Ok(Some(Shape {
+        words,
+        room,
+        places: own.places() as usize,
+    }))
 }
 
 /// Opening a file that may be found of images, once all has stopped, finds the words and the room that they have.

@@ -9,7 +9,8 @@ use Rattle.txn.specs.declared.drawn.DrawnCommit.{DrawnCommit}
 use Rattle.dirty_table.specs.Touches.{has}
 use Rattle.group_commit.specs.Cycles.{Cycling}
 use Rattle.group_commit.specs.Laws.{IsAfter}
-use Rattle.session_steps.specs.Shows.{line_numbers, Shows as SessionsShow}
+use Rattle.simulation.specs.cycles.Batches.{line_numbers}
+use Rattle.session_steps.specs.Shows.{Shows as SessionsShow}
 use Rattle.session_steps.specs.declared.sessions.Sessions.{Sessions}
 use Rattle.room.specs.declared.volatile.VolatileState.{VolatileState}
 

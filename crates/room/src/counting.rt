@@ -7,8 +7,8 @@ impl<D: Pmem + Drop> Room<D> {
     ghost use Rattle.room.specs.Room.{Shows};
     ghost use Rattle.room.specs.Usage.{ShowsUsage};
 
-    /// How many rows are covered, and how many slots hold no version, of every state that the room shows (`ShowsUsage`). It looks
-    /// at each slot and at each key, and takes no memory.
+    /// How many rows are covered, and how many slots hold no version, of every state that the room shows (`ShowsUsage`). Both
+    /// are counted as they change, so it takes no memory and no time that grows with the store.
     pub fn usage(&self) -> Usage
         ensures { (q : State) → Shows D.state self.now q → ShowsUsage q result }
     {

@@ -10,7 +10,8 @@ use Rattle.txn.specs.declared.drawn.DrawnCommit.{DrawnCommit}
 use Rattle.dirty_table.specs.declared.sessions.SessionSet.{SessionSet}
 use Rattle.dirty_table.specs.Touches.{has, lines_touched}
 use Rattle.session_steps.specs.declared.sessions.Sessions.{Sessions}
-use Rattle.session_steps.specs.Shows.{plain_drawn, line_numbers, HoldsLines, Shows}
+use Rattle.simulation.specs.cycles.Batches.{line_numbers}
+use Rattle.session_steps.specs.Shows.{plain_drawn, HoldsLines, Shows}
 
 -- what the sessions show they also show with any pending batch, or as failed, on a device that upholds that state
 pub record ShowsAnyHand : Type 0 where

@@ -22,7 +22,7 @@ use Rattle.index.specs.Entries.{entry_at, has_room, live_of}
 use Rattle.state_invariant.specs.Kept.{Origin, IsInUse, commits_of_life, version_by}
 use Rattle.state_invariant.specs.Links.{HoldsNewest}
 use Rattle.device_invariant.specs.Slots.{newest_of}
-use Rattle.device_invariant.specs.Log.{lines_in, line_number}
+use Rattle.simulation.specs.cycles.Batches.{line_numbers}
 use Rattle.device_invariant.specs.Upholds.{Upholds}
 use Rattle.simulation.specs.sessions.Sees.{Sees, last_on}
 use Rattle.simulation.specs.steps.Moves.{IsSlotOf}
@@ -107,10 +107,6 @@ pub record HoldsEntry (o : Origin) (q : State) (key : Key) (entry : Entry) : Typ
 -- one of the drawn commits is the session's
 abbrev pub has_drawn_by : List DrawnCommit → ℕ → Bool
 has_drawn_by drawn n = list_any (λ d. nat_eq d.session n) drawn
-
--- the lines that a batch of these commits touches, by their numbers on the device
-abbrev pub line_numbers : State → List Commit → List ℕ
-line_numbers q commits = map (line_number q.layout) (lines_in q commits)
 
 -- The dirty table has for each drawn commit its lines, under its session's number, and no others.
 -- Excluded: a line of a drawn commit that isn't in the dirty table.

@@ -4,3 +4,5 @@ pub mod Trying
 pub mod Opening
 pub mod RangeReads
 pub mod Finding
+pub mod Works
+pub mod Closings

@@ -4,14 +4,18 @@ use Rattle.std.specs.Int.{w64, from_le_bytes}
 use Rattle.base.specs.declared.fault.Fault.{Fault}
 use Rattle.base.specs.declared.fault.Fault.TheVariants.{TooLong, Conflict}
 use Rattle.base.specs.declared.key.Key.{Key}
+use Rattle.base.specs.Layout.{row_limit}
 use Rattle.base.specs.declared.step.Step.{Step}
 use Rattle.base.specs.declared.step.Step.TheVariants.{Get, Scan}
 use Rattle.base.specs.declared.step.Reply.{Reply}
+use Rattle.room.specs.Runs.{ComesTo}
 use Rattle.database.specs.Replies.{row_of, rows_of}
 use Rattle.database.specs.Obeys.{AnswersStep}
 use Rattle.database.specs.declared.error.CommitError.{CommitError}
-use Rattle.database.specs.declared.error.CommitError.TheVariants.{Refused}
-use Rattle.database.specs.Committing.{AnswersPut, AnswersWrites, IsPrepared, MeetsConflictOn, ReportsError}
+use Rattle.database.specs.declared.error.CommitError.TheVariants.{Refused, Open}
+use Rattle.database.specs.Committing.{AnswersPut, AnswersWrites, IsPrepared, MeetsConflictOn, ReportsError, ReportsUnwritten}
+use Rattle.database.specs.Histories.{Known, DoesWrites, Replies, Sees}
+use Rattle.pmem.specs.Device.{Device}
 use Rattle.store.specs.declared.error.StoreError.{StoreError}
 use Rattle.store.specs.Errors.{error_of, commit_error}
 
@@ -33,6 +37,11 @@ abbrev pub ScanRefused : ℕ → ℕ → ℕ → ℕ → StoreError → Type 0
 ScanRefused session table start end error =
     (start < end) × ((fault : Fault) × (error ≡ error_of fault) × AnswersStep (Scan session table start (end - 1)) rows_of (Err fault))
 
+-- If the history is known, the rows are the reply to the scan of this table in the state that it leads to; if the range has no key, there are none
+abbrev pub SeesScan : Device → ℕ → Option Known → ℕ → ℕ → ℕ → List (Key × List ℕ) → Type 0
+SeesScan opened session trace table start end rows =
+    ((start < end) × Sees opened session trace (λ q. Replies q (Scan session table start (end - 1)) rows_of (Ok rows))) ⊎ ((end ≤ start) × (rows ≡ []))
+
 -- the session scanned such rows, and this is true of them
 abbrev pub OfScanned : ℕ → ℕ → ℕ → ℕ → (List (Key × List ℕ) → Type 0) → Type 0
 OfScanned session table start end Fact = (all : List (Key × List ℕ)) × Scans session table start end all × Fact all
@@ -53,6 +62,24 @@ Puts session key row limit (Err error) = (fault : Fault) × (error ≡ put_error
 abbrev pub MakesWrites : ℕ → List (Key × Option (List ℕ)) → ℕ → Result ⊤ StoreError → Type 0
 MakesWrites session writes limit (Ok done) = AnswersWrites session writes (Ok done)
 MakesWrites session writes limit (Err error) = (fault : Fault) × (error ≡ put_error limit fault) × AnswersWrites session writes (Err fault)
+
+-- Of the session the history has these writes, or those before the one that was refused, and no other step
+abbrev pub WritesIn : ℕ → List (Key × Option (List ℕ)) → Result ⊤ StoreError → Option Known → Option Known → Type 0
+WritesIn session writes (Ok done) old new = DoesWrites session writes (Ok done) old new
+WritesIn session writes (Err error) old new = (fault : Fault) × DoesWrites session writes (Err fault) old new
+
+-- the error for writes that aren't kept, or of which only the next opening shows whether they are
+abbrev pub write_error : ℕ → CommitError → StoreError
+write_error limit (Refused fault) = put_error limit fault
+write_error limit (Open fault) = StoreError.Unknown fault
+
+-- Writes in a transaction of their own weren't acknowledged, and this is the error, in a store whose rows have at most this many bytes
+pub record IsUnwritten (writes : List (Key × Option (List ℕ))) (error : StoreError) : Type 0 where
+  pub limit : ℕ
+  pub limited : ComesTo (λ q. limit ≡ row_limit q.layout.version)
+  pub refused : CommitError
+  pub becomes : error ≡ write_error limit refused
+  pub reported : ReportsUnwritten writes refused
 
 -- ---- a number
 

@@ -46,6 +46,10 @@ OpensLayout layout = (device : Device) × IsFoundWith layout device × (opening_
 abbrev pub OpensExisting : Type 0
 OpensExisting = (layout : Layout) × OpensLayout layout
 
+-- the device is at rest, its image has a layout, and opening it isn't refused
+abbrev pub MayOpen : Device → Type 0
+MayOpen device = (layout : Layout) × IsFoundWith layout device × (opening_fault (image_of device) ≡ None)
+
 -- a device at rest has this layout, and it isn't the one that was asked for
 abbrev pub HasOtherThan : Layout → Layout → Type 0
 HasOtherThan layout found = (opened_layout found ≢ opened_layout layout) × ((device : Device) × IsAtRest device × IsLaidOut found (image_of device))

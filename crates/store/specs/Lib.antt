@@ -5,3 +5,5 @@ pub mod Trying
 pub mod Opening
 pub mod Files
 pub mod Reads
+pub mod Working
+pub mod Closed

@@ -41,7 +41,7 @@ pub record Commits {F X T : Type 0} (step : F → X → Result T StoreError → 
   pub reported : ReportsCommit session timestamp
 
 -- how a try ends, unless it fails with an error other than a conflict
-abbrev pub EndsTry : {F X T : Type 0} → (F → X → Result T StoreError → X → F → Type 0) → (X → ℕ) → F → Attempt T → F → Type 0
+abbrev pub EndsTry : {F X T : Type 0} → (F → X → Result T StoreError → X → F → Type 0) → (X → ℕ) → F → Attempt T (Option ℕ) → F → Type 0
 EndsTry step session_of old (Attempt.Committed value timestamp) new = Commits step session_of old value timestamp new
 EndsTry step session_of old (Attempt.Conflict key) new = MeetsConflict step session_of old key new
 

@@ -44,18 +44,15 @@ pub fn open_file<R: Files<File = File>>(
     name: &str,
     geometry: Geometry,
 ) -> Result<Device, Refusal>
-    // The device is at rest, as `Database::open` needs it.
-    ensures rest { IfOk result (λ device. IsAtRest (state_of device)) }
+    // The device is at rest, as `Database::open` needs it, and its image has the layout that was asked for, except that an image
+    // of version 1 is opened as 2.
+    ensures found { IfOk result (λ device. IsFoundWith geometry (state_of device)) }
 
-    // Its image has the layout that was asked for, except that an image of version 1 is opened as 2.
-    ensures layout { IfOk result (λ device. (found : Layout) × IsLaidOut found (image_of (state_of device)) × (opened_layout found ≡ opened_layout geometry) × (places_of device ≡ found.places)) }
+    // It has the places of its image's layout.
+    ensures places { IfOk result (λ device. (found : Layout) × IsLaidOut found (image_of (state_of device)) × (places_of device ≡ found.places)) }
 
-    // Another layout is reported only if a device at rest has it, and it isn't the one that was asked for.
+    // As for `open_database`.
     ensures other { IfErr result (ReportsLayout geometry) }
-
-    // A fault is reported only if it keeps a device at rest from being opened. Either that device isn't formatted with the layout
-    // because of this fault, or its superblock is wrong in this way. Or it has the layout that was asked for, and opening it as a
-    // database is refused with this fault. That a file failed is reported only if a write or a sync of one did, for that cause.
     ensures fault { IfErr result (ReportsFault geometry) }
 {
     let device = match open_formatted(rt, alloc, name, geometry) {
@@ -66,7 +63,7 @@ pub fn open_file<R: Files<File = File>>(
         Ok(found) => found,
         Err(fault) => return Err(refusal_of(device, fault)),
     };
-    if !is_same(&found.opened(), &geometry.opened()) {
+    if found.opened() != geometry.opened() {
         let _ = device.close();
         return Err(Refusal::OtherLayout(found));
     }
@@ -86,6 +83,8 @@ pub fn find_file<R: Files<File = File>>(
     // The device is at rest and its image has the layout that is handed out. Nothing was done to it since it was opened. It has
     // the places of that layout.
     ensures found { IfOk result (λ found. IsFoundWith found.1 (state_of found.0)) }
+    ensures rest { IfOk result (λ found. IsAtRest (state_of found.0)) }
+    ensures layout { IfOk result (λ found. IsLaidOut found.1 (image_of (state_of found.0))) }
     ensures untouched { IfOk result (λ found. state_of found.0 ≡ restarted (image_of (state_of found.0))) }
     ensures places { IfOk result (λ found. places_of found.0 ≡ found.1.places) }
 {
@@ -123,33 +122,6 @@ fn open_formatted<R: Files<File = File>>(
     }
 }
 
-// Whether both layouts are the same.
-fn is_same(one: &Geometry, other: &Geometry) -> bool
-    ensures { IsTrue result ↔ (one.now ≡ other.now) }
-{
-    one.version() == other.version()
-        && one.slots() == other.slots()
-        && one.places() == other.places()
-        && one.window() == other.window()
-}
-
-// The same as `open_file`, with all that is known about the device in one fact.
-fn open_found<R: Files<File = File>>(
-    rt: &R,
-    alloc: Global,
-    name: &str,
-    geometry: Geometry,
-) -> Result<Device, Refusal>
-    ensures ok { IfOk result (λ device. IsFoundWith geometry (state_of device)) }
-    ensures err { IfErr result (ReportsLayout geometry) }
-    ensures fault { IfErr result (ReportsFault geometry) }
-{
-    match open_file(rt, alloc, name, geometry) {
-        Ok(device) => Ok(device),
-        Err(refusal) => Err(refusal),
-    }
-}
-
 /// Opens a database over the file, which is created with this layout if it is missing or empty.
 pub fn open_database<R: Files<File = File> + Threads + Wait + Copy + Drop + Send + Sync + 'static>(
     rt: &R,
@@ -160,11 +132,15 @@ pub fn open_database<R: Files<File = File> + Threads + Wait + Copy + Drop + Send
     // A device was opened that was at rest, whose image has the layout that was asked for and isn't refused.
     ensures ok { OnOk result (OpensLayout geometry) }
 
-    // As for `open_file`.
+    // Another layout is reported only if a device at rest has it, and it isn't the one that was asked for.
     ensures err { IfErr result (ReportsLayout geometry) }
+
+    // A fault is reported only if it keeps a device at rest from being opened. Either that device isn't formatted with the layout
+    // because of this fault, or its superblock is wrong in this way. Or it has the layout that was asked for, and opening it as a
+    // database is refused with this fault. That a file failed is reported only if a write or a sync of one did, for that cause.
     ensures fault { IfErr result (ReportsFault geometry) }
 {
-    match open_found(rt, alloc, name, geometry) {
+    match open_file(rt, alloc, name, geometry) {
         Ok(device) => match open_over(rt, alloc, device) {
             Ok(database) => Ok(database),
             Err(refusal) => Err(refusal),
@@ -194,8 +170,8 @@ pub fn open_over<R: Threads + Wait + Copy + Drop + Send + Sync + 'static>(
     }
 }
 
-// If a write or a sync of the file failed, the cause. Otherwise the fault with which opening was refused; then the file is closed.
-fn refusal_of(device: Device, fault: Fault) -> Refusal
+/// If a write or a sync of the file failed, the cause. Otherwise the fault with which opening was refused; then the file is closed.
+pub fn refusal_of(device: Device, fault: Fault) -> Refusal
     ensures layout { (layout : Layout) → ReportsLayout layout result }
 
     // If a write or a sync of the file failed, that is reported, and otherwise the fault.

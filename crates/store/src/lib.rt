@@ -20,13 +20,21 @@
 //! calls of `database` do: *a run* is one of the plain machine that begins with the opening of a device. That it is the run of
 //! this very store is seen in the code.
 //!
+//! A store that `run` opens keeps its history, by name: the log of the steps that its room has made since the file was opened. What
+//! its calls say names that log: that a commit has exactly what its transaction wrote, and that a read sees just that over what was
+//! covered at its begin. Nothing is stored for it but numbers. An application that needs it is a `Program`, and is generic in the
+//! name, `J`. What `transact_known` does there is a `Work`.
+//!
 //! `error_of` says which `StoreError` each fault becomes by `?`, and `commit_error` which one each refusal of a commit becomes
 //! (`crates/store/specs/Errors.antt`). This is proved of the conversions. A transaction that is read as a snapshot shows its own
 //! snapshot, which is proved too.
 #![tactic(auto)]
 
+mod closed;
 mod error;
+mod file;
 mod files;
+mod kept;
 mod layout;
 mod ranges;
 mod reading;
@@ -34,17 +42,24 @@ mod row;
 mod status;
 mod store;
 mod transaction;
+mod work;
 
 pub use base::Ts;
 pub use base::geometry::Geometry;
 pub use base::key::Key;
 pub use base::row::Row;
-pub use database::Page;
+pub use closed::Closed;
+pub use database::{Committed, Front, Origin, Page};
 pub use error::{Layout, Part, StoreError};
-pub use files::{Device, Refusal, find_file, open_database, open_file};
+pub use file::StoreFile;
+pub use file_words::Account;
+pub use files::{Device, Refusal, open_database};
+pub use kept::{Program, run};
 pub use layout::standard_layout;
+pub use pmem_file::OpenError;
 pub use reading::Snapshot;
 pub use row::{RowExt, key};
 pub use status::Status;
 pub use store::Store;
 pub use transaction::Transaction;
+pub use work::Work;

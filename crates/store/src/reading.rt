@@ -6,8 +6,9 @@ use crate::ranges::ends_of;
 use crate::row::RowExt;
 use base::key::Key;
 use base::row::Row;
-use database::{Page, Transaction};
+use database::{Front, Origin, Page, Transaction};
 use std::alloc::Global;
+use std::marker::Brand;
 use std::ops::RangeBounds;
 use std::sync::Wait;
 
@@ -15,12 +16,12 @@ use std::sync::Wait;
 /// one of 62 sessions until it is dropped. A read may wait for a step of another thread, even for a sync of the file, but never for
 /// a commit.
 #[derive(Drop)]
-pub struct Snapshot<'a, R: Wait + Drop> {
+pub struct Snapshot<'a, R: Wait + Drop, J: Origin = Brand> {
     pub(crate) alloc: Global,
-    pub(crate) reads: Transaction<'a, Device, R>,
+    pub(crate) reads: Transaction<'a, Device, R, J>,
 }
 
-impl<R: Wait + Drop> Snapshot<'_, R> {
+impl<R: Wait + Drop, J: Origin> Snapshot<'_, R, J> {
     ghost use Rattle.std.specs.Prelude.{◌≡◌, ◌^◌, Ok, Err, IfOk, IfErr, MatchResult, length, take, reverse};
     ghost use Rattle.std.specs.Range.Bound.{start_index, end_index};
     ghost use Rattle.base.specs.declared.step.Step.TheVariants.{Get, Scan};
@@ -30,15 +31,34 @@ impl<R: Wait + Drop> Snapshot<'_, R> {
     ghost use Rattle.base.specs.declared.fault.Fault.{Fault as FaultValue};
     ghost use Rattle.session_steps.specs.Reads.{ReadsPage, first_of, last_of};
     ghost use Rattle.room.specs.Runs.{ComesTo};
+    ghost use Rattle.database.specs.Histories.{Replies, Sees, begun_in, seen_in};
     ghost use Rattle.database.specs.Reads.{ReadsReply};
     ghost use Rattle.store.specs.Errors.{error_of};
-    ghost use Rattle.store.specs.Answers.{Answers, Scans, ScanRefused, OfScanned, AnswersNumber};
+    ghost use Rattle.store.specs.Answers.{Answers, Scans, ScanRefused, OfScanned, SeesScan, AnswersNumber};
     ghost use Rattle.store.specs.Reads.{Reads, ReadsRange, RangeRefused, first_key_of};
+
+    /// The history up to its begin, if that is kept.
+    pub fn begun(&self) -> Option<Front<J>>
+        ensures { result ≡ begun_in self.now.reads.trace }
+    {
+        self.reads.begun()
+    }
+
+    /// The history up to its own last step, if that is kept.
+    pub fn seen(&self) -> Option<Front<J>>
+        ensures { result ≡ seen_in self.now.reads.trace }
+    {
+        self.reads.seen()
+    }
 
     /// The row under the key, or `None` if there is none.
     pub fn get(&self, key: Key) -> Result<Option<Row>, StoreError>
         // A run ends in this step of the transaction's session, and what is returned is read off its reply, at Ok and at Err.
-        ensures { Answers (Get self.now.reads.session key) row_of result }
+        ensures answers { Answers (Get self.now.reads.session key) row_of result }
+
+        // If the history is kept, the row is the reply to this step in the state that the history leads to. Since the transaction's own
+        // last step its session has made none.
+        ensures sees { IfOk result (λ row. Sees J.opened self.now.reads.session self.now.reads.trace (λ q. Replies q (Get self.now.reads.session key) row_of (Ok row))) }
     {
         Ok(self.reads.get(key)?)
     }
@@ -71,6 +91,9 @@ impl<R: Wait + Drop> Snapshot<'_, R> {
         // `count`.
         ensures ok { B.has_bounds range → IfOk result (λ rows. Scans self.now.reads.session table (start_index (B.start_bound range)) (end_index (B.end_bound range) (2 ^ 64)) rows.items) }
         ensures err { B.has_bounds range → IfErr result (λ error. ScanRefused self.now.reads.session table (start_index (B.start_bound range)) (end_index (B.end_bound range) (2 ^ 64)) error) }
+
+        // If the history is kept, the rows are the reply to this step in the state that the history leads to, as for `get`.
+        ensures sees { B.has_bounds range → IfOk result (λ rows. SeesScan J.opened self.now.reads.session self.now.reads.trace table (start_index (B.start_bound range)) (end_index (B.end_bound range) (2 ^ 64)) rows.items) }
     {
         match ends_of(&range) {
             Some((least, greatest)) => self.scan_between(table, least, greatest),
@@ -85,7 +108,8 @@ impl<R: Wait + Drop> Snapshot<'_, R> {
         least: u64,
         greatest: u64,
     ) -> Result<Vec<(Key, Row)>, StoreError>
-        ensures { MatchResult result (λ rows. Answers (Scan self.now.reads.session table least greatest) rows_of (Ok rows.items)) (λ error. Answers (Scan self.now.reads.session table least greatest) rows_of (Err error)) }
+        ensures answers { MatchResult result (λ rows. Answers (Scan self.now.reads.session table least greatest) rows_of (Ok rows.items)) (λ error. Answers (Scan self.now.reads.session table least greatest) rows_of (Err error)) }
+        ensures sees { IfOk result (λ rows. Sees J.opened self.now.reads.session self.now.reads.trace (λ q. Replies q (Scan self.now.reads.session table least greatest) rows_of (Ok rows.items))) }
     {
         Ok(self.reads.scan(table, least, greatest)?)
     }
@@ -169,6 +193,7 @@ impl<R: Wait + Drop> Snapshot<'_, R> {
         // As `Transaction::page` of `database` says.
         ensures ok { IfOk result (λ page. ComesTo (λ q. ReadsPage q self.now.reads.session first last limit (Ok page))) }
         ensures err { IfErr result (λ error. (fault : FaultValue) × (error ≡ error_of fault) × ComesTo (λ q. ReadsPage q self.now.reads.session first last limit (Err fault))) }
+        ensures sees { IfOk result (λ page. Sees J.opened self.now.reads.session self.now.reads.trace (λ q. ReadsPage q self.now.reads.session first last limit (Ok page))) }
     {
         Ok(self.reads.page(first, last, limit)?)
     }

@@ -6,6 +6,7 @@ ghost use Rattle.store.specs.Status.{draws_left, records_left};
 
 use base::{NUMBER_LIMIT, Ts};
 use database::Report;
+use std::fmt;
 
 /// The layout of a store, how far it has come, and how full it is.
 #[derive(Clone, Copy, Debug, PartialEq, Eq)]
@@ -45,6 +46,9 @@ impl Status {
     ghost use Rattle.database.specs.Reports.{ShowsReport};
     ghost use Rattle.store.specs.Status.{ShowsStore};
 
+    /// How many lines it has when it is printed.
+    pub const LINES: usize = 11;
+
     /// The status that a report of a database shows.
     pub fn of(report: &Report) -> Status
         ensures shows { (q : State) → ShowsReport q report.now → ShowsStore q result }
@@ -70,6 +74,23 @@ impl Status {
             versions: geometry.slots().saturating_sub(usage.free),
             free: usage.free,
         }
+    }
+}
+
+// A name and a number on each line: the layout, and how full the store is.
+impl fmt::Display for Status {
+    fn fmt<W: fmt::Write>(&self, f: &mut fmt::Formatter<W>) -> fmt::Result {
+        writeln!(f, "version {}", self.version)?;
+        writeln!(f, "slots {}", self.slots)?;
+        writeln!(f, "places {}", self.places)?;
+        writeln!(f, "window {}", self.window)?;
+        writeln!(f, "width {}", self.row_limit)?;
+        writeln!(f, "rows {}", self.rows)?;
+        writeln!(f, "versions {}", self.versions)?;
+        writeln!(f, "free {}", self.free)?;
+        writeln!(f, "gaps {}", self.gaps)?;
+        writeln!(f, "longs {}", self.longs)?;
+        write!(f, "left {}", self.left)
     }
 }
 

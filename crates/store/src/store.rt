@@ -13,43 +13,47 @@ ghost use Rattle.store.specs.declared.error.StoreError.{StoreError};
 ghost use Rattle.store.specs.Errors.{part_of};
 ghost use Rattle.store.specs.Opening.{IsFindingError, IsOpeningError, IsClosingError};
 
+use crate::closed::{Closed, close_file};
 use crate::error::{Layout, Part, StoreError};
-use crate::files::{Device, Refusal, find_file, open_database, open_over};
+use crate::file::StoreFile;
+use crate::files::{Device, Refusal, open_database};
 use crate::reading::Snapshot;
 use crate::status::Status;
-use crate::transaction::Transaction;
+use crate::transaction::{Transaction, put_error};
 use base::Ts;
 use base::fault::Fault;
 use base::geometry::Geometry;
 use base::key::Key;
-use database::{Database, Refused};
-use pmem_file::OpenError;
+use base::row::Row;
+use database::{CommitError, Database, Front, Origin, Refused};
 use std::alloc::Global;
 use std::fs::File;
+use std::marker::Brand;
 use std::rt::Files;
 use std::sync::Wait;
 use std::thread::Threads;
 
-// The most transactions that one `transact` begins.
-const TRIES: u64 = 1_000;
+/// The most transactions that one `transact` begins.
+pub const TRIES: u64 = 1_000;
 
-// How a try ends, unless it fails with an error other than a conflict.
+/// How a try ends, unless it fails with an error other than a conflict.
 #[derive(Drop)]
-enum Attempt<T> {
-    Committed(T, Option<Ts>),
+pub enum Attempt<T, C> {
+    // What the changes returned, and what their commit did.
+    Committed(T, C),
     // Another commit of this key came first.
     Conflict(Key),
 }
 
 /// A store of rows in a file. Threads share it by reference. A drop leaves the file as a crash would: what was committed is kept.
 #[derive(Drop)]
-pub struct Store<R: Wait + Drop> {
+pub struct Store<R: Wait + Drop, J: Origin = Brand> {
     alloc: Global,
     name: String,
-    database: Database<Device, R>,
-    // The greatest length of a row, in bytes. The layout never changes, so a begin takes no lock for it.
-    limit: usize,
-    ghost limited: { ComesTo (λ q. limit ≡ row_limit q.layout.version) },
+    database: Database<Device, R, J>,
+    // It never changes, so a begin takes no lock for it.
+    layout: Geometry,
+    ghost laid_out: { ComesTo (λ q. layout ≡ q.layout) },
 }
 
 impl<R: Files<File = File> + Threads + Wait + Copy + Drop + Send + Sync + 'static> Store<R> {
@@ -99,34 +103,29 @@ impl<R: Files<File = File> + Threads + Wait + Copy + Drop + Send + Sync + 'stati
         // the part of that layout.
         ensures err { IfErr result (IsFindingError name.now) }
     {
-        let name = String::from_str(alloc, name)?;
-        let (device, layout) = match find_file(&rt, alloc, name.as_str()) {
-            Ok(found) => found,
-            Err(OpenError::Missing) => return Err(StoreError::Missing { name }),
-            Err(cause) => return Err(StoreError::File { name, cause }),
-        };
-        match open_over(&rt, alloc, device) {
-            Ok(database) => Ok(over(alloc, name, database)),
-            Err(refusal) => Err(not_opened(name, layout, refusal)),
-        }
+        StoreFile::find(&rt, alloc, name)?.open(rt, alloc)
     }
 }
 
-// The store over this database, with the row limit of its layout.
-fn over<R: Wait + Drop>(alloc: Global, name: String, database: Database<Device, R>) -> Store<R>
+/// The store over this database.
+pub fn over<R: Wait + Drop, J: Origin>(
+    alloc: Global,
+    name: String,
+    database: Database<Device, R, J>,
+) -> Store<R, J>
     ensures { result.name ≡ name }
 {
-    let limit = database.geometry().row_limit();
+    let layout = database.geometry();
     Store {
         alloc,
         name,
         database,
-        limit,
+        layout,
     }
 }
 
-// The error, with the name of the file and the layout that was asked for or found.
-fn not_opened(name: String, geometry: Geometry, refusal: Refusal) -> StoreError
+/// The error, with the name of the file and the layout that was asked for or found.
+pub fn not_opened(name: String, geometry: Geometry, refusal: Refusal) -> StoreError
     requires layout { ReportsLayout geometry refusal }
     requires fault { ReportsFault geometry refusal }
     ensures opening { IsOpeningError (string_bytes name) geometry result }
@@ -161,16 +160,8 @@ fn refused(name: String, geometry: Geometry, fault: Fault) -> StoreError
 }
 
 impl<R: Wait + Drop> Store<R> {
-    ghost use Rattle.std.specs.Prelude.{◌≡◌, ◌-◌, Ok, Err, IfOk, IfErr, OnOk};
-    ghost use Rattle.std.specs.String.{string_bytes};
-    ghost use Rattle.base.specs.Layout.{row_limit};
-    ghost use Rattle.base.specs.declared.step.Step.TheVariants.{Begin};
-    ghost use Rattle.room.specs.Runs.{ComesTo};
-    ghost use Rattle.database.specs.Replies.{began_of};
-    ghost use Rattle.store.specs.Answers.{Answers};
-    ghost use Rattle.store.specs.Opening.{IsCovered, IsClosingError};
+    ghost use Rattle.std.specs.Prelude.{IfOk, IfErr};
     ghost use Rattle.store.specs.Trying.{CommitsWithin, FailsWithin, Fails, EndsTry};
-    ghost use Rattle.store.specs.Status.{ShowsStore};
 
     /// Makes the changes in one transaction and commits it. It returns what the changes return, and the timestamp, or `None` if
     /// nothing was written. After a conflict it tries again, on the rows as the other commit left them. After any other error,
@@ -226,7 +217,7 @@ impl<R: Wait + Drop> Store<R> {
     fn attempt<T: Drop, F: Drop + FnMut(&mut Transaction<'_, R>) -> Result<T, StoreError>>(
         &self,
         changes: &mut F,
-    ) -> Result<Attempt<T>, StoreError>
+    ) -> Result<Attempt<T, Option<Ts>>, StoreError>
         requires callable { F.IsAlwaysCallable changes.old }
         ensures callable { F.IsAlwaysCallable changes.new }
         ensures ok { IfOk result (λ attempt. EndsTry F.step (λ lent. lent.now.snapshot.reads.session) changes.old attempt changes.new) }
@@ -247,12 +238,31 @@ impl<R: Wait + Drop> Store<R> {
             }
         }
     }
+}
+
+impl<R: Wait + Drop, J: Origin> Store<R, J> {
+    ghost use Rattle.std.specs.Prelude.{◌≡◌, ◌-◌, Ok, Err, IfOk, IfErr, OnOk};
+    ghost use Rattle.std.specs.String.{string_bytes};
+    ghost use Rattle.base.specs.Layout.{row_limit};
+    ghost use Rattle.base.specs.declared.step.Step.TheVariants.{Begin};
+    ghost use Rattle.room.specs.Runs.{ComesTo};
+    ghost use Rattle.database.specs.Histories.{HasBegun};
+    ghost use Rattle.database.specs.Replies.{began_of};
+    ghost use Rattle.database.specs.Committing.{ReportsWritten};
+    ghost use Rattle.store.specs.Answers.{Answers, IsUnwritten};
+    ghost use Rattle.store.specs.Opening.{IsCovered, IsClosingError};
+    ghost use Rattle.store.specs.Closed.{IsClosedAs};
+    ghost use Rattle.store.specs.Status.{ShowsStore};
 
     /// Begins a transaction, which reads the rows that are committed now, and what it writes itself. At most 62 transactions and snapshots
     /// can be open: another one is refused with `TooManyTransactions`. It waits as a read does.
-    pub fn begin(&self) -> Result<Transaction<'_, R>, StoreError>
+    pub fn begin(&self) -> Result<Transaction<'_, R, J>, StoreError>
         // A run ends in this call's Begin, and its reply has the number of the session.
         ensures ok { IfOk result (λ transaction. Answers Begin began_of (Ok transaction.snapshot.reads.session)) }
+
+        // If the history is kept, the transaction knows it up to this Begin, and its session is the one that was free then. It has
+        // made no step since.
+        ensures begun { IfOk result (λ transaction. HasBegun J.opened J.kept transaction.snapshot.reads.session transaction.snapshot.reads.trace) }
 
         // The transaction knows the greatest length of a row in a state that a run comes to.
         ensures limit { IfOk result (λ transaction. ComesTo (λ q. transaction.row_limit ≡ row_limit q.layout.version)) }
@@ -262,16 +272,19 @@ impl<R: Wait + Drop> Store<R> {
     {
         Ok(Transaction {
             snapshot: self.read()?,
-            row_limit: self.limit,
+            row_limit: self.layout.row_limit(),
         })
     }
 
     /// A snapshot of the rows that are committed now, which can be read until it is dropped. It counts among the 62 too. It waits as a
     /// read does.
-    pub fn read(&self) -> Result<Snapshot<'_, R>, StoreError>
+    pub fn read(&self) -> Result<Snapshot<'_, R, J>, StoreError>
         // A run ends in this call's Begin. Its reply has the number of the session, or the fault from which the error is made.
         ensures ok { IfOk result (λ snapshot. Answers Begin began_of (Ok snapshot.reads.session)) }
         ensures err { IfErr result (λ error. Answers Begin began_of (Err error)) }
+
+        // As for `begin`.
+        ensures begun { IfOk result (λ snapshot. HasBegun J.opened J.kept snapshot.reads.session snapshot.reads.trace) }
     {
         Ok(Snapshot {
             alloc: self.alloc,
@@ -279,8 +292,30 @@ impl<R: Wait + Drop> Store<R> {
         })
     }
 
-    /// The layout of the store, how far it has come, and how full it is, all at one moment. It looks at each key and each slot while other
-    /// threads wait.
+    /// Makes these writes in a transaction of their own, as `Transaction::write` does, and commits it, as `Transaction::commit` does. It waits
+    /// as a read does, and then for a sync of the file.
+    pub fn write(&self, writes: &[(Key, Option<Row>)]) -> Result<Option<Ts>, StoreError>
+        // As `Database::write` says. The error for TooLong has the greatest length of a row.
+        ensures ok { IfOk result (ReportsWritten writes.now) }
+        ensures err { IfErr result (IsUnwritten writes.now) }
+    {
+        match self.database.write(writes) {
+            Ok(timestamp) => Ok(timestamp),
+            Err(CommitError::Refused(fault)) => Err(put_error(self.layout.row_limit(), fault)),
+            Err(CommitError::Open(fault)) => Err(StoreError::Unknown(fault)),
+        }
+    }
+
+    /// The layout of the store.
+    pub fn layout(&self) -> Geometry
+        // That of a state that a run comes to.
+        ensures { ComesTo (λ q. result ≡ q.layout) }
+    {
+        self.layout
+    }
+
+    /// The layout of the store, how far it has come, and how full it is, all at one moment. The time that it takes doesn't grow with
+    /// the store.
     pub fn status(&self) -> Status
         // All of one state that a run comes to: its layout, the number and the timestamp of the ruling record, and how many long
         // commits and gaps it names. Also how many rows are covered, how many slots hold no version, and how many commits may
@@ -313,12 +348,25 @@ impl<R: Wait + Drop> Store<R> {
         // this cause, or all is covered and closing the file itself failed.
         ensures err { IfErr result (IsClosingError (string_bytes self.name)) }
     {
+        match self.close_known() {
+            Ok(_) => Ok(()),
+            Err(error) => Err(error),
+        }
+    }
+
+    /// The same, and returns the file's account, and the history up to there, if that is kept.
+    pub fn close_known(self) -> Result<Closed<J>, StoreError>
+        // As for `close`.
+        ensures covered { OnOk result IsCovered }
+        ensures err { IfErr result (IsClosingError (string_bytes self.name)) }
+
+        // By its account the file was cut to one image, and is found as nothing else. If the history is kept, what is returned can be
+        // made from whatever the device opened as. That image covers all that was covered and drawn in the state that it leads to.
+        ensures file { IfOk result (λ closed. IsClosedAs J.opened J.kept closed.account closed.front) }
+    {
         let Store { name, database, .. } = self;
-        match database.close() {
-            Ok(device) => match device.close() {
-                Ok(_) => Ok(()),
-                Err(cause) => Err(StoreError::Lost { name, cause }),
-            },
+        match database.close_known() {
+            Ok(closed) => close_file(name, closed),
             Err(Refused { fault, device }) => Err(not_closed(name, device, fault)),
         }
     }

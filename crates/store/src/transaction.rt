@@ -11,38 +11,41 @@ use base::Ts;
 use base::fault::Fault;
 use base::key::Key;
 use base::row::Row;
+use database::{Committed, Origin};
+use std::marker::Brand;
 use std::ops::Deref;
 use std::sync::Wait;
 
 /// Reads a snapshot, and writes up to 32 keys, which are kept together or not at all. It takes one of 62 sessions until it ends, and
 /// a drop rolls it back. A step that is refused changes nothing, and the transaction stays open.
 #[derive(Drop)]
-pub struct Transaction<'a, R: Wait + Drop> {
-    pub(crate) snapshot: Snapshot<'a, R>,
+pub struct Transaction<'a, R: Wait + Drop, J: Origin = Brand> {
+    pub(crate) snapshot: Snapshot<'a, R, J>,
     // The greatest length of a row, in bytes.
     pub(crate) row_limit: usize,
 }
 
 // A transaction reads as a snapshot does.
-impl<'a, R: Wait + Drop> Deref for Transaction<'a, R> {
+impl<'a, R: Wait + Drop, J: Origin> Deref for Transaction<'a, R, J> {
     ghost use Rattle.std.specs.Prelude.{◌≡◌};
 
-    type Target = Snapshot<'a, R>;
+    type Target = Snapshot<'a, R, J>;
 
     ghost deref_gives = { λ transaction snapshot. snapshot ≡ transaction.snapshot };
 
-    fn deref(&self) -> &Snapshot<'a, R> {
+    fn deref(&self) -> &Snapshot<'a, R, J> {
         &self.snapshot
     }
 }
 
-impl<R: Wait + Drop> Transaction<'_, R> {
-    ghost use Rattle.std.specs.Prelude.{IfOk, IfErr};
+impl<R: Wait + Drop, J: Origin> Transaction<'_, R, J> {
+    ghost use Rattle.std.specs.Prelude.{IfOk, IfErr, false, is_ok};
     ghost use Rattle.std.specs.Int.{w64, to_le_bytes};
-    ghost use Rattle.base.specs.declared.step.Step.TheVariants.{Delete, Abort};
+    ghost use Rattle.base.specs.declared.step.Step.TheVariants.{Put, Delete, Abort};
     ghost use Rattle.database.specs.Replies.{done_of};
     ghost use Rattle.database.specs.Committing.{ReportsCommit};
-    ghost use Rattle.store.specs.Answers.{Answers, Puts, MakesWrites, IsCommitRefusal};
+    ghost use Rattle.database.specs.Histories.{Does, HasCommitted, made_if};
+    ghost use Rattle.store.specs.Answers.{Answers, Puts, MakesWrites, WritesIn, IsCommitRefusal};
 
     /// Writes the row under the key. It may be refused with `RowTooLong`, `TooManyKeys` or `Full`. It waits as a read does, and if no slot
     /// is free, it first looks for slots that nobody needs.
@@ -50,8 +53,11 @@ impl<R: Wait + Drop> Transaction<'_, R> {
         // As `Transaction::put` of `database` says, for this key and row. The error for TooLong has the greatest length.
         ensures made { Puts self.old.snapshot.reads.session key row self.old.row_limit result }
 
-        // The transaction is what it was, at Err too.
-        ensures same { self.new ≡ self.old }
+        // It is the same transaction. If its history is kept, that goes on from its last step, and has of its session this put, if it
+        // was made, and no other step.
+        ensures session { self.new.snapshot.reads.session ≡ self.old.snapshot.reads.session }
+        ensures does { Does self.old.snapshot.reads.session (made_if (is_ok result) (Put self.old.snapshot.reads.session key row)) self.old.snapshot.reads.trace self.new.snapshot.reads.trace }
+        ensures same { J.kept ≡ false → self.new ≡ self.old }
     {
         match self.snapshot.reads.put(key, row) {
             Ok(()) => Ok(()),
@@ -63,7 +69,9 @@ impl<R: Wait + Drop> Transaction<'_, R> {
     pub fn put_number(&mut self, key: Key, number: u64) -> Result<(), StoreError>
         // As for `put`, of the number's 8 bytes.
         ensures made { Puts self.old.snapshot.reads.session key (to_le_bytes w64 number) self.old.row_limit result }
-        ensures same { self.new ≡ self.old }
+        ensures session { self.new.snapshot.reads.session ≡ self.old.snapshot.reads.session }
+        ensures does { Does self.old.snapshot.reads.session (made_if (is_ok result) (Put self.old.snapshot.reads.session key (to_le_bytes w64 number))) self.old.snapshot.reads.trace self.new.snapshot.reads.trace }
+        ensures same { J.kept ≡ false → self.new ≡ self.old }
     {
         self.put(key, Row::of_u64(number))
     }
@@ -73,8 +81,11 @@ impl<R: Wait + Drop> Transaction<'_, R> {
         // A run ends in this step of the transaction's session, and what is returned is read off its reply, at Ok and at Err.
         ensures made { Answers (Delete self.old.snapshot.reads.session key) done_of result }
 
-        // The transaction is what it was, at Err too.
-        ensures same { self.new ≡ self.old }
+        // It is the same transaction. If its history is kept, that goes on from its last step, and has of its session this deletion, if
+        // it was made, and no other step.
+        ensures session { self.new.snapshot.reads.session ≡ self.old.snapshot.reads.session }
+        ensures does { Does self.old.snapshot.reads.session (made_if (is_ok result) (Delete self.old.snapshot.reads.session key)) self.old.snapshot.reads.trace self.new.snapshot.reads.trace }
+        ensures same { J.kept ≡ false → self.new ≡ self.old }
     {
         Ok(self.snapshot.reads.delete(key)?)
     }
@@ -85,8 +96,11 @@ impl<R: Wait + Drop> Transaction<'_, R> {
         // As `Transaction::write` of `database` says, for these writes. The error for TooLong has the greatest length.
         ensures made { MakesWrites self.old.snapshot.reads.session writes.now self.old.row_limit result }
 
-        // The transaction is what it was, at Err too.
-        ensures same { self.new ≡ self.old }
+        // It is the same transaction. If its history is kept, that goes on from its last step, and has of its session these writes, or
+        // those that were made before the refusal, and no other step.
+        ensures session { self.new.snapshot.reads.session ≡ self.old.snapshot.reads.session }
+        ensures does { WritesIn self.old.snapshot.reads.session writes.now result self.old.snapshot.reads.trace self.new.snapshot.reads.trace }
+        ensures same { J.kept ≡ false → self.new ≡ self.old }
     {
         match self.snapshot.reads.write(writes) {
             Ok(()) => Ok(()),
@@ -102,10 +116,26 @@ impl<R: Wait + Drop> Transaction<'_, R> {
         ensures ok { IfOk result (ReportsCommit self.entry.snapshot.reads.session) }
         ensures err { IfErr result (IsCommitRefusal self.entry.snapshot.reads.session) }
     {
+        match self.commit_known() {
+            Ok(done) => Ok(done.timestamp),
+            Err(error) => Err(error),
+        }
+    }
+
+    /// The same, and returns the history up to the end of the transaction, if that is kept.
+    pub fn commit_known(self) -> Result<Committed<J>, StoreError>
+        // As for `commit`.
+        ensures ok { IfOk result (λ done. ReportsCommit self.entry.snapshot.reads.session done.timestamp) }
+        ensures err { IfErr result (IsCommitRefusal self.entry.snapshot.reads.session) }
+
+        // As `Transaction::commit_known` of `database` says: of the session the history has the draw of this timestamp, stamps and its end
+        // since the transaction's last step, and no other step.
+        ensures history { IfOk result (λ done. HasCommitted J.opened self.entry.snapshot.reads.session self.entry.snapshot.reads.trace done.timestamp done.front) }
+    {
         let Transaction { snapshot, .. } = self;
         let Snapshot { reads, .. } = snapshot;
-        match reads.commit() {
-            Ok(timestamp) => Ok(timestamp),
+        match reads.commit_known() {
+            Ok(done) => Ok(done),
             Err(refused) => Err(StoreError::from(refused)),
         }
     }
@@ -121,8 +151,8 @@ impl<R: Wait + Drop> Transaction<'_, R> {
     }
 }
 
-// The error for a refused put, if rows have at most `limit` bytes.
-fn put_error(limit: usize, fault: Fault) -> StoreError
+/// The error for a refused put, if rows have at most `limit` bytes.
+pub fn put_error(limit: usize, fault: Fault) -> StoreError
     ensures { result ≡ put_error limit fault }
 {
     match fault {

@@ -24,7 +24,10 @@ fn count<R: Wait + Drop>(database: &Database<Device, R>, thread: usize) -> Resul
     for number in 1..=COMMITS {
         let mut transaction = database.begin()?;
         transaction.put(key_of(thread), row(number)?)?;
-        let timestamp = transaction.commit()?.unwrap_or(0);
+        let timestamp = transaction
+            .commit()
+            .map_err(|error| error.fault())?
+            .unwrap_or(0);
         rose = rose && last < timestamp;
         last = timestamp;
     }

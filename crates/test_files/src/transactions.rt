@@ -92,7 +92,7 @@ fn commit<R: Wait + Drop>(
 ) -> Result<Option<Ts>, Fault> {
     let mut transaction = database.begin()?;
     transaction.put(key, row(number)?)?;
-    Ok(transaction.commit()?)
+    transaction.commit().map_err(|error| error.fault())
 }
 
 pub fn get<R: Wait + Drop>(database: &Database<Device, R>, key: Key) -> Result<Option<Row>, Fault> {
@@ -112,7 +112,7 @@ fn make_commits<R: Wait + Drop + Abort>(
     transaction.put(KEY, row(1)?)?;
     transaction.write(&[(OTHER, Some(row(2)?))])?;
     let rows = transaction.scan(1, 0, 9)?;
-    let committed = transaction.commit()?;
+    let committed = transaction.commit().map_err(|error| error.fault())?;
     assert!(rt; rows.as_slice() == [(KEY, row(1)?), (OTHER, row(2)?)].as_slice());
     assert!(rt; committed == Some(1));
 
@@ -120,8 +120,8 @@ fn make_commits<R: Wait + Drop + Abort>(
     dropped.put(KEY, row(9)?)?;
     drop(dropped);
     let writes = [(KEY, Some(row(9)?)), (OTHER, None), (KEY, Some(row(8)?))];
-    let committed = database.write(&writes)?;
-    let nothing = database.begin()?.commit()?;
+    let committed = database.write(&writes).map_err(|error| error.fault())?;
+    let nothing = database.begin()?.commit().map_err(|error| error.fault())?;
     assert!(rt; committed == Some(2) && nothing.is_none());
     Ok(())
 }
@@ -150,7 +150,7 @@ fn the_second_of_two_that_write_a_key_conflicts(rt: HostRuntime) -> Result<(), F
     let mut second = database.begin()?;
     first.put(KEY, row(1)?)?;
     second.put(KEY, row(2)?)?;
-    let committed = first.commit()?;
+    let committed = first.commit().map_err(|error| error.fault())?;
     let conflict = second.commit();
     let refused = Err(CommitError::Refused(Fault::Conflict(KEY)));
     assert!(rt; committed == Some(1) && conflict == refused);

@@ -32,7 +32,8 @@ use Rattle.state_invariant.specs.Kept.{Origin, Keeps}
 use Rattle.state_invariant.proofs.Commits.{uncommitted-above}
 use Rattle.simulation.proofs.cycles.covers.LinesStay.{lines-stay}
 use Rattle.session_steps.specs.declared.sessions.Sessions.{Sessions}
-use Rattle.session_steps.specs.Shows.{plain_drawn, line_numbers, Shows as SessionsShow}
+use Rattle.simulation.specs.cycles.Batches.{line_numbers}
+use Rattle.session_steps.specs.Shows.{plain_drawn, Shows as SessionsShow}
 use Rattle.session_steps.specs.Steps.{Drawers, Steps as SessionSteps}
 use Rattle.session_steps.specs.Collecting.{Collects}
 use Rattle.session_steps.specs.Collecting as visit

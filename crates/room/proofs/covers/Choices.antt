@@ -27,7 +27,8 @@ use Rattle.device_invariant.specs.Upholds.{Upholds}
 use Rattle.simulation.specs.cycles.Leads.{Ticks}
 use Rattle.simulation.proofs.cycles.covers.Ticks.{idle-ticks, choosing-ticks, refused-ticks}
 use Rattle.session_steps.specs.declared.sessions.Sessions.{Sessions}
-use Rattle.session_steps.specs.Shows.{plain_drawn, line_numbers}
+use Rattle.simulation.specs.cycles.Batches.{line_numbers}
+use Rattle.session_steps.specs.Shows.{plain_drawn}
 use Rattle.session_steps.proofs.AnyHand.{shows-hand}
 use Rattle.session_steps.proofs.Effects.{nothing-done}
 use Rattle.room.specs.Committing.{HoldsHand, HoldsCycle, ShowsIn}

@@ -45,7 +45,8 @@ use Rattle.simulation.proofs.cycles.covers.Stages.{more_left}
 use Rattle.simulation.proofs.cycles.covers.Ticks.{line-ticks, fence-ticks, operation-ticks, covering-ticks, failing-ticks}
 use Rattle.simulation.proofs.sessions.Batches.{covers-batch}
 use Rattle.session_steps.specs.declared.sessions.Sessions.{Sessions}
-use Rattle.session_steps.specs.Shows.{plain_drawn, line_numbers}
+use Rattle.simulation.specs.cycles.Batches.{line_numbers}
+use Rattle.session_steps.specs.Shows.{plain_drawn}
 use Rattle.session_steps.specs.Steps.{is_by_actor, RunsBy}
 use Rattle.session_steps.specs.Covering.{IsOf, MayCoverSome, ShowsCovered}
 use Rattle.session_steps.proofs.covers.Lines.{member, table-lines}

@@ -20,7 +20,8 @@ use Rattle.device_invariant.specs.Slots.{newest_of}
 use Rattle.device_invariant.specs.Log.{is_own, is_ended}
 use Rattle.simulation.specs.steps.Moves.{IsSlotOf}
 use Rattle.session_steps.specs.declared.sessions.Sessions.{Sessions}
-use Rattle.session_steps.specs.Shows.{Hidden, plain_of, plain_drawn, HoldsSession, HoldsEntry, HoldsDrawn, IsUnreplaced, Agrees, line_numbers}
+use Rattle.simulation.specs.cycles.Batches.{line_numbers}
+use Rattle.session_steps.specs.Shows.{Hidden, plain_of, plain_drawn, HoldsSession, HoldsEntry, HoldsDrawn, IsUnreplaced, Agrees}
 use Rattle.session_steps.proofs.covers.Batch.{found}
 use Rattle.session_steps.proofs.slots.Held.{numbers-by-tests}
 

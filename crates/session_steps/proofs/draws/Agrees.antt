@@ -43,7 +43,8 @@ use Rattle.simulation.specs.steps.Moves.{IsSlotOf}
 use Rattle.session_steps.specs.declared.sessions.Sessions.{Sessions}
 use Rattle.session_steps.specs.Drawing.{own_lines, ended_lines, touched_lines, drawn_entry}
 use Rattle.simulation.specs.sessions.Sees.{Sees, last_on}
-use Rattle.session_steps.specs.Shows.{Hidden, plain_of, plain_session, plain_drawn, HasItsSlot, HoldsSession, HasVersionOf, HasDrawn, IsSeenByAll, HoldsLast, HoldsEntry, HoldsDrawn, HoldsLines, Agrees, has_drawn_by, line_numbers}
+use Rattle.simulation.specs.cycles.Batches.{line_numbers}
+use Rattle.session_steps.specs.Shows.{Hidden, plain_of, plain_session, plain_drawn, HasItsSlot, HoldsSession, HasVersionOf, HasDrawn, IsSeenByAll, HoldsLast, HoldsEntry, HoldsDrawn, HoldsLines, Agrees, has_drawn_by}
 use Rattle.session_steps.specs.Steps.{Holds}
 use Rattle.session_steps.proofs.slots.Held.{numbers-by-tests}
 use Rattle.simulation.proofs.sessions.Conflicts.{last_on-append}

@@ -12,7 +12,8 @@ use Rattle.dirty_table.specs.declared.sessions.SessionSet.{SessionSet}
 use Rattle.state_invariant.specs.Kept.{version_by}
 use Rattle.device_invariant.specs.Log.{is_own, is_ended, lines_in, line_at, line_number}
 use Rattle.simulation.specs.steps.Moves.{IsSlotOf}
-use Rattle.session_steps.specs.Shows.{HasItsSlot, HasVersionOf, HoldsLines, line_numbers}
+use Rattle.simulation.specs.cycles.Batches.{line_numbers}
+use Rattle.session_steps.specs.Shows.{HasItsSlot, HasVersionOf, HoldsLines}
 
 -- nobody holds it, or this session does
 abbrev pub is_nobodys_or : ℕ → Option Version → Bool

@@ -49,7 +49,8 @@ use Rattle.session_steps.specs.declared.sessions.Sessions.{Sessions}
 use Rattle.session_steps.specs.declared.stamp.Unstamped.{Unstamped}
 use Rattle.session_steps.specs.Stamping.{IsNextOf, has_left, is_unstamped}
 use Rattle.simulation.specs.sessions.Sees.{last_on}
-use Rattle.session_steps.specs.Shows.{Hidden, plain_of, plain_session, plain_drawn, HoldsSession, HoldsLast, HoldsDrawn, Agrees, has_drawn_by, line_numbers}
+use Rattle.simulation.specs.cycles.Batches.{line_numbers}
+use Rattle.session_steps.specs.Shows.{Hidden, plain_of, plain_session, plain_drawn, HoldsSession, HoldsLast, HoldsDrawn, Agrees, has_drawn_by}
 use Rattle.session_steps.specs.Steps.{Holds, HoldsOn, GoesOn, IsBarred, is_by_actor}
 use Rattle.session_steps.proofs.transactions.Steps.{found, barred-refusal, covered-or-drawn, drawn-plain}
 use Rattle.session_steps.proofs.Refusals.{passes}

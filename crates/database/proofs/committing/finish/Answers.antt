@@ -1,5 +1,6 @@
 use Rattle.std.proofs.Common.{◌∙◌, ap, inr, Ok}
 use Rattle.database.proofs.Covering.{obeys-as, covers-finish}
+use Rattle.database.proofs.Histories.{finish-ended, finish-same}
 use Rattle.database.proofs.committing.finish.Goals as goal
 
 pub returns-in-Ok-end-clause-steps : goal.returns-in-Ok-end-clause-steps
@@ -12,3 +13,15 @@ returns-in-Ok-end-clause-covers g c = covers-finish _ _ _ _ _ _ _ _ _ c.poll.ens
 pub returns-in-Err-end-clause-steps : goal.returns-in-Err-end-clause-steps
 returns-in-Err-end-clause-steps g c =
     inr (c.poll.new.room.room, c.in-Some.timestamp, obeys-as _ _ _ _ _ _ _ c.poll.ensures.step (c.in-Ok.is ∙ ap Ok c.in-Some.is), obeys-as _ _ _ _ _ _ _ c.end.ensures.step c.in-Err-end.is)
+
+pub returns-in-Ok-end-clause-log : goal.returns-in-Ok-end-clause-log
+returns-in-Ok-end-clause-log g c = finish-ended c.args.session c.end.result _ c.args.room.now.log c.poll.new.room.log c.end.new.room.log c.poll.ensures.log c.end.ensures.log c.in-Ok-end.is
+
+pub returns-in-Err-end-clause-log : goal.returns-in-Err-end-clause-log
+returns-in-Err-end-clause-log g c = finish-ended c.args.session c.end.result _ c.args.room.now.log c.poll.new.room.log c.end.new.room.log c.poll.ensures.log c.end.ensures.log c.in-Err-end.is
+
+pub returns-in-None-clause-log : goal.returns-in-None-clause-log
+returns-in-None-clause-log g c = finish-same c.args.room.now.log c.poll.new.room.log c.poll.ensures.log
+
+pub returns-in-Err-clause-log : goal.returns-in-Err-clause-log
+returns-in-Err-clause-log g c = finish-same c.args.room.now.log c.poll.new.room.log c.poll.ensures.log

@@ -1,5 +1,5 @@
 use Rattle.std.proofs.Common.{◌≡◌, ◌∙◌, ◌+◌, List, ℕ, [], ◌∷◌, ◌++◌, take, drop, suc, sym, ap, subst, refl, add-one}
-use Rattle.std.specs.Prelude.{Option, Result, Ok, Err, ⊤}
+use Rattle.std.specs.Prelude.{Option, Result, Ok, Err, ⊤, is_ok}
 use Rattle.std.proofs.Math.Seq.{take-suc, split_at}
 use Rattle.std.proofs.lemmas.List.{take_all}
 use Rattle.base.specs.declared.fault.Fault.{Fault}
@@ -7,11 +7,14 @@ use Rattle.base.specs.declared.key.Key.{Key}
 use Rattle.database.specs.Obeys.{MakesWrite}
 use Rattle.database.specs.Committing.{LeadsByWrites}
 use Rattle.room.proofs.Runs.{leads-none}
+use Rattle.session_laws.specs.Logs.{own}
+use Rattle.database.specs.Histories.{LogsOwn, write_steps}
+use Rattle.database.proofs.Histories.{goes-none, written-then, written-refused}
 use Rattle.database.proofs.Reporting.{writes-more, writes-refused}
 use Rattle.database.proofs.committing.write_all.Goals as goal
 
 pub loop-one-init : goal.loop-one-init
-loop-one-init g c = record { made = ([], leads-none g.D.Pmem.state c.args.room.now.room (g.met.D.Pmem.orderly c.args.room.now.room.device), (refl, refl)); ended = refl }
+loop-one-init g c = record { made = ([], leads-none g.D.Pmem.state c.args.room.now.room (g.met.D.Pmem.orderly c.args.room.now.room.device), (refl, refl)); ended = refl; log = goes-none (λ x. own c.args.session x ≡ []) c.args.room.now.log refl }
 
 pub loop-one-preserved : goal.loop-one-preserved
 loop-one-preserved g c =
@@ -26,6 +29,9 @@ loop-one-preserved g c =
           (writes-more g.D.Pmem.state c.args.room.now.room c.loop-one.room.room c.write.new.room.room c.args.session (take i writes) one c.loop-one.invariant.made
           (subst (λ (r : Result ⊤ Fault). MakesWrite g.D.Pmem.state c.loop-one.room.room c.write.new.room.room c.args.session one.0 one.1 r) c.in-Ok.is c.write.ensures.steps));
       ended = c.write.ensures.ended ∙ c.loop-one.invariant.ended;
+      log =
+          subst (λ (l : List (Key × Option (List ℕ))). LogsOwn c.args.session (write_steps c.args.session l) c.args.room.now.log c.write.new.room.log) (sym done)
+          (written-then c.args.session (take i writes) one (is_ok c.write.result) c.args.room.now.log c.loop-one.room.log c.write.new.room.log c.loop-one.invariant.log c.write.ensures.log (ap is_ok c.in-Ok.is));
     }
 
 pub returns-in-Err : goal.returns-in-Err
@@ -41,6 +47,12 @@ returns-in-Err g c =
           (writes-refused g.D.Pmem.state c.args.room.now.room c.loop-one.room.room c.write.new.room.room c.args.session (take i writes) (drop (suc i) writes) one c.in-Err.fault c.loop-one.invariant.made
           (subst (λ (r : Result ⊤ Fault). MakesWrite g.D.Pmem.state c.loop-one.room.room c.write.new.room.room c.args.session one.0 one.1 r) c.in-Err.is c.write.ensures.steps));
       ended = c.write.ensures.ended ∙ c.loop-one.invariant.ended;
+      log = (
+        take i writes,
+        one ∷ drop (suc i) writes,
+        whole,
+        written-refused c.args.session (take i writes) one (is_ok c.write.result) c.args.room.now.log c.loop-one.room.log c.write.new.room.log c.loop-one.invariant.log c.write.ensures.log (ap is_ok c.in-Err.is),
+      );
     }
 
 pub returns : goal.returns
@@ -49,4 +61,5 @@ returns g c = record {
       subst (λ (l : List (Key × Option (List ℕ))). LeadsByWrites g.D.Pmem.state c.args.room.now.room c.loop-one.room.room c.args.session l (Ok tt))
       (take_all c.loop-one.one-index c.args.writes.now c.loop-one-test.false) c.loop-one.invariant.made;
   ended = c.loop-one.invariant.ended;
+  log = subst (λ (l : List (Key × Option (List ℕ))). LogsOwn c.args.session (write_steps c.args.session l) c.args.room.now.log c.loop-one.room.log) (take_all c.loop-one.one-index c.args.writes.now c.loop-one-test.false) c.loop-one.invariant.log;
 }

@@ -1,12 +1,21 @@
+use Rattle.std.specs.Prelude.{is_ok}
+use Rattle.database.specs.Histories.{made_if}
 use Rattle.base.specs.Steps.{as_reply}
 use Rattle.base.specs.declared.step.Step.TheVariants.{Begin}
 use Rattle.session_steps.specs.Replies.{began}
 use Rattle.database.proofs.Runs.{run-led}
 use Rattle.database.proofs.Readings.{reads-began}
+use Rattle.database.proofs.Histories.{logged-led, made-began, took-free}
 use Rattle.database.proofs.steps.begin.Goals as goal
 
 pub invariant_of-room : goal.invariant_of-room
-invariant_of-room g c = record { run = run-led g.D.Pmem.state c.args.room.now.room c.begin.new.self Begin (as_reply (began c.begin.result)) c.args.room.now.run c.begin.ensures.step }
+invariant_of-room g c = record {
+  run = run-led g.D.Pmem.state c.args.room.now.room c.begin-returned.new.self Begin (as_reply (began c.begin-returned.result)) c.args.room.now.run c.begin-returned.ensures.step;
+  logged = logged-led g.D.Pmem.state g.J.Origin.opened c.args.room.now.room c.begin-returned.new.self Begin (as_reply (began c.begin-returned.result)) (made_if (is_ok c.begin-returned.result) Begin) c.args.room.now.log c.note.new.log c.args.room.now.logged c.begin-returned.ensures.step c.note.ensures (made-began c.begin-returned.result);
+}
 
 pub returns-clause-step : goal.returns-clause-step
-returns-clause-step g c = (as_reply (began c.begin.result), c.begin.ensures.step, reads-began c.begin.result)
+returns-clause-step g c = (as_reply (began c.begin-returned.result), c.begin-returned.ensures.step, reads-began c.begin-returned.result)
+
+pub returns-clause-free : goal.returns-clause-free
+returns-clause-free g c = took-free g.D.Pmem.state g.J.Origin.opened c.args.room.now.room c.begin-returned.new.self c.args.room.now.log c.begin-returned.result c.args.room.now.logged c.begin-returned.ensures.step

@@ -4,6 +4,8 @@ use Rattle.database.specs.Obeys.{Finishes}
 use Rattle.database.specs.Committing.{IsGivenUp}
 use Rattle.database.proofs.Reporting.{is-acknowledged}
 use Rattle.database.proofs.Errors.{finish-waits, finish-refused, stops-after}
+use Rattle.database.specs.Histories.{Logs, ends_of}
+use Rattle.database.proofs.Histories.{in-room}
 use Rattle.database.proofs.desk.Desk.answer.Goals as goal
 
 pub returns-in-Ok-Some-clause-some : goal.returns-in-Ok-Some-clause-some
@@ -45,3 +47,23 @@ returns-in-None-clause-finish g c there =
 pub returns-in-Err-clause-finish : goal.returns-in-Err-clause-finish
 returns-in-Err-clause-finish g c there =
     (Err c.in-Err.fault, (c.in-Some.room, c.finish.new.room, c.in-Some.is, refl, subst (λ r. Finishes g.D.Pmem.state c.in-Some.room.room c.finish.new.room.room c.args.session r) c.in-Err.is c.finish.ensures.steps), refl)
+
+pub returns-in-Ok-Some-clause-log : goal.returns-in-Ok-Some-clause-log
+returns-in-Ok-Some-clause-log g c =
+    in-room (λ log. Logs (ends_of c.args.session (Ok (Some c.in-Ok-Some.timestamp))) log c.finish.new.room.log) c.args.self.now.room c.in-Some.room c.in-Some.is
+    (subst (λ o. Logs (ends_of c.args.session (Ok o)) c.in-Some.room.log c.finish.new.room.log) c.in-Ok-Some.field-0-is c.in-Ok-Some.ensures.log)
+
+pub returns-in-Some-given_up-clause-log : goal.returns-in-Some-given_up-clause-log
+returns-in-Some-given_up-clause-log g c =
+    in-room (λ log. Logs (ends_of c.args.session (Ok None)) log c.finish.new.room.log) c.args.self.now.room c.in-Some.room c.in-Some.is
+    (subst (λ o. Logs (ends_of c.args.session (Ok o)) c.in-Some.room.log c.finish.new.room.log) c.in-Ok-None.field-0-is c.in-Ok-None.ensures.log)
+
+pub returns-in-None-clause-log : goal.returns-in-None-clause-log
+returns-in-None-clause-log g c =
+    in-room (λ log. Logs (ends_of c.args.session (Ok None)) log c.finish.new.room.log) c.args.self.now.room c.in-Some.room c.in-Some.is
+    (subst (λ o. Logs (ends_of c.args.session (Ok o)) c.in-Some.room.log c.finish.new.room.log) c.in-Ok-None.field-0-is c.in-Ok-None.ensures.log)
+
+pub returns-in-Err-clause-log : goal.returns-in-Err-clause-log
+returns-in-Err-clause-log g c =
+    in-room (λ log. Logs (ends_of c.args.session (Err c.in-Err.fault)) log c.finish.new.room.log) c.args.self.now.room c.in-Some.room c.in-Some.is
+    (subst (λ r. Logs (ends_of c.args.session r) c.in-Some.room.log c.finish.new.room.log) c.in-Err.is c.finish.ensures.log)

@@ -1,28 +1,36 @@
 use Rattle.std.proofs.Common.{ℕ, ◌∙◌, ap, inl, inr, subst, Ok}
-use Rattle.std.specs.Prelude.{Option, Result, Err, IfOk, IfErr}
+use Rattle.std.specs.Prelude.{⊤, Option, Result, Err, IfOk, IfErr}
 use Rattle.database.specs.declared.error.CommitError.{CommitError}
-use Rattle.database.specs.Committing.{IsPrepared, ReportsUnprepared}
+use Rattle.database.specs.Committing.{IsPrepared, IsAnsweredAt, ReportsUnprepared}
+use Rattle.database.specs.Histories.{PreparesAfter}
+use Rattle.database.proofs.Histories.{committed-after}
 use Rattle.database.proofs.desk.Shared.commit.Goals as goal
 
-pub returns-in-Ok-wait-clause-ok : goal.returns-in-Ok-wait-clause-ok
-returns-in-Ok-wait-clause-ok g c = (
+pub returns-in-Ok-answer-clause-ok : goal.returns-in-Ok-answer-clause-ok
+returns-in-Ok-answer-clause-ok g c = (
   subst (λ (r : Result (Option ℕ) CommitError). IfOk r (λ drawn. IsPrepared c.args.session (Ok drawn))) (c.in-Ok.is ∙ ap Ok c.in-Some.is) c.prepare-desk.ensures.ok,
-  c.in-Ok-wait.ensures,
+  subst (λ (r : Result ⊤ CommitError). IsAnsweredAt c.args.session c.in-Some.timestamp r) c.in-Ok-answer.is c.wait-answer.ensures,
 )
 
-pub returns-in-None-clause-ok : goal.returns-in-None-clause-ok
-returns-in-None-clause-ok g c =
+pub returns-in-Ok-answer-clause-history : goal.returns-in-Ok-answer-clause-history
+returns-in-Ok-answer-clause-history g c =
+    committed-after g.J.Origin.opened c.args.session c.in-Some.timestamp c.args.trace c.prepare-desk.result.3 c.end_after.result
+    (subst (λ (r : Result (Option ℕ) CommitError). IfOk r (λ drawn. PreparesAfter g.J.Origin.opened c.args.session c.args.trace drawn c.prepare-desk.result.3)) (c.in-Ok.is ∙ ap Ok c.in-Some.is) c.prepare-desk.ensures.history)
+    c.end_after.ensures
+
+pub returns-in-Ok-clause-ok : goal.returns-in-Ok-clause-ok
+returns-in-Ok-clause-ok g c =
     subst (λ (r : Result (Option ℕ) CommitError). IfOk r (λ drawn. IsPrepared c.args.session (Ok drawn))) (c.in-Ok.is ∙ ap Ok c.in-None.is) c.prepare-desk.ensures.ok
 
-pub returns-in-Err-wait-clause-err : goal.returns-in-Err-wait-clause-err
-returns-in-Err-wait-clause-err g c = inr (
+pub returns-in-Some-clause-err : goal.returns-in-Some-clause-err
+returns-in-Some-clause-err g c = inr (
   c.in-Some.timestamp,
   subst (λ (r : Result (Option ℕ) CommitError). IfOk r (λ drawn. IsPrepared c.args.session (Ok drawn))) (c.in-Ok.is ∙ ap Ok c.in-Some.is) c.prepare-desk.ensures.ok,
-  c.in-Err-wait.ensures,
+  subst (λ (r : Result ⊤ CommitError). IsAnsweredAt c.args.session c.in-Some.timestamp r) c.in-Err-answer.is c.wait-answer.ensures,
 )
 
-pub returns-in-Err-clause-err : goal.returns-in-Err-clause-err
-returns-in-Err-clause-err g c = inl (
+pub returns-clause-err : goal.returns-clause-err
+returns-clause-err g c = inl (
   subst (λ (r : Result (Option ℕ) CommitError). IfErr r (ReportsUnprepared c.args.session)) c.in-Err.is c.prepare-desk.ensures.err,
   c.give_way.ensures.given,
   λ key is. (_, c.prepare-desk.ensures.conflict key (c.in-Err.is ∙ ap Err is), c.give_way.ensures.late key is),

@@ -52,7 +52,7 @@ returns-then-limit-len-clause-rows g c = λ counts tables agree linked shows.
     let between : c.into_iter-key-iterator.result ≡ entries_between key_cmp (Included c.args.first) (Included c.args.last) places =
     c.into_iter-key-iterator.ensures.into_iter_gives ∙ rw c.bounds.ensures at (c.range-key-items.ensures.between tt) in
     let none : (key : Key) → lookup_key places key ≡ None → lookup_key c.args.self.now key ≡ None = λ key absent.
-    ap (λ (es : List (Key × Entry)). lookup_key es key) (sym c.self.view_is) ∙ none-at places c.self.inside.entries.items c.self.invariant key absent in
+    ap (λ (es : List (Key × Entry)). lookup_key es key) (sym c.self.view_is) ∙ none-at places c.self.inside.entries.items c.self.invariant.0 key absent in
     let rising : is_rising (keys c.into_iter-key-iterator.result) ≡ true = subst (λ (es : List (Key × ℕ)). is_rising (keys es) ≡ true) (sym between) (part-rises c.args.first c.args.last places c.range-key-items.ensures.ordered) in
     stops-at c.args.first c.args.last places tables (λ key absent. absent-none counts c.args.snapshot.now c.args.geometry image tables c.args.self.now agree shows linked key (none key absent))
     c.into_iter-key-iterator.result between rising so_far.done e c.next.new.self (get key_cmp c.insert.new.self) so_far.split rows
@@ -79,6 +79,6 @@ returns-clause-rows g c = λ counts tables agree linked shows.
     let between : c.into_iter-key-iterator.result ≡ entries_between key_cmp (Included c.args.first) (Included c.args.last) places =
     c.into_iter-key-iterator.ensures.into_iter_gives ∙ rw c.bounds.ensures at (c.range-key-items.ensures.between tt) in
     let none : (key : Key) → lookup_key places key ≡ None → lookup_key c.args.self.now key ≡ None = λ key absent.
-    ap (λ (es : List (Key × Entry)). lookup_key es key) (sym c.self.view_is) ∙ none-at places c.self.inside.entries.items c.self.invariant key absent in
+    ap (λ (es : List (Key × Entry)). lookup_key es key) (sym c.self.view_is) ∙ none-at places c.self.inside.entries.items c.self.invariant.0 key absent in
     all-there tables (Between c.args.first c.args.last) places c.into_iter-key-iterator.result (get key_cmp c.loop-key.rows) so_far between
     (λ key absent. absent-none counts c.args.snapshot.now c.args.geometry image tables c.args.self.now agree shows linked key (none key absent))

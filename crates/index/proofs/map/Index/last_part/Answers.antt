@@ -73,7 +73,7 @@ returns-then-limit-len-clause-rows g c = λ counts tables agree linked shows.
     let between : rev_source c.into_iter-key-iterator.result ≡ entries_between key_cmp (Included c.args.first) (Included c.args.last) places =
     ap rev_source c.into_iter-key-iterator.ensures.into_iter_gives ∙ (c.rev-key-items.ensures.source ∙ rw c.bounds.ensures at (c.range.ensures.between tt)) in
     let none : (key : Key) → lookup_key places key ≡ None → lookup_key c.args.self.now key ≡ None = λ key absent.
-    ap (λ (es : List (Key × Entry)). lookup_key es key) (sym c.self.view_is) ∙ none-at places c.self.inside.entries.items c.self.invariant key absent in
+    ap (λ (es : List (Key × Entry)). lookup_key es key) (sym c.self.view_is) ∙ none-at places c.self.inside.entries.items c.self.invariant.0 key absent in
     let rising : is_rising (keys (rev_source c.into_iter-key-iterator.result)) ≡ true = subst (λ (es : List (Key × ℕ)). is_rising (keys es) ≡ true) (sym between) (part-rises c.args.first c.args.last places c.range.ensures.ordered) in
     stops-down c.args.first c.args.last places tables (λ key absent. absent-none counts c.args.snapshot.now c.args.geometry image tables c.args.self.now agree shows linked key (none key absent))
     (rev_source c.into_iter-key-iterator.result) between rising (rev_source c.next.new.self) e so_far.done (get key_cmp c.insert.new.self) (so_far.split ∙ append_assoc (rev_source c.next.new.self) (e ∷ []) so_far.done) rows
@@ -101,6 +101,6 @@ returns-clause-rows g c = λ counts tables agree linked shows.
     let between : rev_source c.into_iter-key-iterator.result ≡ entries_between key_cmp (Included c.args.first) (Included c.args.last) places =
     ap rev_source c.into_iter-key-iterator.ensures.into_iter_gives ∙ (c.rev-key-items.ensures.source ∙ rw c.bounds.ensures at (c.range.ensures.between tt)) in
     let none : (key : Key) → lookup_key places key ≡ None → lookup_key c.args.self.now key ≡ None = λ key absent.
-    ap (λ (es : List (Key × Entry)). lookup_key es key) (sym c.self.view_is) ∙ none-at places c.self.inside.entries.items c.self.invariant key absent in
+    ap (λ (es : List (Key × Entry)). lookup_key es key) (sym c.self.view_is) ∙ none-at places c.self.inside.entries.items c.self.invariant.0 key absent in
     all-there tables (Between c.args.first c.args.last) places (rev_source c.into_iter-key-iterator.result) (get key_cmp c.loop-key.rows) (all-down tables (rev_source c.into_iter-key-iterator.result) (get key_cmp c.loop-key.rows) so_far) between
     (λ key absent. absent-none counts c.args.snapshot.now c.args.geometry image tables c.args.self.now agree shows linked key (none key absent))

@@ -45,6 +45,6 @@ returns g c = λ counts tables agree linked shows.
     let between : c.into_iter-key-iterator.result ≡ entries_between key_cmp (bounds_of c.args.range).0 (bounds_of c.args.range).1 places =
     c.into_iter-key-iterator.ensures.into_iter_gives ∙ rw c.bounds.ensures at (c.range-key-items.ensures.between tt) in
     let none : (key : Key) → lookup_key places key ≡ None → lookup_key c.args.self.now key ≡ None = λ key absent.
-    ap (λ (es : List (Key × Entry)). lookup_key es key) (sym c.self.view_is) ∙ none-at places c.self.inside.entries.items c.self.invariant key absent in
+    ap (λ (es : List (Key × Entry)). lookup_key es key) (sym c.self.view_is) ∙ none-at places c.self.inside.entries.items c.self.invariant.0 key absent in
     all-there tables c.args.range places c.into_iter-key-iterator.result (get key_cmp c.loop-key.seen) so_far between
     (λ key absent. absent-none counts c.args.snapshot.now c.args.geometry image tables c.args.self.now agree shows linked key (none key absent))

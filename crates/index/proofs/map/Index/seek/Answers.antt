@@ -5,4 +5,4 @@ use Rattle.index.proofs.Changes.{at-place}
 use Rattle.index.proofs.map.Index.seek.Goals as goal
 
 pub returns-then-eq-clause-some : goal.returns-then-eq-clause-some
-returns-then-eq-clause-some c = grind (arith, key_eq-true c.key.result c.args.key (sym c.eq.ensures ∙ c.if-eq.true), slice_get_read, at-place, c.key.ensures, c.eq.ensures, c.if-eq.true, c.index.ensures, c.self.invariant)
+returns-then-eq-clause-some c = grind (arith, key_eq-true c.key.result c.args.key (sym c.eq.ensures ∙ c.if-eq.true), slice_get_read, at-place, c.key.ensures, c.eq.ensures, c.if-eq.true, c.index.ensures, c.self.invariant.0)

@@ -1,10 +1,12 @@
-use Rattle.std.proofs.Common.{◌≡◌, ℕ, ◌-◌, ◌<◌, Some, None, cond, List, length, take, set, get_or, sym, ◌∙◌, ap, subst, arith, rules}
-use Rattle.std.specs.Prelude.{Option, is_some, slice_get}
+use Rattle.std.proofs.Common.{◌≡◌, ℕ, ◌-◌, ◌<◌, ◌≤◌, Some, None, cond, List, length, take, set, get_or, sym, ◌∙◌, ap, subst, arith, rules}
+use Rattle.std.specs.Prelude.{Option, is_some, slice_get, swap_remove}
 use Rattle.std.proofs.lemmas.Option.{slice_get_read, slice_get_within, get_or_from_slice_get}
 use Rattle.base.specs.declared.key.Key.{Key}
 use Rattle.base.specs.Keys.{key_eq, lookup_key}
 use Rattle.index.specs.declared.entry.Entry.{Entry}
-use Rattle.index.specs.Entries.{blank, entry_at, IsAt, Sets, LosesRoom}
+use Rattle.index.specs.Entries.{blank, entry_at, live_of, IsAt, Sets, LosesRoom}
+use Rattle.index.specs.Counting.{live_number}
+use Rattle.index.proofs.LiveKeys.{live-less}
 use Rattle.index.proofs.Removals.{removed-placed, removed-sets, removed-loses}
 use Rattle.index.proofs.map.Index.take_out.Goals as goal
 
@@ -36,7 +38,7 @@ pub give_place-requires-clause-key : goal.give_place-requires-clause-key
 give_place-requires-clause-key c =
     let entries = c.self.inside.entries.items in
     let at = here c.args.self.now entries c.args.place c.args.key c.self.view_is c.requires in
-    ap (λ (o : Option ℕ). is_some o) (c.self.invariant.once c.args.key c.args.place (entry_at entries c.args.key) at)
+    ap (λ (o : Option ℕ). is_some o) (c.self.invariant.0.once c.args.key c.args.place (entry_at entries c.args.key) at)
 
 pub give_place-requires-clause-moved : goal.give_place-requires-clause-moved
 give_place-requires-clause-moved c =
@@ -44,10 +46,22 @@ give_place-requires-clause-moved c =
     let at = here c.args.self.now entries c.args.place c.args.key c.self.view_is c.requires in
     let counted : c.len-last.result ≡ length entries = search rules in
     let last = last-is entries c.args.place c.len-last.result c.index.result.now c.key-moved.result (within entries c.args.place c.args.key at) counted c.index.ensures c.key-moved.ensures in
-    ap (λ (o : Option ℕ). is_some o) (c.self.invariant.once c.key-moved.result (length entries - 1) c.index.result.now.1 last)
+    ap (λ (o : Option ℕ). is_some o) (c.self.invariant.0.once c.key-moved.result (length entries - 1) c.index.result.now.1 last)
 
-pub swap_remove-requires : goal.swap_remove-requires
-swap_remove-requires c = grind (arith, within, here)
+pub swap_remove-removed-requires : goal.swap_remove-removed-requires
+swap_remove-removed-requires c = grind (arith, within, here)
+
+-- the number of covered rows before and after
+less : (live gone : ℕ) (entries left : Entries) (place : ℕ) (x : Key × Entry) (entry : Entry) → live ≡ live_number entries → place < length entries → x ≡ get_or entries place x → left ≡ swap_remove entries place x → entry ≡ x.1
+    → gone ≡ cond (is_some (live_of entry)) 1 0 → (gone ≤ live) × (live - gone ≡ live_number left)
+less live gone entries left place x entry lives lt read out is was = live-less live gone entries left place x lives lt read out (was ∙ ap (λ (e : Entry). cond (is_some (live_of e)) 1 0) is)
+
+pub overflow_sub-self : goal.overflow_sub-self
+overflow_sub-self c =
+    let entries = c.self.inside.entries.items in
+    let at = here c.args.self.now entries c.args.place c.args.key c.self.view_is c.requires in
+    (less c.self.inside.live c.live_number.result entries c.swap_remove-removed.new.self.items c.args.place c.swap_remove-removed.result c.entry.result c.self.invariant.1 (within entries c.args.place c.args.key at) c.swap_remove-removed.ensures.value c.swap_remove-removed.ensures.items
+    c.entry.ensures c.live_number.ensures).0
 
 pub invariant_of-self : goal.invariant_of-self
 invariant_of-self c =
@@ -55,10 +69,12 @@ invariant_of-self c =
     let places = c.self.inside.places.entries in
     let at = here c.args.self.now entries c.args.place c.args.key c.self.view_is c.requires in
     let counted : c.len-last.result ≡ length entries = search rules in
-    let last = last-is entries c.args.place c.len-last.result c.index.result.now c.key-moved.result (within entries c.args.place c.args.key at) counted c.index.ensures c.key-moved.ensures in
-    removed-placed places entries c.self.invariant c.args.key c.args.place at c.key-moved.result c.index.result.now.1 last c.swap_remove.new.self.items
-    (left-is entries c.swap_remove.new.self.items c.args.place c.swap_remove.result (c.key-moved.result, c.index.result.now.1) last c.swap_remove.ensures.items) c.give_place.new.places.entries
-    (places-left places c.args.key c.key-moved.result c.args.place c.give_place.new.places.entries (c.self.invariant.once c.args.key c.args.place (entry_at entries c.args.key) at) c.give_place.ensures)
+    let last = last-is entries c.args.place c.len-last.result c.index.result.now c.key-moved.result (within entries c.args.place c.args.key at) counted c.index.ensures c.key-moved.ensures in (
+      removed-placed places entries c.self.invariant.0 c.args.key c.args.place at c.key-moved.result c.index.result.now.1 last c.swap_remove-removed.new.self.items
+          (left-is entries c.swap_remove-removed.new.self.items c.args.place c.swap_remove-removed.result (c.key-moved.result, c.index.result.now.1) last c.swap_remove-removed.ensures.items) c.give_place.new.places.entries
+          (places-left places c.args.key c.key-moved.result c.args.place c.give_place.new.places.entries (c.self.invariant.0.once c.args.key c.args.place (entry_at entries c.args.key) at) c.give_place.ensures),
+      (less c.self.inside.live c.live_number.result entries c.swap_remove-removed.new.self.items c.args.place c.swap_remove-removed.result c.entry.result c.self.invariant.1 (within entries c.args.place c.args.key at) c.swap_remove-removed.ensures.value c.swap_remove-removed.ensures.items c.entry.ensures c.live_number.ensures).1,
+    )
 
 pub returns-clause-entries : goal.returns-clause-entries
 returns-clause-entries c =
@@ -67,10 +83,10 @@ returns-clause-entries c =
     let at = here c.args.self.now entries c.args.place c.args.key c.self.view_is c.requires in
     let counted : c.len-last.result ≡ length entries = search rules in
     let last = last-is entries c.args.place c.len-last.result c.index.result.now c.key-moved.result (within entries c.args.place c.args.key at) counted c.index.ensures c.key-moved.ensures in
-    subst (λ (es : Entries). Sets es c.swap_remove.new.self.items c.args.key blank) c.self.view_is
-    (removed-sets places entries c.self.invariant c.args.key c.args.place at c.key-moved.result c.index.result.now.1 last c.swap_remove.new.self.items
-    (left-is entries c.swap_remove.new.self.items c.args.place c.swap_remove.result (c.key-moved.result, c.index.result.now.1) last c.swap_remove.ensures.items) c.give_place.new.places.entries
-    (places-left places c.args.key c.key-moved.result c.args.place c.give_place.new.places.entries (c.self.invariant.once c.args.key c.args.place (entry_at entries c.args.key) at) c.give_place.ensures))
+    subst (λ (es : Entries). Sets es c.swap_remove-removed.new.self.items c.args.key blank) c.self.view_is
+    (removed-sets places entries c.self.invariant.0 c.args.key c.args.place at c.key-moved.result c.index.result.now.1 last c.swap_remove-removed.new.self.items
+    (left-is entries c.swap_remove-removed.new.self.items c.args.place c.swap_remove-removed.result (c.key-moved.result, c.index.result.now.1) last c.swap_remove-removed.ensures.items) c.give_place.new.places.entries
+    (places-left places c.args.key c.key-moved.result c.args.place c.give_place.new.places.entries (c.self.invariant.0.once c.args.key c.args.place (entry_at entries c.args.key) at) c.give_place.ensures))
 
 pub returns-clause-room : goal.returns-clause-room
 returns-clause-room c =
@@ -79,7 +95,7 @@ returns-clause-room c =
     let at = here c.args.self.now entries c.args.place c.args.key c.self.view_is c.requires in
     let counted : c.len-last.result ≡ length entries = search rules in
     let last = last-is entries c.args.place c.len-last.result c.index.result.now c.key-moved.result (within entries c.args.place c.args.key at) counted c.index.ensures c.key-moved.ensures in
-    subst (λ (es : Entries). LosesRoom es c.swap_remove.new.self.items c.args.key) c.self.view_is
-    (removed-loses places entries c.self.invariant c.args.key c.args.place at c.key-moved.result c.index.result.now.1 last c.swap_remove.new.self.items
-    (left-is entries c.swap_remove.new.self.items c.args.place c.swap_remove.result (c.key-moved.result, c.index.result.now.1) last c.swap_remove.ensures.items) c.give_place.new.places.entries
-    (places-left places c.args.key c.key-moved.result c.args.place c.give_place.new.places.entries (c.self.invariant.once c.args.key c.args.place (entry_at entries c.args.key) at) c.give_place.ensures))
+    subst (λ (es : Entries). LosesRoom es c.swap_remove-removed.new.self.items c.args.key) c.self.view_is
+    (removed-loses places entries c.self.invariant.0 c.args.key c.args.place at c.key-moved.result c.index.result.now.1 last c.swap_remove-removed.new.self.items
+    (left-is entries c.swap_remove-removed.new.self.items c.args.place c.swap_remove-removed.result (c.key-moved.result, c.index.result.now.1) last c.swap_remove-removed.ensures.items) c.give_place.new.places.entries
+    (places-left places c.args.key c.key-moved.result c.args.place c.give_place.new.places.entries (c.self.invariant.0.once c.args.key c.args.place (entry_at entries c.args.key) at) c.give_place.ensures))

@@ -4,7 +4,9 @@ use Rattle.pmem.specs.Device.{Device, stored}
 use Rattle.pmem_file.specs.Journaled.{NamesPlaces}
 use Rattle.pmem_file.specs.Traces.{device_of}
 use Rattle.pmem_file.proofs.Differences.{differs-stored}
+use Rattle.pmem_file.proofs.Named.{names-stored}
 use Rattle.pmem_file.proofs.Since.{Holds, Written, holds-stored, written-stored}
+use Rattle.pmem_file.proofs.journaled.JournaledPmem.store_first.Goals.{else-word-lt8-via-then-word-lt8+else-not-keeps_places, else-word-lt8-via-else-word-lt8}
 use Rattle.pmem_file.proofs.journaled.JournaledPmem.store_first.Goals as goal
 
 pub invariant_of-self : goal.invariant_of-self
@@ -21,9 +23,13 @@ invariant_of-self g c =
     let w0 = subst V (sym c.note_gate.ensures.unwritten) (λ works. written-stored (device_of old.trace) old.words.items old.places old.is_gate_unwritten (device_of old.written.value).clock (g.I.Images.shows old.images) c.args.word c.args.value (record { back = old.since_written works; gates = old.gates_written works })) in
     let W : Device → Type 0 = λ d. old.failed ≡ false → Written d words old.places c.note_gate.new.unwritten (device_of old.written.value).clock (g.I.Images.shows old.images) in
     let w = subst W (sym c.note.ensures) w0 in
+    let named : NamesPlaces old.places words = elim c.else-word-lt8.branch [
+      | else-word-lt8-via-then-word-lt8+else-not-keeps_places w ↦ subst (λ (l : List ℕ). NamesPlaces old.places (slice_set l c.args.word c.args.value)) w.deref.ensures.value (w.keeps_places.ensures.0 w.if-not-keeps_places.false)
+      | else-word-lt8-via-else-word-lt8 w ↦ names-stored old.places old.words.items c.args.word c.args.value (omega (arith, w.if-word-lt8.false)) old.named
+    ] in
     record {
       marked = (omega (arith, old.marked.0, length-set old.words.items c.args.word c.args.value, c.add.ensures.count), c.add.ensures.places ∙ old.marked.1);
-      named = subst (λ (l : List ℕ). NamesPlaces old.places (slice_set l c.args.word c.args.value)) c.deref.ensures.value (c.keeps_places.ensures.0 c.if-not-keeps_places.false);
+      named = named;
       shown = h.shown;
       mirrored = h.mirrored;
       since = h.back;

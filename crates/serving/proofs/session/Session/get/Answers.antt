@@ -8,10 +8,10 @@ pub returns-in-Ok : goal.returns-in-Ok
 returns-in-Ok g c =
     let same : c.deref.result.now.reads.session ≡ c.in-Some.transaction.snapshot.reads.session = rw c.deref.ensures refl in
     in-some _ (Gets c.args.key) c.args.self.now.current c.in-Some.transaction _ (search rules)
-    (subst (λ (session : ℕ). Gets c.args.key session (Row c.in-Ok.row)) same c.in-Ok.ensures)
+    (subst (λ (session : ℕ). Gets c.args.key session (Row c.in-Ok.row)) same c.in-Ok.ensures.answers)
 
 pub returns-in-Err : goal.returns-in-Err
 returns-in-Err g c =
     let same : c.deref.result.now.reads.session ≡ c.in-Some.transaction.snapshot.reads.session = rw c.deref.ensures refl in
     in-some _ (Gets c.args.key) c.args.self.now.current c.in-Some.transaction _ (search rules)
-    (subst (λ (session : ℕ). Gets c.args.key session (Refused c.status_of.result c.text_of.result)) same (c.in-Err.error, c.in-Err.ensures, c.status_of.ensures))
+    (subst (λ (session : ℕ). Gets c.args.key session (Refused c.status_of.result c.text_of.result)) same (c.in-Err.error, c.in-Err.ensures.answers, c.status_of.ensures))

@@ -16,7 +16,7 @@ read-so session key result told is answers = subst (λ (r : Result (Option (List
 pub returns-in-Some : goal.returns-in-Some
 returns-in-Some g c = (
   c.in-Ok-Some.row,
-  read-so c.args.self.now.reads.session c.args.key c.get.result (Some c.in-Ok-Some.row) (search rules) c.get.ensures,
+  read-so c.args.self.now.reads.session c.args.key c.get.result (Some c.in-Ok-Some.row) (search rules) c.get.ensures.answers,
   search rules,
   search rules,
 )
@@ -24,10 +24,10 @@ returns-in-Some g c = (
 pub returns-in-None : goal.returns-in-None
 returns-in-None g c = inl (
   c.in-Ok-Some.row,
-  read-so c.args.self.now.reads.session c.args.key c.get.result (Some c.in-Ok-Some.row) (search rules) c.get.ensures,
+  read-so c.args.self.now.reads.session c.args.key c.get.result (Some c.in-Ok-Some.row) (search rules) c.get.ensures.answers,
   search rules,
   refl,
 )
 
 pub returns-in-Ok-None : goal.returns-in-Ok-None
-returns-in-Ok-None g c = read-so c.args.self.now.reads.session c.args.key c.get.result None (search rules) c.get.ensures
+returns-in-Ok-None g c = read-so c.args.self.now.reads.session c.args.key c.get.result None (search rules) c.get.ensures.answers
