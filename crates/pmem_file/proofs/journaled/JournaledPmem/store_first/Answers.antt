@@ -3,7 +3,7 @@ use Rattle.std.proofs.lemmas.List.{length-set}
 use Rattle.pmem.specs.Device.{Device, stored}
 use Rattle.pmem_file.specs.Journaled.{NamesPlaces}
 use Rattle.pmem_file.specs.Traces.{device_of}
-use Rattle.pmem_file.proofs.Differences.{differs-stored}
+use Rattle.pmem_file.proofs.Differences.{differs-noted}
 use Rattle.pmem_file.proofs.Named.{names-stored}
 use Rattle.pmem_file.proofs.Since.{Holds, Written, holds-stored, written-stored}
 use Rattle.pmem_file.proofs.journaled.JournaledPmem.store_first.Goals.{else-word-lt8-via-then-word-lt8+else-not-keeps_places, else-word-lt8-via-else-word-lt8}
@@ -28,7 +28,7 @@ invariant_of-self g c =
       | else-word-lt8-via-else-word-lt8 w ↦ names-stored old.places old.words.items c.args.word c.args.value (omega (arith, w.if-word-lt8.false)) old.named
     ] in
     record {
-      marked = (omega (arith, old.marked.0, length-set old.words.items c.args.word c.args.value, c.add.ensures.count), c.add.ensures.places ∙ old.marked.1);
+      marked = (omega (arith, old.marked.0, length-set old.words.items c.args.word c.args.value, c.note_change.ensures.count), c.note_change.ensures.places ∙ old.marked.1);
       named = named;
       shown = h.shown;
       mirrored = h.mirrored;
@@ -37,5 +37,6 @@ invariant_of-self g c =
       since_written = λ works. (w works).back;
       gates_written = λ works. (w works).gates;
       noted = old.noted;
-      changes = λ none image may. differs-stored old.changed.lines c.add.new.self.lines old.words.items image c.args.word c.args.value (old.changes none image may) (c.in-Ok.ensures.has) c.add.ensures.others;
+      changes = λ none image may. differs-noted old.changed.lines c.note_change.new.changed.lines old.words.items image c.args.word c.args.value (old.changes none image may)
+          (rw c.as_slice.ensures.value at (c.note_change.ensures.has c.if-not-note_change.false)) c.note_change.ensures.others;
     }
