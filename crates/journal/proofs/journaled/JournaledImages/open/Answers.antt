@@ -1,4 +1,4 @@
-use Rattle.std.proofs.Common.{◌≡◌, ◌∙◌, inl, true, false, Bool, ℕ, ◌+◌, ◌*◌, List, length, get_or, refl, sym, ap, subst, arith}
+use Rattle.std.proofs.Common.{◌≡◌, ◌∙◌, inl, true, false, Bool, ℕ, ◌*◌, List, length, refl, sym, ap, subst, arith}
 use Rattle.std.proofs.lemmas.Grind.{merely}
 use Rattle.journal.specs.Files.{Opens, pass_word}
 use Rattle.journal.specs.States.{KnowsJournal}
@@ -15,17 +15,17 @@ pass_true false is = absurd (omega (arith, is))
 
 pub rewrite-requires-clause-known : goal.rewrite-requires-clause-known
 rewrite-requires-clause-known g c =
-    let durable = c.of.result.value.items in
+    let durable = c.of-written.result.value.items in
     let file : List ℕ = c.args.file.now.items in
     let hold = g.S.Storage.may_hold c.args.storage in
-    let is : durable ≡ c.leave_image.new.file.items = ap (λ v. v.items) c.of.ensures in
+    let is : durable ≡ c.leave_image.new.file.items = ap (λ v. v.items) c.of-written.ensures in
     let opens : Opens c.args.words c.args.room file durable = subst (λ (l : List ℕ). Opens c.args.words c.args.room file l) (sym is) c.in-Ok.ensures.stands in
     let known : KnowsJournal hold c.args.words c.args.room c.in-Ok.pass durable = record { file = file; size = c.in-Ok.ensures.file.size; behind = c.requires.back c.in-Ok.ensures.file.size; opens = opens; pass_is = λ on. c.in-Ok.ensures.pass } in
     merely (subst (λ (n : ℕ). KnowsJournal hold n c.args.room c.in-Ok.pass durable) (sym opens.size) known)
 
 pub returns-in-Ok-rewrite-clause-found : goal.returns-in-Ok-rewrite-clause-found
 returns-in-Ok-rewrite-clause-found g c image may =
-    let durable = c.of.result.value.items in
+    let durable = c.of-written.result.value.items in
     let hold = g.S.Storage.may_hold c.rewrite.new.storage in
     may-kept hold (length durable) c.args.room true 0 durable image c.in-Ok-rewrite.ensures.rests refl may
 
@@ -34,8 +34,8 @@ returns-in-Err-clause-unopened g c = read-stands (g.S.Storage.may_hold c.args.st
 
 pub returns-in-Err-rewrite-clause-unopened : goal.returns-in-Err-rewrite-clause-unopened
 returns-in-Err-rewrite-clause-unopened g c =
-    let durable = c.of.result.value.items in
-    let is : durable ≡ c.leave_image.new.file.items = ap (λ v. v.items) c.of.ensures in
+    let durable = c.of-written.result.value.items in
+    let is : durable ≡ c.leave_image.new.file.items = ap (λ v. v.items) c.of-written.ensures in
     let old = g.S.Storage.may_hold c.args.storage in
     let new = g.S.Storage.may_hold c.rewrite.new.storage in
     let opens : Opens c.args.words c.args.room c.args.file.now.items durable = subst (λ (l : List ℕ). Opens c.args.words c.args.room c.args.file.now.items l) (sym is) c.in-Ok.ensures.stands in
@@ -44,7 +44,7 @@ returns-in-Err-rewrite-clause-unopened g c =
 pub returns-in-Err-rewrite-clause-tail : goal.returns-in-Err-rewrite-clause-tail
 returns-in-Err-rewrite-clause-tail g c is has =
     let old = g.S.Storage.may_hold c.args.storage in
-    let size : length c.of.result.value.items ≡ c.args.words = ap (λ v. length v.items) c.of.ensures ∙ c.in-Ok.ensures.stands.size in
+    let size : length c.of-written.result.value.items ≡ c.args.words = ap (λ v. length v.items) c.of-written.ensures ∙ c.in-Ok.ensures.stands.size in
     (rw size at c.rewrite.ensures.tail) (names_read old c.args.words c.args.room c.args.file.now.items (c.requires.back is.size) has)
 
 pub returns-in-Err-clause-first : goal.returns-in-Err-clause-first
@@ -55,13 +55,13 @@ returns-in-Err-rewrite-clause-first g c is begins =
     let words = c.args.words in
     let room = c.args.room in
     let file : List ℕ = c.args.file.now.items in
-    let size : length c.of.result.value.items ≡ words = ap (λ v. length v.items) c.of.ensures ∙ c.in-Ok.ensures.stands.size in
+    let size : length c.of-written.result.value.items ≡ words = ap (λ v. length v.items) c.of-written.ensures ∙ c.in-Ok.ensures.stands.size in
     let pass = pass_true c.in-Ok.pass (sym c.in-Ok.ensures.pass ∙ first_pass words room file begins) in
     (rw size at c.rewrite.ensures.first) pass (first_read (g.S.Storage.may_hold c.args.storage) words room file (c.requires.back is.size) begins)
 
 pub invariant_of-result-clause-decides : goal.invariant_of-result-clause-decides
 invariant_of-result-clause-decides g c =
-    let durable = c.of.result.value.items in
+    let durable = c.of-written.result.value.items in
     decides_rests (g.S.Storage.may_hold c.rewrite.new.storage) (length durable) c.args.room true 0 durable c.in-Ok-rewrite.ensures.rests
 
 pub returns-in_default-clause-unopened : goal.returns-in_default-clause-unopened
@@ -72,55 +72,55 @@ returns-in_default-clause-tail g c is has = names_read (g.S.Storage.may_hold c.a
 
 pub invariant_of-result-clause-placed : goal.invariant_of-result-clause-placed
 invariant_of-result-clause-placed g c works =
-    let durable = c.of.result.value.items in
-    let is : durable ≡ c.leave_image.new.file.items = ap (λ v. v.items) c.of.ensures in
+    let durable = c.of-written.result.value.items in
+    let is : durable ≡ c.leave_image.new.file.items = ap (λ v. v.items) c.of-written.ensures in
     let unplaced = c.in-Ok-new.unplaced in
     let size : 8 * length unplaced.marks.items ≡ length durable = omega (arith, c.in-Ok-new.ensures.size, c.in-Ok.ensures.file.whole, c.in-Ok.ensures.stands.size, ap (λ (l : List ℕ). length l) is) in
     rests-placed (g.S.Storage.may_hold c.rewrite.new.storage) c.args.room true unplaced.lines.items unplaced.marks.items durable c.in-Ok-new.ensures.lines size c.in-Ok-new.ensures.marks c.in-Ok-rewrite.ensures.rests
 
 pub rewrite-requires-clause-same : goal.rewrite-requires-clause-same
 rewrite-requires-clause-same g c =
-    ap (λ v. v.items) c.of.ensures ∙ sym c.as_slice.ensures.value
+    ap (λ v. v.items) c.of-written.ensures ∙ sym c.as_slice.ensures.value
 
 pub rewrite-requires-clause-fits : goal.rewrite-requires-clause-fits
 rewrite-requires-clause-fits g c =
-    let size : length c.of.result.value.items ≡ c.args.words = ap (λ v. length v.items) c.of.ensures ∙ c.in-Ok.ensures.stands.size in
+    let size : length c.of-written.result.value.items ≡ c.args.words = ap (λ v. length v.items) c.of-written.ensures ∙ c.in-Ok.ensures.stands.size in
     omega (arith, c.in-Ok.ensures.file.fits, size)
 
 pub returns-in-Ok-rewrite-clause-stands : goal.returns-in-Ok-rewrite-clause-stands
 returns-in-Ok-rewrite-clause-stands g c =
-    subst (λ (l : List ℕ). Opens c.args.words c.args.room c.args.file.now.items l) (sym (ap (λ v. v.items) c.of.ensures)) c.in-Ok.ensures.stands
+    subst (λ (l : List ℕ). Opens c.args.words c.args.room c.args.file.now.items l) (sym (ap (λ v. v.items) c.of-written.ensures)) c.in-Ok.ensures.stands
 
 pub returns-in-Ok-rewrite-clause-image : goal.returns-in-Ok-rewrite-clause-image
 returns-in-Ok-rewrite-clause-image g c =
-    sym (ap (λ v. v.items) c.of.ensures)
+    sym (ap (λ v. v.items) c.of-written.ensures)
 
 pub returns-in-Ok-rewrite-clause-named : goal.returns-in-Ok-rewrite-clause-named
 returns-in-Ok-rewrite-clause-named g c =
-    let size : length c.of.result.value.items ≡ c.args.words = ap (λ v. length v.items) c.of.ensures ∙ c.in-Ok.ensures.stands.size in
+    let size : length c.of-written.result.value.items ≡ c.args.words = ap (λ v. length v.items) c.of-written.ensures ∙ c.in-Ok.ensures.stands.size in
     rw size at c.in-Ok-rewrite.ensures.named
 
 pub returns-in-Ok-rewrite-clause-holds : goal.returns-in-Ok-rewrite-clause-holds
 returns-in-Ok-rewrite-clause-holds g c =
-    let size : length c.of.result.value.items ≡ c.args.words = ap (λ v. length v.items) c.of.ensures ∙ c.in-Ok.ensures.stands.size in
+    let size : length c.of-written.result.value.items ≡ c.args.words = ap (λ v. length v.items) c.of-written.ensures ∙ c.in-Ok.ensures.stands.size in
     rw size at c.in-Ok-rewrite.ensures.holds
 
 pub returns-in-Err-rewrite-clause-part : goal.returns-in-Err-rewrite-clause-part
 returns-in-Err-rewrite-clause-part g c =
-    let size : length c.of.result.value.items ≡ c.args.words = ap (λ v. length v.items) c.of.ensures ∙ c.in-Ok.ensures.stands.size in
+    let size : length c.of-written.result.value.items ≡ c.args.words = ap (λ v. length v.items) c.of-written.ensures ∙ c.in-Ok.ensures.stands.size in
     rw size at c.rewrite.ensures.before
 
 pub invariant_of-result-clause-whole : goal.invariant_of-result-clause-whole
 invariant_of-result-clause-whole g c =
-    let size : length c.of.result.value.items ≡ c.args.words = ap (λ v. length v.items) c.of.ensures ∙ c.in-Ok.ensures.stands.size in
+    let size : length c.of-written.result.value.items ≡ c.args.words = ap (λ v. length v.items) c.of-written.ensures ∙ c.in-Ok.ensures.stands.size in
     omega (arith, c.in-Ok.ensures.file.whole, size)
 
 pub invariant_of-result-clause-sized : goal.invariant_of-result-clause-sized
 invariant_of-result-clause-sized g c =
-    let size : length c.of.result.value.items ≡ c.args.words = ap (λ v. length v.items) c.of.ensures ∙ c.in-Ok.ensures.stands.size in
+    let size : length c.of-written.result.value.items ≡ c.args.words = ap (λ v. length v.items) c.of-written.ensures ∙ c.in-Ok.ensures.stands.size in
     sym size
 
 pub invariant_of-result-clause-fits : goal.invariant_of-result-clause-fits
 invariant_of-result-clause-fits g c =
-    let size : length c.of.result.value.items ≡ c.args.words = ap (λ v. length v.items) c.of.ensures ∙ c.in-Ok.ensures.stands.size in
+    let size : length c.of-written.result.value.items ≡ c.args.words = ap (λ v. length v.items) c.of-written.ensures ∙ c.in-Ok.ensures.stands.size in
     omega (arith, c.in-Ok.ensures.file.fits, size)
