@@ -435,7 +435,6 @@ fn is_grown(file: &[u64], shape: Shape) -> bool
 }
 
 // This shape, if the file was being made as long: behind its image there is nothing yet, except for words of the first tail.
-#[tactic(auto, using(crate::proofs::Shapes::growing))]
 fn grown_shape(file: &[u64], asked: &Option<Geometry>, shape: Shape) -> Option<Shape>
     requires { whole shape < 2 ^ 58 }
     ensures some { IfSome result (HasShape asked.now file.now) }

@@ -1,4 +1,4 @@
-use Rattle.std.proofs.Common.{⊤}
+use Rattle.std.specs.Prelude.{⊤}
 use Rattle.pmem_file.proofs.shape.Found.read.Given as goal
 
 abbrev pub invariant-loop-left : goal.invariant-loop-left
