@@ -1,4 +1,4 @@
-ghost use Rattle.std.specs.Prelude.{◌≡◌, ◌⊎◌, ◌/◌, ◌<◌, ◌≤◌, ◌*◌, ◌&&◌, ◌||◌, ℕ, List, length, true, false, None, slice_index, IfOk, OnOk, OnErr, IfErr};
+ghost use Rattle.std.specs.Prelude.{◌≡◌, ◌⊎◌, ◌/◌, ◌<◌, ◌≤◌, ◌*◌, ◌&&◌, ◌||◌, ℕ, List, length, true, false, None, slice_index, slice_set, IfOk, OnOk, OnErr, IfErr};
 ghost use Rattle.journal.specs.Changes.{DiffersIn, is_listed};
 ghost use Rattle.pmem.specs.Device.{Device, stored, fenced, failed, MightHaveLeft};
 ghost use Rattle.journal.specs.Kept.{HoldsOnly};
@@ -156,7 +156,7 @@ impl<I: Images> JournaledPmem<I> {
         ensures stored { result ≡ true → device_of self.new.trace ≡ stored word value (device_of self.old.trace) }
         ensures refused { result ≡ false → device_of self.new.trace ≡ failed (device_of self.old.trace) }
     {
-        if word < 8 && !keeps_places(&self.words, self.places, word, value) {
+        if !leaves_places(&self.words, self.places, word, value) {
             let _ = self.refuse();
             return false;
         }
@@ -375,6 +375,17 @@ fn unopened<S: Storage>(images: JournaledImages<S>) -> Unopened<S>
         error: io::Error::from(io::ErrorKind::OutOfMemory),
         storage: images.release(),
     }
+}
+
+// Whether the image names no other places than these, once this word has this value: only words of its superblock name them.
+fn leaves_places(words: &[u64], places: usize, word: usize, value: u64) -> bool
+    requires { NamesPlaces places words.now }
+    ensures { result ≡ true → NamesPlaces places (slice_set words.now word value) }
+{
+    if word < 8 {
+        return keeps_places(words, places, word, value);
+    }
+    true
 }
 
 // Adds the line of a word that is to have this value, unless it has it. Returns whether there was memory.
