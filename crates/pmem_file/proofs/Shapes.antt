@@ -1,6 +1,6 @@
 -- Which shape the words of a file have.
-use Rattle.std.proofs.Common.{◌≡◌, ◌≢◌, ◌⊎◌, inl, inr, ℕ, ◌+◌, ◌-◌, ◌*◌, ◌^◌, ◌<◌, ◌≤◌, ◌&&◌, true, nat_le, List, Option, Result, Ok, Err, None, Some, IfOk, IfNone, IfSome, IsTrue, OnSome, length, take, drop, replicate, get_or, refl, sym, ◌∙◌, ap, subst, arith}
-use Rattle.std.proofs.lemmas.Bool.{and_parts, eqb-true, leb-true}
+use Rattle.std.proofs.Common.{◌≡◌, ◌≢◌, ◌⊎◌, inl, inr, ℕ, ◌+◌, ◌-◌, ◌*◌, ◌^◌, ◌<◌, ◌≤◌, true, List, Option, Result, Ok, Err, None, Some, IfOk, IfNone, IfSome, IsTrue, OnSome, length, take, drop, replicate, get_or, refl, sym, ◌∙◌, ap, subst, arith}
+use Rattle.std.proofs.lemmas.Bool.{and_parts, eqb-true}
 use Rattle.std.proofs.lemmas.List.{append-nil, length-drop, length-take, length-replicate, get_or-drop, get_or-take, get_or-replicate, get_or_append_left, get_or-append_right, take_all}
 use Rattle.std.specs.Option.{option_or}
 use Rattle.std.specs.declared.io.Error.{Error}
