@@ -1,6 +1,7 @@
 use anyhow;
 use base::fault::Fault;
 use base::geometry::Geometry;
+use base::row::Row;
 use pmem_file::OpenError;
 use std::{fmt, io};
 use thiserror::Error;
@@ -111,8 +112,8 @@ fn write_too_long<W: fmt::Write>(f: &mut fmt::Formatter<W>, geometry: &Geometry)
         f,
         "the row is too long: a row of this store has at most {limit} bytes"
     )?;
-    if !geometry.is_wide() {
-        write!(f, " (96 in a store that is created with --wide)")?;
+    if limit < Row::LIMIT {
+        write!(f, " (up to 480 in a store that is created with --lines 8)")?;
     }
     Ok(())
 }

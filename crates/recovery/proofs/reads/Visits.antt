@@ -11,11 +11,11 @@ use Rattle.base.specs.declared.key.Key.{Key}
 use Rattle.base.specs.declared.fault.Fault.{Fault}
 use Rattle.base.specs.declared.fault.Fault.TheVariants.{Damaged, OutOfMemory}
 use Rattle.base.specs.Keys.{key_eq}
-use Rattle.base.specs.Layout.{Layout, slot_start, slot_words, total_words}
+use Rattle.base.specs.Layout.{Layout, slot_start, slot_words, total_words, used_words}
 use Rattle.base.specs.Records.{Record, is_committed}
 use Rattle.base.specs.Search.{first_below}
 use Rattle.base.specs.Images.{Image, layout_of, ruling, slot_word, begin_of, end_of, key_of, row_of, is_ahead, is_shown, is_misfit, is_bad_slot, is_second}
-use Rattle.base.proofs.Layouts.{line-words}
+use Rattle.base.proofs.Layouts.{line-words, used-words}
 use Rattle.base.proofs.KeyOrder.{is_at-key}
 use Rattle.base.proofs.Search.{first_below-found}
 use Rattle.pmem.specs.Device.{Device, IsOrderly}
@@ -174,7 +174,10 @@ module _ (device : Device) (layout : Layout) (r : Record) (slot : ℕ) (size : d
 
   -- a version that the device's words hold is one that the image's words hold
   pub held : (v : Version) → IsVersion layout (slot_at layout slot (value_of device)) v → IsVersion (layout_of (image_of device)) (slot_word (image_of device) slot) v
-  held v is = grind (arith, same-width, each-word, laid-out) steps 800000
+  held v is = subst (λ (l : Layout). IsVersion l (slot_word (image_of device) slot) v) (sym laid-out) (record {
+    each = λ w low high. each-word w (omega (arith, high, (used-words layout.version (length v.row)).1)) ∙ is.each w low high;
+    fits = is.fits;
+  })
 
   -- its row
   pub row-held : (s : Slot) → IsSlot layout (slot_at layout slot (value_of device)) s → row_of (image_of device) slot ≡ s.version.row
@@ -193,7 +196,9 @@ module _ (device : Device) (layout : Layout) (r : Record) (slot : ℕ) (size : d
           let image = image_of device in
           let version = holds_version image slot within whole (fits-words orderly) is in
           absurd (none (version_of image slot) (record {
-            each = λ w low high. sym (each-word w high) ∙ version.each w low (omega (arith, high, same-width));
+            each = λ w low high.
+                sym (each-word w (omega (arith, high, (used-words layout.version (length (version_of image slot).row)).1)))
+                ∙ version.each w low (subst (λ (l : Layout). w < used_words l.version (length (version_of image slot).row)) (sym laid-out) high);
             fits = subst (λ (l : Layout). Fits l (version_of image slot)) laid-out version.fits;
           }))
 
