@@ -270,7 +270,7 @@ def words(kv, folder):
     want(kv_on(kv, larger, "dump\n").output.splitlines()[1:-2] == dumped, "the copy dumps the same")
     ended = kv_on(kv, larger, "put 1 1 " + "ab" * 96 + "\nget 1 1\n")
     want(ended.returncode == 0 and "row " + "ab" * 96 in ended.output, "a wide row", ended)
-    for bad in (["--slots", "0"], ["--slots", "16777217"], ["--lines", "3"], ["--wide", "--lines", "2"], ["--slots"], ["--slots", "x"], ["--places", "1"]):
+    for bad in (["--slots", "0"], ["--slots", "16777217"], ["--lines", "9"], ["--wide", "--lines", "2"], ["--slots"], ["--slots", "x"], ["--places", "1"]):
         ended = subprocess.run([kv, os.path.join(folder, "none.img"), *bad], input=b"", capture_output=True, timeout=20, check=False)
         want(ended.returncode == 2 and not os.path.exists(os.path.join(folder, "none.img")), f"{bad}: {ended.returncode}, {ended.stderr}")
     return "each kind of line answers; what is dumped makes the same store; wrong options make none"
