@@ -12,7 +12,7 @@ use Rattle.pmem.specs.Words.{OnlyShrinks, IsSettled}
 use Rattle.pmem.proofs.Changes.{flushed-shrinks, fenced-shrinks, failed-shrinks, flushed-ready, fenced-settles}
 use Rattle.log_area.specs.declared.stage.WritingStage.TheVariants.{StoreBody}
 use Rattle.base.specs.Actors.{committer}
-use Rattle.base.proofs.Layouts.{line-words}
+use Rattle.base.proofs.Layouts.{line-words, lines-words}
 use Rattle.log_area.proofs.UntouchedWords.{KeepsLog, keeps_log-flushed, keeps_log-fenced, keeps_log-failed}
 use Rattle.log_area.proofs.Replacing.{replacing_begun}
 use Rattle.state_invariant.specs.Kept.{Origin, Keeps, KeepsHand}
@@ -154,7 +154,7 @@ module _ (q : State) (commits : List Commit) (old new : Device) (is : new ≡ fe
       whole : (slot w : ℕ) → slot < q.layout.slots → w < slot_words q.layout.version → is_own commits (q.held slot) ≡ true → IsSettled new (word_of q.layout slot w)
       whole slot w lt low own =
           let lines = subst (λ (b : Bool). AreReady q.layout old (cond b (flat_map (λ part. line_at slot part ∷ []) (range_with_len 0 (version_lines q.layout))) (cond (is_ended q commits (q.held slot)) (line_at slot 0 ∷ []) []))) own (here slot lt) in
-          let part = ready-at q.layout old (λ part. line_at slot part ∷ []) 0 (version_lines q.layout) (w / 8) lines (omega arith) (omega (arith, low)) in
+          let part = ready-at q.layout old (λ part. line_at slot part ∷ []) 0 (version_lines q.layout) (w / 8) lines (omega arith) (omega (arith, low, lines-words q.layout)) in
           settles slot w (line_at slot (w / 8)) lt low refl (omega arith) (omega arith) part.0
 
       by_own : (slot : ℕ) → slot < q.layout.slots → is_ended q commits (q.held slot) ≡ true → (b : Bool) → is_own commits (q.held slot) ≡ b → IsSettled new (word_of q.layout slot 1)

@@ -8,7 +8,7 @@ use Rattle.std.proofs.lemmas.Bool.{and_parts, and_from, leb-true}
 use Rattle.base.specs.declared.gap.Gap.{Gap}
 use Rattle.base.specs.declared.fault.Fault.TheVariants.{Damaged, TimestampsOut}
 use Rattle.base.specs.Commits.{Commit, last_writer}
-use Rattle.base.specs.Layout.{Layout, is_known_version, most_slots, opened_layout, opened_version, place_start}
+use Rattle.base.specs.Layout.{Layout, is_known_version, most_slots, opened_layout, opened_version, place_start, slot_lines, slot_words, used_words}
 use Rattle.base.specs.Search.{count_below, first_below, some_if}
 use Rattle.base.specs.Records.{Record, record_in, record_word, is_record, is_well_formed, is_committed, is_in, opened_gaps}
 use Rattle.base.specs.Images.{Image, layout_of, begin_of, gate_at, place_words, greatest_gate, ruling_place, ruling, is_ruled, is_wrong_gate, slot_word, key_of, row_of, bytes_of, is_shown, is_misfit, is_second, len_of, is_bad_slot, faults_of, opening_fault, damage, is_near_limit, needs_sweep}
@@ -74,11 +74,11 @@ module _ (first : ℕ) (words : List ℕ) where
   wrong-same place = ap (λ (g : ℕ). not (nat_eq g 0) && (nat_le (2 ^ 62) g || not (nat_eq (g % (layout_of old).places) place))) (gate-same place)
 
   pub slot-same : (slot w : ℕ) → slot_word new slot w ≡ slot_word old slot w
-  unfolding slot_lines
+  unfolding slot_lines slot_words
   slot-same slot w = word-same (8 + 32 * (layout_of old).places + 8 * slot + w) (omega arith)
 
   bytes-same : (slot : ℕ) → bytes_of new slot ≡ bytes_of old slot
-  unfolding slot_lines used_words
+  unfolding slot_lines slot_words used_words
   bytes-same slot = ap (flat_map (to_le_bytes w64)) (range-same (8 + 32 * (layout_of old).places + 8 * slot + 4) (8 + 32 * (layout_of old).places + 8 * slot + 8) (omega arith))
 
   -- ---- the slots
@@ -96,7 +96,7 @@ module _ (first : ℕ) (words : List ℕ) where
   row-same slot = λ i. take (len-same slot i) (bytes-same slot i)
 
   misfit-same : (slot : ℕ) → is_misfit new slot ≡ is_misfit old slot
-  unfolding slot_lines
+  unfolding slot_lines slot_words
   misfit-same slot = λ i.
       nat_lt 32 (len-same slot i)
       || not (list_all (nat_eq 0) (drop (len-same slot i) (bytes-same slot i)))
@@ -114,7 +114,7 @@ module _ (first : ℕ) (words : List ℕ) where
   needs-same = ap (λ (r : Record). nat_lt 8 (length (opened_gaps r))) ruling-same
 
   swept-same : (word : ℕ) → 2 ≤ word → slice_index (swept new) word ≡ slice_index (swept old) word
-  unfolding slot_lines
+  unfolding slot_lines slot_words
   swept-same word far =
       swept-at new word
       ∙ (λ i. cond (is_mark (layout_of old) word && is_in (opened_gaps (ruling-same i)) (word-same word far i)) 0 (word-same word far i))
@@ -157,7 +157,7 @@ module _ (first : ℕ) (words : List ℕ) where
             and_from (nat_eq (length ws) 32 && list_all (λ w. nat_eq (slice_index ws w) (record_word (record_in ws) w)) (range_with_len 0 32)) (is_well_formed 2 (record_in ws)) parts.0 (formed-more (record_in ws) parts.1)
 
     sound-new : damage new ≡ None
-    unfolding is_known_version most_slots slot_lines
+    unfolding is_known_version most_slots slot_lines slot_words
     sound-new =
         let (formatted, (_, (geometry, (gates, (_, (slots, _)))))) = f in
         none_first (faults_of new) (
@@ -223,7 +223,7 @@ module _ (first : ℕ) (words : List ℕ) where
     }
 
     pub opens-first : OpensUpdated old
-    unfolding slot_lines
+    unfolding slot_lines slot_words
     opens-first = record {
       opens = opens-new;
       up_to_date = refl;
