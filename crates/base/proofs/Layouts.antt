@@ -126,6 +126,10 @@ has_window layout limits = omega (arith, (in-limits layout limits).window.0)
 
 -- ---- the words of all slots
 
+-- a slot begins with a line
+pub slot_whole : (a : Layout) (slot : ℕ) → slot_start a slot ≡ 8 * (1 + 4 * a.places + version_lines a * slot)
+slot_whole a slot = ap (λ (n : ℕ). 8 + 32 * a.places + n * slot) (lines-words a) ∙ omega arith
+
 -- a slot is within the image
 pub slot_within : (layout : Layout) (slot : ℕ) → slot < layout.slots → slot_start layout slot + slot_words layout.version ≤ total_words layout
 slot_within layout slot lt = omega (arith, mul-le-mul_left {m = slot + 1} {n = layout.slots} (slot_words layout.version) (omega (arith, lt)))

@@ -1,12 +1,11 @@
 -- What a slot of a device holds in its image.
 use Rattle.std.proofs.Common.{◌≡◌, ℕ, ◌+◌, ◌^◌, ◌<◌, ◌≤◌, false, length, get_or, refl, sym, ◌∙◌, ap, subst, arith}
-use Rattle.std.proofs.Math.Nat.{mul-le-mul_left}
 use Rattle.std.proofs.lemmas.Bool.{cases_lt}
 use Rattle.std.proofs.lemmas.List.{get_or_past}
 use Rattle.std.proofs.lemmas.List.FromFn.{length-map-range_with_len, get_or-map-range_with_len}
 use Rattle.base.specs.Layout.{Layout, slot_start, slot_words, total_words, used_words}
 use Rattle.base.specs.Images.{layout_of, slot_word, begin_of, end_of, is_misfit}
-use Rattle.base.proofs.Layouts.{line-words, used-words}
+use Rattle.base.proofs.Layouts.{line-words, slot_within, used-words}
 use Rattle.pmem.specs.Device.{Device, IsOrderly}
 use Rattle.pmem.specs.Words.{value_of, image_of}
 use Rattle.version_slot.specs.declared.words.Slot.{Slot}
@@ -27,7 +26,7 @@ module _ (device : Device) (a : Layout) (slot : ℕ) (size : device.words ≡ to
   word-at word lt = get_or-map-range_with_len (value_of device) 0 device.words word word 0 lt (omega arith)
 
   in-slot : (w : ℕ) → w < slot_words a.version → slot_start a slot + w < device.words
-  in-slot w lt = grind (arith, mul-le-mul_left)
+  in-slot w lt = omega (arith, slot_within a slot h, lt, size)
 
   word-same : (w : ℕ) → w < slot_words a.version → slot_word (image_of device) slot w ≡ slot_at a slot (value_of device) w
   word-same w lt = ap (λ (l : Layout). get_or (image_of device) (slot_start l slot + w) 0) laid ∙ word-at (slot_start a slot + w) (in-slot w lt)

@@ -12,7 +12,7 @@ use Rattle.pmem.specs.Words.{OnlyShrinks, IsSettled}
 use Rattle.pmem.proofs.Changes.{flushed-shrinks, fenced-shrinks, failed-shrinks, flushed-ready, fenced-settles}
 use Rattle.log_area.specs.declared.stage.WritingStage.TheVariants.{StoreBody}
 use Rattle.base.specs.Actors.{committer}
-use Rattle.base.proofs.Layouts.{line-words, lines-words}
+use Rattle.base.proofs.Layouts.{line-words, lines-words, slot_whole}
 use Rattle.log_area.proofs.UntouchedWords.{KeepsLog, keeps_log-flushed, keeps_log-fenced, keeps_log-failed}
 use Rattle.log_area.proofs.Replacing.{replacing_begun}
 use Rattle.state_invariant.specs.Kept.{Origin, Keeps, KeepsHand}
@@ -99,7 +99,7 @@ ready-more a device (x ∷ lines) (suc i) line at ready this = (ready.0, ready-m
 
 -- each word of a line of a slot has the line's number
 line-word : (a : Layout) (line : Line) (w : ℕ) → 8 * line.part ≤ w → w < 8 * line.part + 8 → word_of a line.slot w / 8 ≡ line_number a line
-line-word a line w from to = grind arith
+line-word a line w from to = omega (arith, slot_whole a line.slot, from, to)
 
 pub line-flushed : (a : Layout) (old new : Device) (line : Line) → IsOrderly old → old.words ≡ total_words a → new ≡ flushed committer (line_number a line) old → IsLineReady a new line
 line-flushed a old new line orderly size is = grind (arith, flushed-ready, word-within, line-word)

@@ -62,7 +62,7 @@ module _ (f : ℕ → List Operation) where
       All-append (StoresOnly Q) (f from) (flat_map f (range_with_len (from + 1) n)) (each from (omega arith) (omega arith)) (all-slots Q (from + 1) n (λ k low high. each k (omega (arith, low)) (omega (arith, high))))
 
 slot-order : (a : Layout) (k slot : ℕ) → k < slot → slot_start a k + slot_words a.version ≤ slot_start a slot
-slot-order a k slot lt = grind (arith, mul-le-mul_left)
+slot-order a k slot lt = omega (arith, mul-le-mul_left {m = k + 1} {n = slot} (slot_words a.version) (omega (arith, lt)))
 
 module _ (a : Layout) (r : Record) (start : Device) where
   abbrev value : ℕ → ℕ
