@@ -283,7 +283,9 @@ fn lines_option<'a>(alloc: Global) -> Arg<'a>
         .long("lines")
         .value_name("W")
         .value_parser(ValueParser::unsigned(1, 8))
-        .help("An image of version 4, with slots of 1 line for rows of up to 32 bytes, and 64 more for each further line")
+        .help(
+            "An image of version 4, with slots of 1 line for rows of up to 32 bytes, and 64 more for each further line",
+        )
 }
 
 fn number_option<'a>(

@@ -312,7 +312,11 @@ impl Model {
 
     // How many lines a write touches: those of the slot of its row, and the first one of the slot of the row that it ends.
     fn lines(&self, writes: bool, ends: bool) -> u64 {
-        let own = if writes { self.geometry.slot_lines() as u64 } else { 0 };
+        let own = if writes {
+            self.geometry.slot_lines() as u64
+        } else {
+            0
+        };
         own.saturating_add(u64::from(ends))
     }
 
