@@ -5,7 +5,10 @@ use std::fs::File;
 use std::rt::Files;
 use std::sync::Wait;
 use std::thread::Threads;
-use store::{Front, Geometry, Key, Origin, Program, Store, StoreError, Transaction, Ts, Work, key};
+use store::{
+    Closed, Committed, Front, Geometry, Key, Origin, Program, Store, StoreError, Transaction, Ts,
+    Work, key,
+};
 
 // Adds one to the number of a key.
 #[derive(Drop)]
@@ -41,17 +44,27 @@ struct Twice;
 type Saw = (Option<Ts>, Option<Ts>, u64, bool);
 
 impl<R: Wait + Drop> Program<R> for Twice {
+    ghost use Rattle.std.specs.Prelude.{◌≡◌, true};
+    ghost use Rattle.store.specs.Files.{MayOpen};
+
     type Answer = Result<Saw, StoreError>;
 
-    fn run<J: Origin + Send + Sync + 'static>(self, store: Store<R, J>) -> Result<Saw, StoreError> {
+    fn run<J: Origin + Send + Sync + 'static>(self, store: Store<R, J>) -> Result<Saw, StoreError>
+        requires kept { J.kept ≡ true }
+        requires opened { MayOpen J.opened }
+    {
         let (begun, first, ended) = commit_once(&store, 1)?;
-        let (number, second) = store.transact_known(Increment { key: key(1, 1) })?;
-        let closed = store.close_known()?;
-        let (Some(later), Some(last)) = (second.front, closed.front) else {
+        let (number, done) = store.transact_known(Increment { key: key(1, 1) })?;
+        let Committed {
+            timestamp: second,
+            front: later,
+        } = done;
+        let Closed { front: last, .. } = store.close_known()?;
+        let (Some(later), Some(last)) = (later, last) else {
             return Err(StoreError::Own(anyhow!("no history is kept")));
         };
         let is_one = begun.begins(&ended) && ended.begins(&later) && later.begins(&last);
-        Ok((first, second.timestamp, number, is_one))
+        Ok((first, second, number, is_one))
     }
 }
 
@@ -65,11 +78,11 @@ fn commit_once<R: Wait + Drop, J: Origin>(
         return Err(StoreError::Own(anyhow!("no history is kept")));
     };
     transaction.put_number(key(1, 1), number)?;
-    let done = transaction.commit_known()?;
-    let Some(ended) = done.front else {
+    let Committed { timestamp, front } = transaction.commit_known()?;
+    let Some(ended) = front else {
         return Err(StoreError::Own(anyhow!("no history is kept")));
     };
-    Ok((begun, done.timestamp, ended))
+    Ok((begun, timestamp, ended))
 }
 
 /// Prints what two transactions of a kept history know of it.
