@@ -43,13 +43,17 @@ struct Twice;
 // The timestamps, the number, and whether all that was known of the history are beginnings of one.
 type Saw = (Option<Ts>, Option<Ts>, u64, bool);
 
-impl<R: Wait + Drop> Program<R> for Twice {
+impl Program for Twice {
     ghost use Rattle.std.specs.Prelude.{◌≡◌, true};
     ghost use Rattle.store.specs.Files.{MayOpen};
 
     type Answer = Result<Saw, StoreError>;
 
-    fn run<J: Origin + Send + Sync + 'static>(self, store: Store<R, J>) -> Result<Saw, StoreError>
+    fn run<R: Threads + Wait + Copy + Drop + Send + Sync, J: Origin + Send + Sync>(
+        self,
+        _rt: R,
+        store: Store<R, J>,
+    ) -> Result<Saw, StoreError>
         requires kept { J.kept ≡ true }
         requires opened { MayOpen J.opened }
     {
