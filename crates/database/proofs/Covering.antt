@@ -120,11 +120,11 @@ polled_covered : (q : State) (session : Option Session) (t : ℕ) → told t ≡
 polled_covered q a t is = grind (arith, no_time)
 
 -- a poll that reports a timestamp finds it covered
-covered_by_poll : (q q' : State) (n t : ℕ) (reply : Reply) → Stepped q (Poll n) reply q' → told t ≡ committed_of reply → has_timestamp q'.history t ≡ true
+pub covered_by_poll : (q q' : State) (n t : ℕ) (reply : Reply) → Stepped q (Poll n) reply q' → told t ≡ committed_of reply → has_timestamp q'.history t ≡ true
 covered_by_poll q q' n t reply a tells = grind (arith, no_time, polled_covered)
 
 -- an end leaves the history and what is drawn as they are
-history_by_end : (q q' : State) (n : ℕ) (reply : Reply) → Stepped q (End n) reply q' → q'.history ≡ q.history
+pub history_by_end : (q q' : State) (n : ℕ) (reply : Reply) → Stepped q (End n) reply q' → q'.history ≡ q.history
 history_by_end q q' n reply a = grind (arith)
 
 drawn_by_end : (q q' : State) (n : ℕ) (reply : Reply) → Stepped q (End n) reply q' → q'.drawn ≡ q.drawn

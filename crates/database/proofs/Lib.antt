@@ -5,3 +5,4 @@ pub mod Readings
 pub mod Errors
 pub mod Ticks
 pub mod Histories
+pub mod Alongs

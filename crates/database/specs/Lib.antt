@@ -8,3 +8,6 @@ pub mod Ticking
 pub mod Closing
 pub mod Reports
 pub mod Reads
+pub mod Along
+pub mod Helds
+pub mod Holds

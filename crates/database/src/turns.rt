@@ -51,7 +51,7 @@ fn tick<D: Pmem + Drop, J: Origin>(desk: &mut Desk<D, J>) -> Turn
 }
 
 // How many rows the commits of a batch have written or deleted.
-fn rows_of(batch: &Batch) -> u64
+pub fn rows_of(batch: &Batch) -> u64
     ensures { result ≡ min (rows_written batch.now.commits) (2 ^ 64 - 1) }
 {
     let mut rows = 0_u64;
