@@ -1,6 +1,5 @@
 pub mod Runs
 pub mod Covering
-pub mod Reporting
 pub mod Readings
 pub mod Errors
 pub mod Ticks

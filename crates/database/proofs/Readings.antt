@@ -10,17 +10,5 @@ use Rattle.database.specs.Replies.{began_of, row_of, rows_of, done_of, drawn_of,
 pub reads-began : (r : Result ℕ Fault) → r ≡ began_of (as_reply (began r))
 reads-began a = grind (arith)
 
-pub reads-row : (r : Result (Option (List ℕ)) Fault) → r ≡ row_of (as_reply (read r))
-reads-row a = grind (arith)
-
-pub reads-rows : (r : Result (List (Key × List ℕ)) Fault) → r ≡ rows_of (as_reply (scanned r))
-reads-rows a = grind (arith)
-
 pub reads-done : (r : Result ⊤ Fault) → r ≡ done_of (as_reply (done r))
 reads-done a = grind (arith)
-
-pub reads-drawn : (r : Result (Option ℕ) Fault) → r ≡ drawn_of (as_reply (drawn r))
-reads-drawn a = grind (arith)
-
-pub reads-stamped : (r : Result Bool Fault) → r ≡ stamped_of (as_reply (stamped r))
-reads-stamped a = grind (arith)

@@ -6,8 +6,6 @@ pub mod Obeys
 pub mod Committing
 pub mod Ticking
 pub mod Closing
-pub mod Reports
-pub mod Reads
 pub mod Along
 pub mod Helds
 pub mod Holds

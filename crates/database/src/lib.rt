@@ -18,30 +18,13 @@
 //! its clauses. A device of your own is a `Pmem` and a `SyncAhead`: if its fences wait for nothing, `begin_sync` returns `None`.
 #![tactic(auto)]
 
-mod answers;
-mod closing;
-mod committing;
-mod database;
-mod desk;
-mod ending;
 mod error;
 mod generic;
 mod group;
 mod held;
-mod kept;
-mod leading;
 mod opened;
-mod reading;
 mod steps;
-mod trace;
-mod transaction;
 mod turns;
-mod waiting;
-mod workers;
 
-pub use database::{Closed, Database, Refused, Report};
 pub use error::CommitError;
 pub use history::{Front, History, Origin};
-pub use kept::{Program, run_kept};
-pub use room::Page;
-pub use transaction::{Committed, Transaction};

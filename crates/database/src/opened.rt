@@ -6,7 +6,6 @@ ghost use Rattle.room.specs.Runs.{HasTaken};
 ghost use Rattle.room_logs.specs.Logs.{HasLog};
 ghost use Rattle.database.specs.Ended.{EndedAlong};
 
-use crate::database::Report;
 use base::Ts;
 use base::fault::Fault;
 use base::geometry::Geometry;
@@ -106,20 +105,6 @@ impl<D: Pmem + Drop, J: Origin> OpenedRoom<D, J> {
         passed
     }
 
-    /// The history so far, if that is asked for. It waits forever if none is kept.
-    pub fn known_if<R: Wait>(&self, rt: &R, is_kept: bool) -> Option<Front<J>>
-        ensures { KnownIf is_kept self.now.log result }
-    {
-        if !is_kept {
-            return None;
-        }
-        if let Some(log) = &self.log {
-            return Some(log.front());
-        }
-        for _ in rt.forever() {}
-        unreachable!()
-    }
-
     /// The layout of the device.
     pub fn geometry(&self) -> Geometry
         // Of each state that the room shows, and so of one that a run comes to.
@@ -138,38 +123,6 @@ impl<D: Pmem + Drop, J: Origin> OpenedRoom<D, J> {
         self.room.status()
     }
 
-    /// The last timestamp that is drawn in each state that the room shows, or 0.
-    pub fn last_drawn(&self) -> Ts
-        ensures { (q : State) → Shows D.state self.now.room q → result ≡ q.next - 1 }
-    {
-        self.room.status().next.saturating_sub(1)
-    }
-
-    /// How the slots are used.
-    pub fn usage(&self) -> Usage
-        ensures { ComesTo (λ q. ShowsUsage q result) }
-    {
-        self.room.usage()
-    }
-
-    /// The layout, the numbers of the ruling record and how the slots are used.
-    pub fn report(&self) -> Report
-        ensures { ComesTo (λ q. ShowsReport q result) }
-    {
-        Report {
-            layout: self.room.geometry(),
-            numbers: self.room.status(),
-            usage: self.room.usage(),
-        }
-    }
-
-    /// The room, which is to be closed.
-    pub fn into_room(self) -> Room<D>
-        ensures room { result ≡ self.room }
-        ensures run { ∥ HasTaken D.state result (EndedAlong self.ended) ∥₁ }
-    {
-        self.room
-    }
 }
 
 ghost use Rattle.std.specs.Prelude.{◌≡◌, ◌≢◌, ◌⊎◌, ◌∷◌, [], Some, Err, is_ok, replicate};
@@ -227,30 +180,3 @@ fn ended_by(returned: &Result<Tick, Fault>, before: Option<Fault>) -> Option<Fau
     }
 }
 
-impl<D: SyncAhead + Drop, J: Origin> OpenedRoom<D, J> {
-    ghost use Rattle.std.specs.Prelude.{◌≡◌};
-    ghost use Rattle.machine.specs.Machine.{State};
-    ghost use Rattle.room.specs.Room.{Shows, device_of};
-
-    /// Hands out the sync that the next tick would wait for, if it can be made ahead of the tick. It isn't a step.
-    pub fn begin_sync(&mut self) -> Option<D::Pending>
-        // The device is as it was, the room shows what it showed, and whether and why the committer has ended stays as it was.
-        ensures device { device_of D.state self.new.room ≡ device_of D.state self.old.room }
-        ensures shows { (q : State) → Shows D.state self.old.room q → Shows D.state self.new.room q }
-        ensures ended { self.new.ended ≡ self.old.ended }
-        ensures log { self.new.log ≡ self.old.log }
-    {
-        self.room.begin_sync()
-    }
-
-    /// Takes the sync back, which isn't a step either.
-    pub fn end_sync(&mut self, pending: D::Pending)
-        // The device is as it was, the room shows what it showed, and whether and why the committer has ended stays as it was.
-        ensures device { device_of D.state self.new.room ≡ device_of D.state self.old.room }
-        ensures shows { (q : State) → Shows D.state self.old.room q → Shows D.state self.new.room q }
-        ensures ended { self.new.ended ≡ self.old.ended }
-        ensures log { self.new.log ≡ self.old.log }
-    {
-        self.room.end_sync(pending);
-    }
-}
