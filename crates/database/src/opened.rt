@@ -10,11 +10,9 @@ use base::Ts;
 use base::fault::Fault;
 use base::geometry::Geometry;
 use base::step::Step;
-use history::{Front, Log, Origin};
+use history::{Log, Origin};
 use pmem::Pmem;
-use room::{Room, Status, Tick, Usage, Visit};
-use std::sync::Wait;
-use sync_ahead::SyncAhead;
+use room::{Room, Status, Tick, Visit};
 
 /// The room of a device that was opened. It shows the end of a run from that opening: the thread that holds the lock extends the run by
 /// steps, and in no other way.
@@ -41,11 +39,9 @@ impl<D: Pmem + Drop, J: Origin> OpenedRoom<D, J> {
     ghost use Rattle.room.specs.Ticks.{as_reply as ticked};
     ghost use Rattle.room.specs.Room.{Leads, Shows, ShowsStatus, covered_by};
     ghost use Rattle.room.specs.Runs.{ComesTo};
-    ghost use Rattle.room.specs.Usage.{ShowsUsage};
-    ghost use Rattle.database.specs.Histories.{KnownIf, LogsQuiet};
+    ghost use Rattle.database.specs.Histories.{LogsQuiet};
     ghost use Rattle.database.specs.Obeys.{RepeatsTimes};
     ghost use Rattle.database.specs.Opening.{IsFresh};
-    ghost use Rattle.database.specs.Reports.{ShowsReport};
 
     /// The room as it was opened, and its history, if one is kept.
     pub fn new(room: Room<D>, log: Option<Log<J>>) -> OpenedRoom<D, J>
@@ -179,4 +175,3 @@ fn ended_by(returned: &Result<Tick, Fault>, before: Option<Fault>) -> Option<Fau
         Ok(_) => before,
     }
 }
-

@@ -13,9 +13,6 @@ ghost use Rattle.database.specs.Histories.{Logs, LogsQuiet, made_if, DrewNext, T
 use crate::opened::{OpenedRoom, note};
 use base::Ts;
 use base::fault::Fault;
-use base::key::Key;
-use base::row::Row;
-use base::rows::Rows;
 use base::step::Step;
 use history::Origin;
 use pmem::Pmem;
