@@ -34,7 +34,6 @@ use Rattle.database.specs.Ended.{EndedIn, EndedAlong, IsLast, HasEnded}
 use Rattle.database.specs.Obeys.{Finishes, AnswersStep, IsStep}
 use Rattle.database.specs.Committing.{IsAcknowledged, HasLackedMemory, IsSettledUpTo, WaitsInVain, IsGivenUp, StopsAfter, StopsAtEnd, GivesUp, IsAnswered, IsAnsweredAt, AnswersTo, ReportsError, ReportsRefusal}
 use Rattle.database.proofs.Runs.{run-led}
-
 use Rattle.history.specs.declared.origin.Origin.{Ghosts as Origins}
 
 by-tests : (failed past : Bool) (fault : Fault) → option_or (some_if failed Failed) (option_or (some_if past TimestampsOut) None) ≡ Some fault → IsLast fault

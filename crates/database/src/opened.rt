@@ -118,7 +118,6 @@ impl<D: Pmem + Drop, J: Origin> OpenedRoom<D, J> {
     {
         self.room.status()
     }
-
 }
 
 ghost use Rattle.std.specs.Prelude.{◌≡◌, ◌≢◌, ◌⊎◌, ◌∷◌, [], Some, Err, is_ok, replicate};
