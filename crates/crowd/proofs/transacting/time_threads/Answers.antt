@@ -1,7 +1,0 @@
-use denote.Param.Send.{sendable}
-use Rattle.std.proofs.Crossing.{crosses}
-use Rattle.store.proofs.Sharing.{store_sync}
-use Rattle.crowd.proofs.transacting.time_threads.Goals as goal
-
-pub map_indices-requires-sync-F : goal.map_indices-requires-sync-F
-map_indices-requires-sync-F g c κs within = search (sendable, crosses, store_sync) depth 60 fits 20000

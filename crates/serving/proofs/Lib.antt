@@ -1,3 +1,0 @@
-pub mod Conversations
-pub mod Exchanges
-pub mod Opened

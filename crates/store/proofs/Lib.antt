@@ -1,6 +1,0 @@
-pub mod Sharing
-pub mod Conflicts
-pub mod Trying
-pub mod Opening
-pub mod RangeReads
-pub mod Finding
