@@ -24,6 +24,7 @@ mod group;
 mod held;
 mod opened;
 mod steps;
+mod turning;
 mod turns;
 
 pub use error::CommitError;

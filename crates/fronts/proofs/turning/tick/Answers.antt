@@ -6,7 +6,7 @@ use Rattle.fronts.specs.Along.{why_of}
 use Rattle.fronts.specs.Ticking.{turn_of, refusals_after, covered_after}
 use Rattle.fronts.proofs.Alongs.{lacked-made}
 use Rattle.fronts.proofs.Ticks.{err-of, reply-of}
-use Rattle.fronts.proofs.generic.tick.Goals as goal
+use Rattle.fronts.proofs.turning.tick.Goals as goal
 
 pub after_refusal-requires : goal.after_refusal-requires
 after_refusal-requires g c = record {

@@ -2,7 +2,7 @@ use Rattle.std.proofs.Common.{refl, ◌∙◌}
 use Rattle.base.specs.declared.step.Step.TheVariants.{Collect}
 use Rattle.session_steps.specs.Collecting.{as_reply as visited}
 use Rattle.fronts.proofs.Alongs.{some-none, some-then, some-join}
-use Rattle.fronts.proofs.generic.visit_some.Goals as goal
+use Rattle.fronts.proofs.turning.visit_some.Goals as goal
 
 pub loop-init : goal.loop-init
 loop-init g c = record { visits = some-none g.H.Held.along g.met.H.Held.none c.args.room.now Collect; ended = refl }

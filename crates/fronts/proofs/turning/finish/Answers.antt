@@ -1,7 +1,7 @@
 use Rattle.std.proofs.Common.{◌∙◌, ap, inr, Ok}
 use Rattle.fronts.proofs.Alongs.{covers-made, makes-as}
 use Rattle.fronts.proofs.Histories.{finish-ended, finish-same}
-use Rattle.fronts.proofs.generic.finish.Goals as goal
+use Rattle.fronts.proofs.turning.finish.Goals as goal
 
 pub returns-in-Ok-end-clause-steps : goal.returns-in-Ok-end-clause-steps
 returns-in-Ok-end-clause-steps g c =

@@ -1,7 +1,7 @@
 use Rattle.std.proofs.Common.{◌≡◌}
 use Rattle.base.specs.declared.step.Step.TheVariants.{Collect}
 use Rattle.fronts.specs.Along.{MakesSome}
-use Rattle.fronts.proofs.generic.visit_some.Given as goal
+use Rattle.fronts.proofs.turning.visit_some.Given as goal
 
 abbrev pub invariant-loop : goal.invariant-loop
 invariant-loop g l = record {
