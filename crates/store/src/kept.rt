@@ -19,13 +19,18 @@ use std::sync::Wait;
 use std::thread::Threads;
 
 /// What an application does with a store whose history is kept.
-pub trait Program<R: Wait + Drop> {
+pub trait Program {
     ghost use Rattle.std.specs.Prelude.{◌≡◌, true};
     ghost use Rattle.store.specs.Files.{MayOpen};
 
     type Answer;
 
-    fn run<J: Origin + Send + Sync + 'static>(self, store: Store<R, J>) -> Self::Answer
+    /// It may start threads that share the store.
+    fn run<R: Threads + Wait + Copy + Drop + Send + Sync, J: Origin + Send + Sync>(
+        self,
+        rt: R,
+        store: Store<R, J>,
+    ) -> Self::Answer
         // The history is kept, from the opening of this device: it was at rest, and its image has a layout and isn't refused.
         requires kept { J.kept ≡ true }
         requires opened { MayOpen J.opened };
@@ -34,7 +39,7 @@ pub trait Program<R: Wait + Drop> {
 /// Opens the file as `Store::open` does, keeps the history from then on, and runs the application with the store.
 pub fn run<
     R: Files<File = File> + Threads + Wait + Copy + Drop + Send + Sync + 'static,
-    P: Program<R> + Drop,
+    P: Program + Drop,
 >(rt: R, alloc: Global, name: &str, geometry: Geometry, program: P) -> Result<P::Answer, StoreError>
     // As for `Store::open`.
     ensures ok { OnOk result (OpensLayout geometry) }
@@ -59,7 +64,7 @@ pub fn run<
 fn run_named<
     J: Origin + Send + Sync + 'static,
     R: Threads + Wait + Copy + Drop + Send + Sync + 'static,
-    P: Program<R> + Drop,
+    P: Program + Drop,
 >(
     rt: R,
     alloc: Global,
@@ -78,7 +83,7 @@ fn run_named<
     ensures err { IfErr result (IsOpeningError (string_bytes name) geometry) }
 {
     match Database::<Device, R, J>::open_kept(rt, alloc, device, history) {
-        Ok(database) => Ok(program.run::<J>(over(alloc, name, database))),
+        Ok(database) => Ok(program.run::<R, J>(rt, over(alloc, name, database))),
         Err(Refused { fault, device }) => {
             Err(not_opened(name, geometry, refusal_of(device, fault)))
         }
