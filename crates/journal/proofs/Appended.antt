@@ -33,7 +33,7 @@ lines-append : (entries : List (List Line)) (last : List Line) → all_lines (en
 lines-append [] last = right_nil last
 lines-append (lines ∷ entries) last = ap (λ (l : List Line). lines ++ l) (lines-append entries last) ∙ sym (append_assoc lines (all_lines entries) last)
 
-over-append : (a b : List Line) (word v : ℕ) → put_over (a ++ b) word v ≡ put_over b word (put_over a word v)
+pub over-append : (a b : List Line) (word v : ℕ) → put_over (a ++ b) word v ≡ put_over b word (put_over a word v)
 over-append [] b word v = refl
 over-append (line ∷ a) b word v = over-append a b word _
 

@@ -1,5 +1,5 @@
 -- Lines that put what differs.
-use Rattle.std.proofs.Common.{◌≡◌, ◌⊎◌, inl, inr, ℕ, ◌+◌, ◌*◌, ◌/◌, ◌%◌, ◌<◌, ◌≤◌, Bool, true, false, List, [], ◌∷◌, ◌++◌, length, get_or, refl, sym, ◌∙◌, ap, arith}
+use Rattle.std.proofs.Common.{◌≡◌, ◌≢◌, ◌⊎◌, inl, inr, ℕ, ◌+◌, ◌*◌, ◌/◌, ◌%◌, ◌<◌, ◌≤◌, Bool, true, false, List, [], ◌∷◌, ◌++◌, length, get_or, refl, sym, ◌∙◌, ap, arith}
 use Rattle.std.specs.Prelude.{All}
 use Rattle.std.proofs.lemmas.List.{length-map, ext_get_or}
 use Rattle.std.proofs.lemmas.List.Elements.{All-append, All-cons}
@@ -19,7 +19,7 @@ over_puts [] word v = inr (refl, refl)
 over_puts (line ∷ lines) word v = grind (arith, over_puts lines word (get_or line.words (word % 8) 0), over_puts lines word v)
 
 -- so the lines of the numbers in which words differ make them of the durable ones
-pub found-changed : (lines : List Line) (durable words numbers : List ℕ) → AreFound lines durable words numbers → DiffersIn numbers words durable → AreChanged lines durable words
+pub found-changed : (lines : List Line) (durable words numbers : List ℕ) → AreFound lines words numbers → DiffersIn numbers words durable → AreChanged lines durable words
 found-changed lines durable words numbers found differs = grind (arith, over_puts lines)
 
 -- ---- one number more
@@ -28,27 +28,23 @@ listed-cases : (numbers : List ℕ) (last number : ℕ) → is_listed (numbers +
 listed-cases [] last number is = grind (arith)
 listed-cases (first ∷ numbers) last number is = grind (arith, listed-cases numbers last number)
 
--- of a line that is durable, or is none of theirs, nothing is added
-pub found-stood : (lines : List Line) (durable words numbers : List ℕ) (number : ℕ) → AreFound lines durable words numbers
-    → ((word : ℕ) → word < length words → word / 8 ≡ number → get_or durable word 0 ≡ get_or words word 0) → AreFound lines durable words (numbers ++ number ∷ [])
-found-stood lines durable words numbers number before same = grind (arith, listed-cases)
+-- behind the words there is no line
+pub found-stood : (lines : List Line) (words numbers : List ℕ) (number : ℕ) → AreFound lines words numbers → ((word : ℕ) → word < length words → word / 8 ≢ number) → AreFound lines words (numbers ++ number ∷ [])
+found-stood lines words numbers number before none = grind (arith, listed-cases)
 
 all_more : (P : Line → Type 0) (lines : List Line) (line : Line) → All P lines → P line → All P (lines ++ line ∷ [])
 all_more P lines line all here = All-append P lines (line ∷ []) all (All-cons P line [] here (λ k d lt. absurd (omega (arith, lt))))
 
-pub found-more : (lines : List Line) (line : Line) (durable words numbers : List ℕ) (number : ℕ) → AreFound lines durable words numbers → IsLine line → line.number ≡ number → 8 * number + 8 ≤ length words
-    → ((place : ℕ) → place < 8 → get_or line.words place 0 ≡ get_or words (8 * number + place) 0) → AreFound (lines ++ line ∷ []) durable words (numbers ++ number ∷ [])
-found-more lines line durable words numbers number before is at inside same = record {
+pub found-more : (lines : List Line) (line : Line) (words numbers : List ℕ) (number : ℕ) → AreFound lines words numbers → IsLine line → line.number ≡ number → 8 * number + 8 ≤ length words
+    → ((place : ℕ) → place < 8 → get_or line.words place 0 ≡ get_or words (8 * number + place) 0) → AreFound (lines ++ line ∷ []) words (numbers ++ number ∷ [])
+found-more lines line words numbers number before is at inside same = record {
   puts = λ word x put. elim (put-parts lines line word x put) [
     | inl among ↦ before.puts word x among
     | inr last ↦ last.1 ∙ same (word % 8) (omega arith) ∙ ap (λ (n : ℕ). get_or words n 0) (omega (arith, at, last.0))
   ];
   has = λ word lt is'. elim (listed-cases numbers number (word / 8) is') [
-    | inl among ↦ elim (before.has word lt among) [
-      | inl put ↦ inl (at-more lines line (word / 8) put)
-      | inr stood ↦ inr stood
-    ]
-    | inr last ↦ inl (at-last lines line (word / 8) (at ∙ last))
+    | inl among ↦ at-more lines line (word / 8) (before.has word lt among)
+    | inr last ↦ at-last lines line (word / 8) (at ∙ last)
   ];
   lines_are = all_more (λ l. IsLine l) lines line before.lines_are is;
   within = all_more (λ l. 8 * l.number + 8 ≤ length words) lines line before.within (omega (arith, at, inside));

@@ -1,19 +1,19 @@
 -- The journal decides which image is found.
-use Rattle.std.proofs.Common.{Result, Ok, Err, IfOk, IfErr, ◌≡◌, ◌⊎◌, inl, inr, ℕ, ◌+◌, ◌<◌, ◌≤◌, Bool, List, length, map, get_or, refl, sym, ◌∙◌, subst, arith}
+use Rattle.std.proofs.Common.{Result, Ok, Err, IfOk, IfErr, ◌≡◌, ◌⊎◌, inl, inr, ℕ, ◌+◌, ◌<◌, ◌≤◌, Bool, List, length, map, get_or, sym, ◌∙◌, subst, arith}
 use Rattle.std.proofs.Math.Logic.{∥∥₁_elim}
 use Rattle.std.proofs.Math.Nat.{ℕ_set}
 use Rattle.std.proofs.lemmas.Bool.{cases_lt}
 use Rattle.std.proofs.lemmas.List.{ext_get_or}
 use Rattle.std.proofs.lemmas.List.FromFn.{get_or-map-range_with_len, length-map-range_with_len}
 use Rattle.std.specs.List.{range_with_len}
-use Rattle.journal.specs.Files.{lines_in, FoundOpens, HasTail, IsFile, IsStoodFor, Opens, StandsAs}
+use Rattle.journal.specs.Files.{lines_in, FoundOpens, IsFile, Opens}
 use Rattle.journal.specs.InPlace.{put_over}
 use Rattle.journal.specs.Kept.{HoldsOnly, IsFound}
 use Rattle.journal.specs.Lives.{IsLeft, IsNoMore, StandsForNoOther}
-use Rattle.journal.specs.Places.{HoldsPart, PartAsBefore}
-use Rattle.journal.specs.ReadBack.{IsReadWord, JournalDecides, StandsAsBefore, StandsStill}
+use Rattle.journal.specs.Places.{PartAsBefore}
+use Rattle.journal.specs.ReadBack.{IsReadWord, JournalDecides, StandsAsBefore}
 use Rattle.journal.specs.States.{Rests}
-use Rattle.journal.specs.Tails.{NamesAsRead, NamesBoth}
+use Rattle.journal.specs.Tails.{NamesAsRead}
 use Rattle.journal.proofs.Settled.{equal_out}
 use Rattle.journal.proofs.Files.{Puts, decided-stands_still}
 use Rattle.journal.proofs.Tails.{found_tail, names_within}

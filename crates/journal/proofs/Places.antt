@@ -1,6 +1,5 @@
 -- What a writing leaves of the words in place.
-use Rattle.std.proofs.Common.{Result, ◌≡◌, ◌⊎◌, inl, inr, ℕ, ◌+◌, ◌-◌, ◌<◌, ◌≤◌, List, length, get_or, sym, ◌∙◌, arith}
-use Rattle.std.specs.Prelude.{OnOk}
+use Rattle.std.proofs.Common.{inl, inr, ℕ, ◌-◌, ◌≤◌, List, length, sym, ◌∙◌, arith}
 use Rattle.std.proofs.Math.Logic.{∥∥₁_elim}
 use Rattle.std.proofs.Math.Nat.{ℕ_set}
 use Rattle.journal.specs.Places.{PlacesOnly, IsPart, HoldsPart, size_word}

@@ -1,5 +1,5 @@
 -- The lines in which words differ from others.
-use Rattle.std.specs.Prelude.{◌≡◌, ◌⊎◌, ℕ, ◌+◌, ◌*◌, ◌/◌, ◌<◌, ◌≤◌, Bool, true, false, ◌||◌, List, [], ◌∷◌, length, slice_index, ◌==◌, All}
+use Rattle.std.specs.Prelude.{◌≡◌, ℕ, ◌+◌, ◌*◌, ◌/◌, ◌<◌, ◌≤◌, Bool, true, false, ◌||◌, List, [], ◌∷◌, length, slice_index, ◌==◌, All}
 use Rattle.journal.specs.declared.line.Line.{Line}
 use Rattle.journal.specs.InPlace.{put_over}
 use Rattle.journal.specs.Kept.{IsPut, is_put_at}
@@ -22,9 +22,9 @@ pub record AreChanged (lines : List Line) (durable words : List ℕ) : Type 0 wh
   pub lines_are : AreLines lines
   pub within : All (λ line. 8 * line.number + 8 ≤ length words) lines
 
--- lines of these words, and among them each of these numbers that isn't durable so
-pub record AreFound (lines : List Line) (durable words numbers : List ℕ) : Type 0 where
+-- lines of these words, and among them each of these numbers
+pub record AreFound (lines : List Line) (words numbers : List ℕ) : Type 0 where
   pub puts : (word x : ℕ) → IsPut lines word x → x ≡ slice_index words word
-  pub has : (word : ℕ) → word < length words → is_listed numbers (word / 8) ≡ true → (is_put_at lines (word / 8) ≡ true) ⊎ (slice_index durable word ≡ slice_index words word)
+  pub has : (word : ℕ) → word < length words → is_listed numbers (word / 8) ≡ true → is_put_at lines (word / 8) ≡ true
   pub lines_are : AreLines lines
   pub within : All (λ line. 8 * line.number + 8 ≤ length words) lines

@@ -8,7 +8,7 @@ use Rattle.journal.specs.declared.storage.Storage.{Ghosts}
 
 -- the image that was written last
 abbrev pub last_image : {S P : Type 0} → {H : Ghosts S P} → JournaledImages S P H → List ℕ
-last_image images = images.written.items
+last_image images = images.written.value.items
 
 -- how many words the journal has
 abbrev pub room_of : {S P : Type 0} → {H : Ghosts S P} → JournaledImages S P H → ℕ
@@ -24,15 +24,15 @@ failure_of images = images.failure
 
 -- the image may be found, once all has stopped
 abbrev pub MayFind : {S P : Type 0} → {H : Ghosts S P} → (S → ℕ → ℕ → Type 0) → JournaledImages S P H → List ℕ → Type 0
-MayFind may_hold images image = MayBe (may_hold images.storage) images.room images.written.items image
+MayFind may_hold images image = MayBe (may_hold images.storage) images.room images.written.value.items image
 
 -- the first words of this storage are the image that was written last, and the journal behind them doesn't count
 abbrev pub IsClosedIn : {S P : Type 0} → {H : Ghosts S P} → (S → ℕ → ℕ → Type 0) → JournaledImages S P H → S → Type 0
-IsClosedIn may_hold images storage = IsOff (may_hold storage) (length images.written.items) images.room images.written.items
+IsClosedIn may_hold images storage = IsOff (may_hold storage) (length images.written.value.items) images.room images.written.value.items
 
 -- whatever is found in this storage stands for an image that might have been found before
 abbrev pub StandsForOne : {S P : Type 0} → {H : Ghosts S P} → (S → ℕ → ℕ → Type 0) → JournaledImages S P H → S → Type 0
-StandsForOne may_hold images storage = StandsAmong (may_hold images.storage) (may_hold storage) images.room images.written.items
+StandsForOne may_hold images storage = StandsAmong (may_hold images.storage) (may_hold storage) images.room images.written.value.items
 
 -- an image is begun, and its storage refuses each write and each sync
 abbrev pub Refuses : {S P : Type 0} → {H : Ghosts S P} → (S → Type 0) → JournaledImages S P H → Type 0

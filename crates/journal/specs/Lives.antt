@@ -1,5 +1,5 @@
 -- What the next life of a file may begin with.
-use Rattle.std.specs.Prelude.{ℕ, ◌+◌, ◌<◌, List}
+use Rattle.std.specs.Prelude.{ℕ, ◌<◌, List}
 use Rattle.journal.specs.Files.{IsStoodFor}
 use Rattle.journal.specs.Places.{HoldsPart, size_word}
 use Rattle.journal.specs.ReadBack.{JournalDecides}

@@ -2,7 +2,7 @@ ghost use Rattle.std.specs.Prelude.{◌≡◌, ℕ, ◌+◌, ◌*◌, ◌/◌, �
 ghost use Rattle.std.specs.IoError.{error_kind};
 ghost use Rattle.journal.specs.LinePayloads.{lines_of};
 ghost use Rattle.journal.specs.InPlace.{put_over};
-ghost use Rattle.journal.specs.Files.{HasTail, IsTail, IsFile, Opens, ReportsUnread};
+ghost use Rattle.journal.specs.Files.{HasTail, IsTail, IsFile, Opens, ReportsUnread, lines_in, pass_word};
 
 use crate::journal::read_journal;
 use crate::line::{Line, line_of};
@@ -21,6 +21,38 @@ pub fn image_in(alloc: Global, file: &[u64], words: usize, room: usize) -> io::R
     // At Err InvalidInput, if the words aren't a file of this length, InvalidData, if the file has no pass, or OutOfMemory.
     ensures err { IfErr result (λ error. ReportsUnread words room file.now (error_kind error)) }
 {
+    let payloads = payloads_in(alloc, file, words, room)?;
+    let mut image = Vec::from_slice(alloc, &file[..words])?;
+    put_lines(&mut image, payloads.as_slice());
+    Ok(image)
+}
+
+/// Leaves of a file's words the image that the file stands for. Returns the pass that its journal counts in.
+pub(crate) fn leave_image(
+    alloc: Global,
+    file: &mut Vec<u64>,
+    words: usize,
+    room: usize,
+) -> io::Result<bool>
+    // As for `image_in`.
+    ensures file { OnOk result (IsFile words room (length file.old.items)) }
+    ensures pass { IfOk result (λ pass. slice_index file.old.items (words + room + 3) ≡ pass_word pass) }
+    ensures stands { OnOk result (Opens words room file.old.items file.new.items) }
+{
+    let payloads = payloads_in(alloc, file.as_slice(), words, room)?;
+    let pass = file[words + room + 3] == 0;
+    file.truncate(words);
+    put_lines(file, payloads.as_slice());
+    Ok(pass)
+}
+
+// The payloads of the lines that a file has over its image.
+fn payloads_in(alloc: Global, file: &[u64], words: usize, room: usize) -> io::Result<Vec<u64>>
+    ensures file { OnOk result (IsFile words room (length file.now)) }
+    ensures pass { OnOk result (slice_index file.now (words + room + 3) < 2) }
+    ensures lines { IfOk result (λ payloads. lines_of (length payloads.items / 9) payloads.items ≡ lines_in words room file.now) }
+    ensures err { IfErr result (λ error. ReportsUnread words room file.now (error_kind error)) }
+{
     if !is_file(words, room, file.len()) {
         return Err(io::Error::from(ErrorKind::InvalidInput));
     }
@@ -28,13 +60,11 @@ pub fn image_in(alloc: Global, file: &[u64], words: usize, room: usize) -> io::R
     if pass > 1 {
         return Err(io::Error::from(ErrorKind::InvalidData));
     }
-    let mut image = Vec::from_slice(alloc, &file[..words])?;
     if file[words + room] != MAGIC {
-        return Ok(image);
+        return Ok(Vec::new(alloc));
     }
     let payloads = read_journal(alloc, &file[words..words + room], pass == 0)?;
-    put_lines(&mut image, payloads.as_slice());
-    Ok(image)
+    Ok(payloads)
 }
 
 /// How many words the image has, and how much room the journal, of a file that ends with a tail, whether the journal counts or
@@ -94,17 +124,6 @@ fn put_lines(image: &mut Vec<u64>, payloads: &[u64])
     for at in 0..payloads.len() / 9 {
         let line = line_of(&payloads[9 * at..]);
         put_line(image, &line);
-    }
-}
-
-/// Puts these lines over the image, one after the other.
-pub(crate) fn put_each(image: &mut Vec<u64>, lines: &[Line])
-    requires { length image.old.items % 8 ≡ 0 }
-    ensures size { length image.new.items ≡ length image.old.items }
-    ensures each { (word : ℕ) → word < length image.old.items → slice_index image.new.items word ≡ put_over lines.now word (slice_index image.old.items word) }
-{
-    for line in lines {
-        put_line(image, line);
     }
 }
 

@@ -8,14 +8,16 @@ ghost use Rattle.journal.specs.Tails.{BeginsAsRead, NamesAsRead, NamesBoth};
 ghost use Rattle.journal.specs.Unplaced.{IsPlacedBut};
 
 use crate::appending::begin_words;
-use crate::file_image::image_in;
+use crate::file_image::leave_image;
 use crate::images::Images;
 use crate::position::Position;
 use crate::rewriting::{rewrite, settle};
 use crate::storage::Storage;
+use crate::unplaced::Unplaced;
 use std::alloc::Global;
 use std::io;
 use std::io::ErrorKind;
+use std::snapshot::Snapshot;
 
 /// Images that are kept in a file: one in place, and behind it a journal, to which each further one appends the lines that
 /// changed. So a keep is one write, and one wait until it persists; if the journal is full, two waits more.
@@ -24,12 +26,13 @@ pub struct JournaledImages<S: Storage> {
     alloc: Global,
     storage: S,
 
-    // The image that was written last.
-    written: Vec<u64>,
+    // The image that was written last, and how many words it has. Only clauses read the image: its words are those of the device.
+    written: Snapshot<Vec<u64>>,
+    size: usize,
 
-    // Which of its lines may not be in place: those of the entries of this pass. When the journal is full, and at the end, these
-    // are written there.
-    unplaced: Vec<bool>,
+    // Those of its lines that may not be in place: the lines of the entries of this pass. When the journal is full, and at the end,
+    // these are written there.
+    unplaced: Unplaced,
 
     // How many words the journal has, and how far it is written.
     room: usize,
@@ -38,20 +41,18 @@ pub struct JournaledImages<S: Storage> {
     // It isn't synced.
     is_begun: bool,
 
-    // A write or a sync failed, and which image is found isn't known any more: none is kept.
-    failed: bool,
+    // Why a write or a sync failed, if one did. Which image is found isn't known then: none is kept any more.
     failure: Option<io::Error>,
-    ghost whole: { length written.items % 8 ≡ 0 },
-    ghost fits: { length written.items + room + 8 < 2 ^ 58 },
-    ghost noted: { is_some failure ≡ failed },
-    ghost rests: { failed ≡ false → is_begun ≡ false → ∥ Rests (S.may_hold storage) (length written.items) room position.pass position.words written.items ∥₁ },
-    ghost begun: { failed ≡ false → is_begun ≡ true → ∥ Rests (S.shows storage) (length written.items) room position.pass position.words written.items ∥₁ },
-    ghost named: { NamesBoth (S.may_hold storage) (length written.items) room },
-    ghost part: { IsPart room written.items },
-    ghost holds: { HoldsPart (S.may_hold storage) (length written.items) room },
-    ghost decides: { JournalDecides (S.may_hold storage) (length written.items) room },
-    ghost lines: { 8 * length unplaced.items ≡ length written.items },
-    ghost placed: { failed ≡ false → IsPlacedBut (S.may_hold storage) unplaced.items written.items },
+    ghost whole: { length written.value.items % 8 ≡ 0 },
+    ghost sized: { size ≡ length written.value.items },
+    ghost fits: { length written.value.items + room + 8 < 2 ^ 58 },
+    ghost rests: { is_some failure ≡ false → is_begun ≡ false → ∥ Rests (S.may_hold storage) (length written.value.items) room position.pass position.words written.value.items ∥₁ },
+    ghost begun: { is_some failure ≡ false → is_begun ≡ true → ∥ Rests (S.shows storage) (length written.value.items) room position.pass position.words written.value.items ∥₁ },
+    ghost named: { NamesBoth (S.may_hold storage) (length written.value.items) room },
+    ghost part: { IsPart room written.value.items },
+    ghost holds: { HoldsPart (S.may_hold storage) (length written.value.items) room },
+    ghost decides: { JournalDecides (S.may_hold storage) (length written.value.items) room },
+    ghost placed: { is_some failure ≡ false → IsPlacedBut (S.may_hold storage) unplaced.lines.items unplaced.marks.items written.value.items },
 }
 
 /// Why a file isn't opened, and the file.
@@ -72,11 +73,11 @@ impl<S: Storage> JournaledImages<S> {
     ghost use Rattle.journal.specs.Images.{IsClosedIn, MayFind, StandsForOne, failure_of, last_image, room_of, storage_of};
 
     /// Opens a file of which these words were read: an image of `words`, a journal of `room`, and a tail. The image that the file
-    /// stands for is put in place, and the file is brought to rest.
+    /// stands for is put in place, and the file is brought to rest. Of the words that were read it leaves this image.
     pub fn open(
         alloc: Global,
         storage: S,
-        file: &[u64],
+        file: &mut Vec<u64>,
         words: usize,
         room: usize,
     ) -> Result<JournaledImages<S>, Unopened<S>>
@@ -84,51 +85,52 @@ impl<S: Storage> JournaledImages<S> {
         S: Drop,
         // If the file has this length, its journal and its tail are found only as they were read (`IsReadBack`), as after
         // `write_back`. A word in place may be found as anything.
-        requires back { length file.now ≡ words + room + 8 → IsReadBack (S.may_hold storage) words room file.now }
+        requires back { length file.old.items ≡ words + room + 8 → IsReadBack (S.may_hold storage) words room file.old.items }
 
         // The image that is kept is the one that the file stands for, and no other may be found. The journal has this room.
-        ensures stands { IfOk result (λ images. Opens words room file.now (last_image images)) }
+        ensures stands { IfOk result (λ images. Opens words room file.old.items (last_image images)) }
         ensures found { IfOk result (λ images. (image : List ℕ) → MayFind S.may_hold images image → image ≡ last_image images) }
         ensures room { IfOk result (λ images. room_of images ≡ room) }
+        ensures image { IfOk result (λ images. file.new.items ≡ last_image images) }
 
         // No failure to keep an image is noted.
         ensures works { IfOk result (λ images. failure_of images ≡ None) }
 
         // At Err, as that of `image_in` or of a write, whatever is found stands for that image, if the journal's lines made the
         // same of whatever was found in place before (`StandsAsBefore`).
-        ensures unopened { IfErr result (λ unopened. StandsAsBefore (S.may_hold storage) (S.may_hold unopened.storage) words room file.now) }
+        ensures unopened { IfErr result (λ unopened. StandsAsBefore (S.may_hold storage) (S.may_hold unopened.storage) words room file.old.items) }
 
         // At Ok whatever is found of the tail names both (`NamesBoth`). At Err it does too, if the file that was read has a tail
         // that names both.
         ensures named { IfOk result (λ images. NamesBoth (S.may_hold (storage_of images)) words room) }
-        ensures tail { IfErr result (λ unopened. NamesAsRead (S.may_hold unopened.storage) words room file.now) }
+        ensures tail { IfErr result (λ unopened. NamesAsRead (S.may_hold unopened.storage) words room file.old.items) }
 
         // At Err, if the file that was read is new or was being made longer (`BeginsTail`), nothing else is found behind the
         // image than what is written there first, or the tail names both.
-        ensures first { IfErr result (λ unopened. BeginsAsRead (S.may_hold unopened.storage) words room file.now) }
+        ensures first { IfErr result (λ unopened. BeginsAsRead (S.may_hold unopened.storage) words room file.old.items) }
 
         // At Ok no superblock is found in place that names the whole file's words (`HoldsPart`), so the file isn't taken for an
         // image alone. At Err none is, if none was before.
         ensures holds { IfOk result (λ images. HoldsPart (S.may_hold (storage_of images)) words room) }
         ensures part { IfErr result (λ unopened. PartAsBefore (S.may_hold storage) (S.may_hold unopened.storage) words room) }
     {
-        let durable = match image_in(alloc, file, words, room) {
-            Ok(durable) => durable,
+        let pass = match leave_image(alloc, file, words, room) {
+            Ok(pass) => pass,
             Err(error) => return Err(Unopened { error, storage }),
         };
-        let Ok(unplaced) = Vec::from_elem(alloc, false, durable.len() / 8) else {
+        let Ok(unplaced) = Unplaced::new(alloc, words / 8) else {
             return Err(Unopened {
                 error: io::Error::from(ErrorKind::OutOfMemory),
                 storage,
             });
         };
-        let pass = file[words + room + 3] == 0;
         let mut storage = storage;
-        match rewrite(alloc, &mut storage, durable.as_slice(), room, pass) {
+        match rewrite(alloc, &mut storage, &*file, room, pass) {
             Ok(()) => Ok(JournaledImages {
                 alloc,
                 storage,
-                written: durable,
+                written: Snapshot::of(&*file),
+                size: words,
                 unplaced,
                 room,
                 position: Position {
@@ -136,18 +138,17 @@ impl<S: Storage> JournaledImages<S> {
                     words: 0,
                 },
                 is_begun: false,
-                failed: false,
                 failure: None,
             }),
             Err(error) => Err(Unopened { error, storage }),
         }
     }
 
-    /// The image that was written last.
-    pub fn image(&self) -> &[u64]
-        ensures { result.now ≡ last_image self.now }
+    /// How many words the image has that was written last.
+    pub fn size(&self) -> usize
+        ensures { result ≡ length (last_image self.now) }
     {
-        self.written.as_slice()
+        self.size
     }
 
     /// Why an image wasn't kept, if one wasn't. None is kept since then.
@@ -183,17 +184,19 @@ impl<S: Storage> JournaledImages<S> {
         ensures holds { IfOk result (λ storage. HoldsPart (S.may_hold storage) (length (last_image self)) (room_of self)) }
         ensures part { IfErr result (λ unclosed. HoldsPart (S.may_hold unclosed.storage) (length (last_image self)) (room_of self)) }
     {
-        if self.failed || self.is_begun {
+        if self.failure.is_some() || self.is_begun {
             return Err(Unclosed {
                 error: io::Error::from(ErrorKind::InvalidData),
                 storage: self.storage,
             });
         }
         let mut storage = self.storage;
+        let mut unplaced = self.unplaced;
         match settle(
             &mut storage,
-            self.written.as_slice(),
-            self.unplaced.as_slice(),
+            self.size,
+            &self.written,
+            &mut unplaced,
             self.room,
             self.position.pass,
         ) {
@@ -205,14 +208,14 @@ impl<S: Storage> JournaledImages<S> {
     // Waits until the image persists that was written last, if it doesn't yet.
     fn complete(&mut self) -> io::Result<()>
         ensures found { (word x : ℕ) → S.may_hold self.new.storage word x → S.may_hold self.old.storage word x }
-        ensures written { self.new.written.items ≡ self.old.written.items }
+        ensures written { self.new.written.value.items ≡ self.old.written.value.items }
         ensures room { self.new.room ≡ self.old.room }
-        ensures works { OnOk result (self.new.failed ≡ false) }
+        ensures works { OnOk result (is_some self.new.failure ≡ false) }
         ensures done { OnOk result (self.new.is_begun ≡ false) }
-        ensures noted { OnErr result (self.new.failed ≡ true) }
+        ensures noted { OnErr result (is_some self.new.failure ≡ true) }
         ensures refused { S.refuses self.old.storage → self.old.is_begun ≡ true → IsErr result × (S.refuses self.new.storage × (self.new.is_begun ≡ true)) }
     {
-        if self.failed {
+        if self.failure.is_some() {
             return Err(io::Error::from(ErrorKind::InvalidData));
         }
         if !self.is_begun {
@@ -224,7 +227,6 @@ impl<S: Storage> JournaledImages<S> {
                 Ok(())
             }
             Err(error) => {
-                self.failed = true;
                 self.failure = Some(error);
                 Err(error)
             }
@@ -256,7 +258,7 @@ impl<S: Storage> Images for JournaledImages<S> {
         match begin_words(
             self.alloc,
             &mut self.storage,
-            &mut self.written,
+            &self.written,
             &mut self.unplaced,
             words.as_slice(),
             lines,
@@ -264,12 +266,12 @@ impl<S: Storage> Images for JournaledImages<S> {
             self.position,
         ) {
             Ok(next) => {
+                self.written = Snapshot::of(words);
                 self.position = next;
                 self.is_begun = true;
                 Ok(())
             }
             Err(error) => {
-                self.failed = true;
                 self.failure = Some(error);
                 Err(error)
             }

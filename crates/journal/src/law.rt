@@ -140,7 +140,7 @@ pub fn next_begins_with_what_was_left<B: Storage, S: Storage>(
     alloc: Global,
     last: &B,
     next: S,
-    file: &[u64],
+    file: &mut Vec<u64>,
     words: usize,
     room: usize,
 ) -> Result<JournaledImages<S>, Unopened<S>>
@@ -148,8 +148,8 @@ where
     S: Drop,
     // This was left, a file was read that might be found then, and of its words nothing else may be found at the beginning.
     requires left { IsLeft (B.may_hold last.now) words room }
-    requires file { IsFile words room (length file.now) }
-    requires found { IsFound (B.may_hold last.now) (words + room + 8) file.now }
+    requires file { IsFile words room (length file.old.items) }
+    requires found { IsFound (B.may_hold last.now) (words + room + 8) file.old.items }
     requires begins { IsNoMore (B.may_hold last.now) (S.may_hold next) }
 
     // At Ok the images begin with one that might be found then, and leave the same to a further life.
@@ -163,7 +163,7 @@ where
 {
     let _ = last;
     let mut storage = next;
-    match write_back(&mut storage, words, file) {
+    match write_back(&mut storage, words, file.as_slice()) {
         Ok(()) => JournaledImages::open(alloc, storage, file, words, room),
         Err(error) => Err(Unopened { error, storage }),
     }

@@ -10,9 +10,10 @@ use crate::entry::bit_of;
 use crate::part::check_part;
 use crate::position::Position;
 use crate::storage::{Storage, put};
-use crate::unplaced::put_unplaced;
+use crate::unplaced::{Unplaced, put_unplaced};
 use std::alloc::Global;
 use std::io;
+use std::snapshot::Snapshot;
 
 // The tail's first word while the journal counts: its letters, in a file, are WBL-JRN1 from the last to the first.
 pub(crate) const MAGIC: u64 = 0x5742_4C2D_4A52_4E31;
@@ -23,46 +24,79 @@ pub(crate) const MAGIC: u64 = 0x5742_4C2D_4A52_4E31;
 pub fn rewrite<S: Storage>(
     alloc: Global,
     storage: &mut S,
-    image: &[u64],
+    image: &Vec<u64>,
     room: usize,
     pass: bool,
 ) -> io::Result<()>
-    requires fits { length image.now + room + 8 < 2 ^ 63 }
+    requires fits { length image.now.items + room + 8 < 2 ^ 63 }
 
     // One journal and one tail are known to be there, and a file that has them stands for this image. A word in place may be
     // found otherwise.
-    requires known { ∥ KnowsJournal (S.may_hold storage.old) (length image.now) room pass image.now ∥₁ }
+    requires known { ∥ KnowsJournal (S.may_hold storage.old) (length image.now.items) room pass image.now.items ∥₁ }
 
     // Whatever is found stands for this image, also if a write fails, if it did before whatever was in place (`Covers`).
-    ensures opens { ∥ Covers (S.may_hold storage.old) (length image.now) room image.now ∥₁ → FoundOpens (S.may_hold storage.new) (length image.now) room image.now }
+    ensures opens { ∥ Covers (S.may_hold storage.old) (length image.now.items) room image.now.items ∥₁ → FoundOpens (S.may_hold storage.new) (length image.now.items) room image.now.items }
 
     // At Ok the image is in place, and the journal counts and has nothing in it.
-    ensures rests { OnOk result (∥ Rests (S.may_hold storage.new) (length image.now) room true 0 image.now ∥₁) }
+    ensures rests { OnOk result (∥ Rests (S.may_hold storage.new) (length image.now.items) room true 0 image.now.items ∥₁) }
 
     // The tail names both, also if a write fails, if it did before (`NamesAsBefore`).
-    ensures tail { NamesAsBefore (S.may_hold storage.old) (S.may_hold storage.new) (length image.now) room }
+    ensures tail { NamesAsBefore (S.may_hold storage.old) (S.may_hold storage.new) (length image.now.items) room }
 
     // In place nothing is found but what might be found there before, and this image (`PlacesOnly`).
-    ensures place { PlacesOnly (S.may_hold storage.old) (S.may_hold storage.new) image.now }
+    ensures place { PlacesOnly (S.may_hold storage.old) (S.may_hold storage.new) image.now.items }
 
     // At Ok the image isn't one that names the whole file's words (`IsPart`), and none such is found in place (`HoldsPart`). At
     // Err none is, if none was before.
-    ensures before { PartAsBefore (S.may_hold storage.old) (S.may_hold storage.new) (length image.now) room }
-    ensures holds { OnOk result (HoldsPart (S.may_hold storage.new) (length image.now) room) }
-    ensures part { OnOk result (IsPart room image.now) }
+    ensures before { PartAsBefore (S.may_hold storage.old) (S.may_hold storage.new) (length image.now.items) room }
+    ensures holds { OnOk result (HoldsPart (S.may_hold storage.new) (length image.now.items) room) }
+    ensures part { OnOk result (IsPart room image.now.items) }
 
     // At Ok the tail names both in any case (`NamesBoth`).
-    ensures named { OnOk result (NamesBoth (S.may_hold storage.new) (length image.now) room) }
+    ensures named { OnOk result (NamesBoth (S.may_hold storage.new) (length image.now.items) room) }
 
     // If behind the image nothing was found but the words that are written there first (`HoldsFirst`), it is still so, or the
     // tail names both.
-    ensures first { pass ≡ true → HoldsFirst (S.may_hold storage.old) (length image.now) room → HoldsFirst (S.may_hold storage.new) (length image.now) room ⊎ NamesBoth (S.may_hold storage.new) (length image.now) room }
+    ensures first { pass ≡ true → HoldsFirst (S.may_hold storage.old) (length image.now.items) room → HoldsFirst (S.may_hold storage.new) (length image.now.items) room ⊎ NamesBoth (S.may_hold storage.new) (length image.now.items) room }
 {
+    bring_to_rest(
+        alloc,
+        storage,
+        image.as_slice(),
+        &Snapshot::of(image),
+        room,
+        pass,
+    )
+}
+
+// The same, with the image as clauses read it.
+fn bring_to_rest<S: Storage>(
+    alloc: Global,
+    storage: &mut S,
+    image: &[u64],
+    written: &Snapshot<Vec<u64>>,
+    room: usize,
+    pass: bool,
+) -> io::Result<()>
+    requires fits { length written.now.value.items + room + 8 < 2 ^ 63 }
+    requires same { written.now.value.items ≡ image.now }
+    requires known { ∥ KnowsJournal (S.may_hold storage.old) (length written.now.value.items) room pass written.now.value.items ∥₁ }
+    ensures opens { ∥ Covers (S.may_hold storage.old) (length written.now.value.items) room written.now.value.items ∥₁ → FoundOpens (S.may_hold storage.new) (length written.now.value.items) room written.now.value.items }
+    ensures rests { OnOk result (∥ Rests (S.may_hold storage.new) (length written.now.value.items) room true 0 written.now.value.items ∥₁) }
+    ensures tail { NamesAsBefore (S.may_hold storage.old) (S.may_hold storage.new) (length written.now.value.items) room }
+    ensures place { PlacesOnly (S.may_hold storage.old) (S.may_hold storage.new) written.now.value.items }
+    ensures before { PartAsBefore (S.may_hold storage.old) (S.may_hold storage.new) (length written.now.value.items) room }
+    ensures holds { OnOk result (HoldsPart (S.may_hold storage.new) (length written.now.value.items) room) }
+    ensures part { OnOk result (IsPart room written.now.value.items) }
+    ensures named { OnOk result (NamesBoth (S.may_hold storage.new) (length written.now.value.items) room) }
+    ensures first { pass ≡ true → HoldsFirst (S.may_hold storage.old) (length written.now.value.items) room → HoldsFirst (S.may_hold storage.new) (length written.now.value.items) room ⊎ NamesBoth (S.may_hold storage.new) (length written.now.value.items) room }
+{
+    let words = image.len();
     check_part(image, room)?;
-    put_in_place(storage, image, room, pass)?;
-    turn_off(storage, image, room, pass)?;
-    clear(alloc, storage, image, room)?;
-    turn_on(storage, image, room)
+    put_in_place(storage, image, written, room, pass)?;
+    turn_off(storage, words, written, room, pass)?;
+    clear(alloc, storage, words, written, room)?;
+    turn_on(storage, words, written, room)
 }
 
 /// Brings the image in place, by the lines that may not be there, after which the journal no longer counts: the file's first words
@@ -70,82 +104,106 @@ pub fn rewrite<S: Storage>(
 /// waits: for the lines, and for the tail.
 pub(crate) fn settle<S: Storage>(
     storage: &mut S,
-    image: &[u64],
-    unplaced: &[bool],
+    words: usize,
+    image: &Snapshot<Vec<u64>>,
+    unplaced: &mut Unplaced,
     room: usize,
     pass: bool,
 ) -> io::Result<()>
-    requires fits { length image.now + room < 2 ^ 63 }
-    requires lines { 8 * length unplaced.now ≤ length image.now }
-    requires placed { IsPlacedBut (S.may_hold storage.old) unplaced.now image.now }
-    requires known { ∥ Knows (S.may_hold storage.old) (length image.now) room pass image.now ∥₁ }
-    ensures opens { FoundOpens (S.may_hold storage.new) (length image.now) room image.now }
-    ensures off { OnOk result (∥ IsOff (S.may_hold storage.new) (length image.now) room image.now ∥₁) }
-    ensures tail { NamesAsBefore (S.may_hold storage.old) (S.may_hold storage.new) (length image.now) room }
-    ensures place { PlacesOnly (S.may_hold storage.old) (S.may_hold storage.new) image.now }
+    requires fits { length image.now.value.items + room + 8 < 2 ^ 58 }
+    requires size { words ≡ length image.now.value.items }
+    requires placed { IsPlacedBut (S.may_hold storage.old) unplaced.old.lines.items unplaced.old.marks.items image.now.value.items }
+    requires known { ∥ Knows (S.may_hold storage.old) (length image.now.value.items) room pass image.now.value.items ∥₁ }
+    ensures opens { FoundOpens (S.may_hold storage.new) (length image.now.value.items) room image.now.value.items }
+    ensures off { OnOk result (∥ IsOff (S.may_hold storage.new) (length image.now.value.items) room image.now.value.items ∥₁) }
+    ensures tail { NamesAsBefore (S.may_hold storage.old) (S.may_hold storage.new) (length image.now.value.items) room }
+    ensures place { PlacesOnly (S.may_hold storage.old) (S.may_hold storage.new) image.now.value.items }
 {
-    put_unplaced(storage, image, unplaced)?;
-    turn_off(storage, image, room, pass)
+    put_unplaced(storage, unplaced, image)?;
+    turn_off(storage, words, image, room, pass)
 }
 
 // Puts all of the image in place: then each word of it is known, whatever it was.
 fn put_in_place<S: Storage>(
     storage: &mut S,
     image: &[u64],
+    written: &Snapshot<Vec<u64>>,
     room: usize,
     pass: bool,
 ) -> io::Result<()>
-    requires known { ∥ KnowsJournal (S.may_hold storage.old) (length image.now) room pass image.now ∥₁ }
-    ensures opens { ∥ Covers (S.may_hold storage.old) (length image.now) room image.now ∥₁ → FoundOpens (S.may_hold storage.new) (length image.now) room image.now }
-    ensures done { OnOk result (∥ IsInPlace (S.may_hold storage.new) (length image.now) room pass image.now ∥₁) }
-    ensures tail { NamesAsBefore (S.may_hold storage.old) (S.may_hold storage.new) (length image.now) room }
-    ensures place { PlacesOnly (S.may_hold storage.old) (S.may_hold storage.new) image.now }
-    ensures first { HoldsFirst (S.may_hold storage.old) (length image.now) room → HoldsFirst (S.may_hold storage.new) (length image.now) room }
+    requires same { written.now.value.items ≡ image.now }
+    requires known { ∥ KnowsJournal (S.may_hold storage.old) (length written.now.value.items) room pass written.now.value.items ∥₁ }
+    ensures opens { ∥ Covers (S.may_hold storage.old) (length written.now.value.items) room written.now.value.items ∥₁ → FoundOpens (S.may_hold storage.new) (length written.now.value.items) room written.now.value.items }
+    ensures done { OnOk result (∥ IsInPlace (S.may_hold storage.new) (length written.now.value.items) room pass written.now.value.items ∥₁) }
+    ensures tail { NamesAsBefore (S.may_hold storage.old) (S.may_hold storage.new) (length written.now.value.items) room }
+    ensures place { PlacesOnly (S.may_hold storage.old) (S.may_hold storage.new) written.now.value.items }
+    ensures first { HoldsFirst (S.may_hold storage.old) (length written.now.value.items) room → HoldsFirst (S.may_hold storage.new) (length written.now.value.items) room }
 {
+    let _ = written;
     put(storage, 0, image)
 }
 
 // From now on the journal doesn't count.
-fn turn_off<S: Storage>(storage: &mut S, image: &[u64], room: usize, pass: bool) -> io::Result<()>
-    requires fits { length image.now + room < 2 ^ 63 }
-    requires known { ∥ IsInPlace (S.may_hold storage.old) (length image.now) room pass image.now ∥₁ }
-    ensures opens { FoundOpens (S.may_hold storage.new) (length image.now) room image.now }
-    ensures done { OnOk result (∥ IsOff (S.may_hold storage.new) (length image.now) room image.now ∥₁) }
-    ensures tail { NamesAsBefore (S.may_hold storage.old) (S.may_hold storage.new) (length image.now) room }
-    ensures place { PlacesOnly (S.may_hold storage.old) (S.may_hold storage.new) image.now }
-    ensures first { pass ≡ true → HoldsFirst (S.may_hold storage.old) (length image.now) room → HoldsFirst (S.may_hold storage.new) (length image.now) room }
+fn turn_off<S: Storage>(
+    storage: &mut S,
+    words: usize,
+    image: &Snapshot<Vec<u64>>,
+    room: usize,
+    pass: bool,
+) -> io::Result<()>
+    requires size { words ≡ length image.now.value.items }
+    requires fits { length image.now.value.items + room < 2 ^ 63 }
+    requires known { ∥ IsInPlace (S.may_hold storage.old) (length image.now.value.items) room pass image.now.value.items ∥₁ }
+    ensures opens { FoundOpens (S.may_hold storage.new) (length image.now.value.items) room image.now.value.items }
+    ensures done { OnOk result (∥ IsOff (S.may_hold storage.new) (length image.now.value.items) room image.now.value.items ∥₁) }
+    ensures tail { NamesAsBefore (S.may_hold storage.old) (S.may_hold storage.new) (length image.now.value.items) room }
+    ensures place { PlacesOnly (S.may_hold storage.old) (S.may_hold storage.new) image.now.value.items }
+    ensures first { pass ≡ true → HoldsFirst (S.may_hold storage.old) (length image.now.value.items) room → HoldsFirst (S.may_hold storage.new) (length image.now.value.items) room }
 {
-    let words = image.len();
+    let _ = image;
     put(storage, words + room, &tail(0, words, room, pass))
 }
 
 // Leaves nothing in it.
-fn clear<S: Storage>(alloc: Global, storage: &mut S, image: &[u64], room: usize) -> io::Result<()>
-    requires fits { length image.now + room + 8 < 2 ^ 63 }
-    requires known { ∥ IsOff (S.may_hold storage.old) (length image.now) room image.now ∥₁ }
-    ensures opens { FoundOpens (S.may_hold storage.new) (length image.now) room image.now }
-    ensures done { OnOk result (∥ IsClear (S.may_hold storage.new) (length image.now) room image.now ∥₁) }
-    ensures tail { NamesAsBefore (S.may_hold storage.old) (S.may_hold storage.new) (length image.now) room }
-    ensures place { PlacesOnly (S.may_hold storage.old) (S.may_hold storage.new) image.now }
-    ensures named { OnOk result (NamesBoth (S.may_hold storage.new) (length image.now) room) }
-    ensures first { HoldsFirst (S.may_hold storage.old) (length image.now) room → HoldsFirst (S.may_hold storage.new) (length image.now) room }
+fn clear<S: Storage>(
+    alloc: Global,
+    storage: &mut S,
+    words: usize,
+    image: &Snapshot<Vec<u64>>,
+    room: usize,
+) -> io::Result<()>
+    requires size { words ≡ length image.now.value.items }
+    requires fits { length image.now.value.items + room + 8 < 2 ^ 63 }
+    requires known { ∥ IsOff (S.may_hold storage.old) (length image.now.value.items) room image.now.value.items ∥₁ }
+    ensures opens { FoundOpens (S.may_hold storage.new) (length image.now.value.items) room image.now.value.items }
+    ensures done { OnOk result (∥ IsClear (S.may_hold storage.new) (length image.now.value.items) room image.now.value.items ∥₁) }
+    ensures tail { NamesAsBefore (S.may_hold storage.old) (S.may_hold storage.new) (length image.now.value.items) room }
+    ensures place { PlacesOnly (S.may_hold storage.old) (S.may_hold storage.new) image.now.value.items }
+    ensures named { OnOk result (NamesBoth (S.may_hold storage.new) (length image.now.value.items) room) }
+    ensures first { HoldsFirst (S.may_hold storage.old) (length image.now.value.items) room → HoldsFirst (S.may_hold storage.new) (length image.now.value.items) room }
 {
-    let words = image.len();
+    let _ = image;
     let mut rest = Vec::from_elem(alloc, 0, room)?;
     rest.extend_from_slice(&tail(0, words, room, true))?;
     put(storage, words, rest.as_slice())
 }
 
 // From now on the journal counts.
-fn turn_on<S: Storage>(storage: &mut S, image: &[u64], room: usize) -> io::Result<()>
-    requires fits { length image.now + room < 2 ^ 63 }
-    requires known { ∥ IsClear (S.may_hold storage.old) (length image.now) room image.now ∥₁ }
-    ensures opens { FoundOpens (S.may_hold storage.new) (length image.now) room image.now }
-    ensures done { OnOk result (∥ Rests (S.may_hold storage.new) (length image.now) room true 0 image.now ∥₁) }
-    ensures tail { NamesAsBefore (S.may_hold storage.old) (S.may_hold storage.new) (length image.now) room }
-    ensures place { PlacesOnly (S.may_hold storage.old) (S.may_hold storage.new) image.now }
+fn turn_on<S: Storage>(
+    storage: &mut S,
+    words: usize,
+    image: &Snapshot<Vec<u64>>,
+    room: usize,
+) -> io::Result<()>
+    requires size { words ≡ length image.now.value.items }
+    requires fits { length image.now.value.items + room < 2 ^ 63 }
+    requires known { ∥ IsClear (S.may_hold storage.old) (length image.now.value.items) room image.now.value.items ∥₁ }
+    ensures opens { FoundOpens (S.may_hold storage.new) (length image.now.value.items) room image.now.value.items }
+    ensures done { OnOk result (∥ Rests (S.may_hold storage.new) (length image.now.value.items) room true 0 image.now.value.items ∥₁) }
+    ensures tail { NamesAsBefore (S.may_hold storage.old) (S.may_hold storage.new) (length image.now.value.items) room }
+    ensures place { PlacesOnly (S.may_hold storage.old) (S.may_hold storage.new) image.now.value.items }
 {
-    let words = image.len();
+    let _ = image;
     put(storage, words + room, &tail(MAGIC, words, room, true))
 }
 
@@ -155,59 +213,70 @@ fn turn_on<S: Storage>(storage: &mut S, image: &[u64], room: usize) -> io::Resul
 pub(crate) fn begin_pass<S: Storage>(
     alloc: Global,
     storage: &mut S,
-    image: &[u64],
-    unplaced: &[bool],
+    words: usize,
+    image: &Snapshot<Vec<u64>>,
+    unplaced: &mut Unplaced,
     room: usize,
     position: Position,
 ) -> io::Result<()>
-    requires fits { length image.now + room + 8 < 2 ^ 58 }
-    requires lines { 8 * length unplaced.now ≤ length image.now }
-    requires placed { IsPlacedBut (S.may_hold storage.old) unplaced.now image.now }
+    requires fits { length image.now.value.items + room + 8 < 2 ^ 58 }
+    requires size { words ≡ length image.now.value.items }
+    requires placed { IsPlacedBut (S.may_hold storage.old) unplaced.old.lines.items unplaced.old.marks.items image.now.value.items }
     requires within { position.words ≤ room }
-    requires known { ∥ Rests (S.may_hold storage.old) (length image.now) room position.pass position.words image.now ∥₁ }
-    ensures opens { FoundOpens (S.may_hold storage.new) (length image.now) room image.now }
-    ensures rests { OnOk result (∥ Rests (S.may_hold storage.new) (length image.now) room (not position.pass) 0 image.now ∥₁) }
-    ensures tail { NamesAsBefore (S.may_hold storage.old) (S.may_hold storage.new) (length image.now) room }
-    ensures place { PlacesOnly (S.may_hold storage.old) (S.may_hold storage.new) image.now }
+    requires known { ∥ Rests (S.may_hold storage.old) (length image.now.value.items) room position.pass position.words image.now.value.items ∥₁ }
+    ensures opens { FoundOpens (S.may_hold storage.new) (length image.now.value.items) room image.now.value.items }
+    ensures rests { OnOk result (∥ Rests (S.may_hold storage.new) (length image.now.value.items) room (not position.pass) 0 image.now.value.items ∥₁) }
+    ensures tail { NamesAsBefore (S.may_hold storage.old) (S.may_hold storage.new) (length image.now.value.items) room }
+    ensures place { PlacesOnly (S.may_hold storage.old) (S.may_hold storage.new) image.now.value.items }
+    ensures placed { OnOk result (IsPlacedBut (S.may_hold storage.new) unplaced.new.lines.items unplaced.new.marks.items image.now.value.items) }
 {
-    fill(alloc, storage, image, unplaced, room, position)?;
-    turn(storage, image, room, position.pass)
+    fill(alloc, storage, words, image, unplaced, room, position)?;
+    turn(storage, words, image, room, position.pass)
 }
 
 // Puts the image in place, and fills the rest of the journal: each word of it is an entry of this pass without payloads.
 fn fill<S: Storage>(
     alloc: Global,
     storage: &mut S,
-    image: &[u64],
-    unplaced: &[bool],
+    words: usize,
+    image: &Snapshot<Vec<u64>>,
+    unplaced: &mut Unplaced,
     room: usize,
     position: Position,
 ) -> io::Result<()>
-    requires fits { length image.now + room + 8 < 2 ^ 58 }
-    requires lines { 8 * length unplaced.now ≤ length image.now }
-    requires placed { IsPlacedBut (S.may_hold storage.old) unplaced.now image.now }
+    requires fits { length image.now.value.items + room + 8 < 2 ^ 58 }
+    requires size { words ≡ length image.now.value.items }
+    requires placed { IsPlacedBut (S.may_hold storage.old) unplaced.old.lines.items unplaced.old.marks.items image.now.value.items }
     requires within { position.words ≤ room }
-    requires known { ∥ Rests (S.may_hold storage.old) (length image.now) room position.pass position.words image.now ∥₁ }
-    ensures opens { FoundOpens (S.may_hold storage.new) (length image.now) room image.now }
-    ensures done { OnOk result (∥ IsFull (S.may_hold storage.new) (length image.now) room position.pass image.now ∥₁) }
-    ensures tail { NamesAsBefore (S.may_hold storage.old) (S.may_hold storage.new) (length image.now) room }
-    ensures place { PlacesOnly (S.may_hold storage.old) (S.may_hold storage.new) image.now }
+    requires known { ∥ Rests (S.may_hold storage.old) (length image.now.value.items) room position.pass position.words image.now.value.items ∥₁ }
+    ensures opens { FoundOpens (S.may_hold storage.new) (length image.now.value.items) room image.now.value.items }
+    ensures done { OnOk result (∥ IsFull (S.may_hold storage.new) (length image.now.value.items) room position.pass image.now.value.items ∥₁) }
+    ensures tail { NamesAsBefore (S.may_hold storage.old) (S.may_hold storage.new) (length image.now.value.items) room }
+    ensures place { PlacesOnly (S.may_hold storage.old) (S.may_hold storage.new) image.now.value.items }
+    ensures placed { OnOk result (IsPlacedBut (S.may_hold storage.new) unplaced.new.lines.items unplaced.new.marks.items image.now.value.items) }
 {
     let rest = Vec::from_elem(alloc, bit_of(position.pass), room - position.words)?;
-    storage.write(image.len() + position.words, rest.as_slice())?;
-    put_unplaced(storage, image, unplaced)
+    storage.write(words + position.words, rest.as_slice())?;
+    put_unplaced(storage, unplaced, image)
 }
 
 // From now on the other pass counts, of which the journal has no word.
-fn turn<S: Storage>(storage: &mut S, image: &[u64], room: usize, pass: bool) -> io::Result<()>
-    requires fits { length image.now + room < 2 ^ 63 }
-    requires known { ∥ IsFull (S.may_hold storage.old) (length image.now) room pass image.now ∥₁ }
-    ensures opens { FoundOpens (S.may_hold storage.new) (length image.now) room image.now }
-    ensures done { OnOk result (∥ Rests (S.may_hold storage.new) (length image.now) room (not pass) 0 image.now ∥₁) }
-    ensures tail { NamesAsBefore (S.may_hold storage.old) (S.may_hold storage.new) (length image.now) room }
-    ensures place { PlacesOnly (S.may_hold storage.old) (S.may_hold storage.new) image.now }
+fn turn<S: Storage>(
+    storage: &mut S,
+    words: usize,
+    image: &Snapshot<Vec<u64>>,
+    room: usize,
+    pass: bool,
+) -> io::Result<()>
+    requires size { words ≡ length image.now.value.items }
+    requires fits { length image.now.value.items + room < 2 ^ 63 }
+    requires known { ∥ IsFull (S.may_hold storage.old) (length image.now.value.items) room pass image.now.value.items ∥₁ }
+    ensures opens { FoundOpens (S.may_hold storage.new) (length image.now.value.items) room image.now.value.items }
+    ensures done { OnOk result (∥ Rests (S.may_hold storage.new) (length image.now.value.items) room (not pass) 0 image.now.value.items ∥₁) }
+    ensures tail { NamesAsBefore (S.may_hold storage.old) (S.may_hold storage.new) (length image.now.value.items) room }
+    ensures place { PlacesOnly (S.may_hold storage.old) (S.may_hold storage.new) image.now.value.items }
 {
-    let words = image.len();
+    let _ = image;
     put(storage, words + room, &tail(MAGIC, words, room, !pass))
 }
 

@@ -1,6 +1,6 @@
 -- Which shape the words of a file have.
-use Rattle.std.proofs.Common.{◌≡◌, ◌≢◌, ◌⊎◌, inl, inr, ℕ, ◌+◌, ◌-◌, ◌*◌, ◌^◌, ◌<◌, ◌≤◌, ◌&&◌, true, nat_le, List, Option, Result, Ok, Err, None, Some, IfOk, IfNone, IfSome, IsTrue, OnSome, length, take, drop, replicate, get_or, refl, sym, ◌∙◌, ap, subst, arith}
-use Rattle.std.proofs.lemmas.Bool.{and_parts, eqb-true, leb-true}
+use Rattle.std.proofs.Common.{◌≡◌, ◌≢◌, ◌⊎◌, inl, inr, ℕ, ◌+◌, ◌-◌, ◌*◌, ◌^◌, ◌<◌, ◌≤◌, true, List, Option, Result, Ok, Err, None, Some, IfOk, IfNone, IfSome, IsTrue, OnSome, length, take, drop, replicate, get_or, refl, sym, ◌∙◌, ap, subst, arith}
+use Rattle.std.proofs.lemmas.Bool.{and_parts, eqb-true}
 use Rattle.std.proofs.lemmas.List.{append-nil, length-drop, length-take, length-replicate, get_or-drop, get_or-take, get_or-replicate, get_or_append_left, get_or-append_right, take_all}
 use Rattle.std.specs.Option.{option_or}
 use Rattle.std.specs.declared.io.Error.{Error}
@@ -259,6 +259,10 @@ none-of (Ok (Some shape)) to none = tt
 none-of (Ok None) to none = to none
 none-of (Err error) to none = tt
 
+pub none-growing : {P Q : Type 0} (found : Option Shape) → (P → Q) → IfNone found P → IfNone found Q
+none-growing (Some shape) to none = tt
+none-growing None to none = to none
+
 -- ---- the words and the room that a tail names
 
 pub names-alone : (asked : Option Layout) (own : Layout) (file : List ℕ) (shape : Shape) → IsImageOf asked own file → KeepsNames asked file shape
@@ -289,10 +293,9 @@ names-tail asked file a b (Ok (Some shape)) sized tail is = λ size room other n
 names-tail asked file a b (Ok None) sized tail is = tt
 names-tail asked file a b (Err error) sized tail is = tt
 
-pub names-none : {E : Type 0} (asked : Option Layout) (file : List ℕ) (found : Result (Option Shape) E) → ((size room : ℕ) → IsFile size room (length file) → HasTail size room file → ⊥) → IfOk found (λ o. IfSome o (KeepsNames asked file))
-names-none asked file (Ok (Some shape)) none = λ size room sized tail not_alone. absurd (none size room sized tail)
-names-none asked file (Ok None) none = tt
-names-none asked file (Err error) none = tt
+pub names-none : (asked : Option Layout) (file : List ℕ) (found : Option Shape) → ((size room : ℕ) → IsFile size room (length file) → HasTail size room file → ⊥) → IfSome found (KeepsNames asked file)
+names-none asked file (Some shape) none = λ size room sized tail not_alone. absurd (none size room sized tail)
+names-none asked file None none = tt
 
 pub names_nothing : (asked : Option Layout) (file : List ℕ) (shape : Shape) → length file ≡ 0 → KeepsNames asked file shape
 names_nothing asked file shape nothing size room sized tail not_alone = omega (arith, nothing, sized.size)

@@ -1,5 +1,5 @@
 -- What a caller may say of a device whose image is kept elsewhere.
-use Rattle.std.specs.Prelude.{ℕ, List, Option}
+use Rattle.std.specs.Prelude.{◌≡◌, ℕ, false, List, [], Option}
 use Rattle.std.specs.declared.io.Error.{Error}
 use Rattle.journal.specs.Images as journal
 use Rattle.journal.specs.declared.images.Images.{Ghosts}
@@ -32,6 +32,15 @@ places_of device = device.places
 -- the image may be found, once all has stopped
 abbrev pub MayFind : {I P : Type 0} → {H : Ghosts I P} → (I → List ℕ → Type 0) → JournaledPmem I P H → List ℕ → Type 0
 MayFind may_hold device image = may_hold device.images image
+
+-- the lines that are marked as stored to since an image was written
+abbrev pub changed_in : {I P : Type 0} → {H : Ghosts I P} → JournaledPmem I P H → List ℕ
+changed_in device = device.changed.lines
+
+-- All that is stored was written: no image failed to be kept, and no line is marked as stored to since the last one was written.
+-- Excluded: an image that lacks a store, taken for what the device holds.
+abbrev pub IsWritten : {I P : Type 0} → {H : Ghosts I P} → JournaledPmem I P H → Type 0
+IsWritten device = (device.failed ≡ false) × (changed_in device ≡ [])
 
 -- ---- one whose images are kept in a file
 

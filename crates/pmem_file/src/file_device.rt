@@ -79,7 +79,7 @@ impl JournaledPmem<JournaledImages<FileStorage>> {
         // By its last two calls the file was cut to the image, and synced (`IsCutTo`).
         ensures cut { IfOk result (IsCutTo (length (last_image self))) }
     {
-        let words = self.image().len();
+        let words = self.size();
         match self.into_storage() {
             Ok(storage) => storage.close(words),
             Err(unclosed) => Err(unclosed.error),
@@ -137,14 +137,7 @@ fn open_found(
     storage.grow(alloc, found.count(), shape.whole())?;
     let words = found.into_words(shape)?;
     write_back(&mut storage, shape.words, words.as_slice())?;
-    let opened = JournaledPmem::over(
-        alloc,
-        storage,
-        words.as_slice(),
-        shape.words,
-        shape.room,
-        shape.places,
-    );
+    let opened = JournaledPmem::over(alloc, storage, words, shape.words, shape.room, shape.places);
     match opened {
         Ok(device) => Ok(device),
         Err(unopened) => Err(unopened.error),

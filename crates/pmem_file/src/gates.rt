@@ -23,8 +23,8 @@ pub(crate) fn is_gate_line(places: usize, line: usize) -> bool
     line == 0 || line % 4 == 1 && (line - 1) / 4 < places
 }
 
-// Whether they are the words of a formatted image.
-fn is_formatted(words: &[u64]) -> bool
+/// Whether they are the words of a formatted image.
+pub(crate) fn is_formatted(words: &[u64]) -> bool
     ensures { result ≡ is_formatted words.now }
 {
     words.len() >= 8 && words[0] == FORMATTED

@@ -1,5 +1,5 @@
-ghost use Rattle.std.specs.Prelude.{◌≡◌, ◌⊎◌, ◌/◌, ◌<◌, ◌≤◌, ◌*◌, ◌&&◌, ◌||◌, ℕ, List, length, true, false, None, slice_index, IfOk, OnOk, OnErr, IfErr};
-ghost use Rattle.journal.specs.Changes.{DiffersIn};
+ghost use Rattle.std.specs.Prelude.{◌≡◌, ◌⊎◌, ◌/◌, ◌<◌, ◌≤◌, ◌*◌, ◌&&◌, ◌||◌, ℕ, List, length, true, false, None, slice_index, slice_set, IfOk, OnOk, OnErr, IfErr};
+ghost use Rattle.journal.specs.Changes.{DiffersIn, is_listed};
 ghost use Rattle.pmem.specs.Device.{Device, stored, fenced, failed, MightHaveLeft};
 ghost use Rattle.journal.specs.Kept.{HoldsOnly};
 ghost use Rattle.pmem_file.specs.Shown.{IsShown};
@@ -147,7 +147,8 @@ impl<I: Images> JournaledPmem<I> {
     }
 
     // A store that may be the first to its line since an image was written, or of a gate. It is refused if there is no memory, and if
-    // a formatted image would name other places. Returns whether it was made: a result would need a place in memory at each store.
+    // a formatted image would name other places. One of the value that the word has changes no line. Returns whether it was made: a
+    // result would need a place in memory at each store.
     #[cold]
     #[inline(never)]
     fn store_first(&mut self, word: usize, value: u64) -> bool
@@ -155,27 +156,23 @@ impl<I: Images> JournaledPmem<I> {
         ensures stored { result ≡ true → device_of self.new.trace ≡ stored word value (device_of self.old.trace) }
         ensures refused { result ≡ false → device_of self.new.trace ≡ failed (device_of self.old.trace) }
     {
-        if word < 8 && !keeps_places(&self.words, self.places, word, value) {
+        if !leaves_places(&self.words, self.places, word, value) {
             let _ = self.refuse();
             return false;
         }
-        match self.changed.add(word / 8) {
-            Ok(()) => {
-                self.words[word] = value;
-                note_gate(
-                    &mut self.is_gate_stored,
-                    &mut self.is_gate_unwritten,
-                    self.places,
-                    word,
-                );
-                self.trace.note(Operation::Store { word, value });
-                true
-            }
-            Err(_) => {
-                let _ = self.refuse();
-                false
-            }
+        if !note_change(&mut self.changed, self.words.as_slice(), word, value) {
+            let _ = self.refuse();
+            return false;
         }
+        self.words[word] = value;
+        note_gate(
+            &mut self.is_gate_stored,
+            &mut self.is_gate_unwritten,
+            self.places,
+            word,
+        );
+        self.trace.note(Operation::Store { word, value });
+        true
     }
 
     // Does a fence by this actor make a gate durable that no kept image has yet?
@@ -288,19 +285,21 @@ impl<I: Images> JournaledPmem<I> {
 }
 
 impl<S: Storage> JournaledPmem<JournaledImages<S>> {
-    ghost use Rattle.std.specs.Prelude.{◌+◌};
+    ghost use Rattle.std.specs.Prelude.{◌+◌, ◌≢◌, ◌↔◌, [], IsSome, IsTrue};
+    ghost use Rattle.std.specs.Bool.{OnTrue};
     ghost use Rattle.journal.specs.Files.{Opens};
     ghost use Rattle.journal.specs.ReadBack.{IsReadBack, StandsAsBefore};
-    ghost use Rattle.pmem.specs.Device.{restarted};
+    ghost use Rattle.pmem.specs.Device.{MayLeave, restarted};
     ghost use Rattle.pmem.specs.Words.{IsAtRest, image_of};
-    ghost use Rattle.pmem_file.specs.Devices.{IsClosedIn, MayFindIn, StandsForOne, failure_of, last_image, places_of, state_of, storage_of};
+    ghost use Rattle.pmem_file.specs.Devices.{IsClosedIn, IsWritten, MayFindIn, StandsForOne, changed_in, failure_of, last_image, places_of, state_of, storage_of};
 
     /// A device at rest with the image that a file of these words stands for: an image of `words`, a journal of `room`, and a
-    /// tail. It has the places for records that the image names, and if it isn't formatted, this number.
+    /// tail. It has the places for records that the image names, and if it isn't formatted, this number. The image stays where
+    /// the file's words are.
     pub fn over(
         alloc: Global,
         storage: S,
-        file: &[u64],
+        file: Vec<u64>,
         words: usize,
         room: usize,
         places: usize,
@@ -308,13 +307,13 @@ impl<S: Storage> JournaledPmem<JournaledImages<S>> {
     where
         S: Drop,
         // As for `JournaledImages::open`: the journal and the tail are found only as they were read.
-        requires back { length file.now ≡ words + room + 8 → IsReadBack (S.may_hold storage) words room file.now }
+        requires back { length file.items ≡ words + room + 8 → IsReadBack (S.may_hold storage) words room file.items }
 
         // It is at rest with the image that the file stands for, and has its places (`places_named`). Nothing was done to it yet,
         // and no failure to keep an image is noted.
         ensures rest { IfOk result (λ device. IsAtRest (state_of device)) }
         ensures device { IfOk result (λ device. state_of device ≡ restarted (image_of (state_of device))) }
-        ensures stands { IfOk result (λ device. Opens words room file.now (image_of (state_of device))) }
+        ensures stands { IfOk result (λ device. Opens words room file.items (image_of (state_of device))) }
         ensures places { IfOk result (λ device. places_of device ≡ places_named (image_of (state_of device)) places) }
         ensures works { IfOk result (λ device. failure_of device ≡ None) }
 
@@ -322,23 +321,37 @@ impl<S: Storage> JournaledPmem<JournaledImages<S>> {
         ensures found { IfOk result (λ device. (image : List ℕ) → MayFindIn S.may_hold device image → image ≡ image_of (state_of device)) }
 
         // At Err, whichever write fails, it is what `JournaledImages::open` leaves (`StandsAsBefore`).
-        ensures unopened { IfErr result (λ unopened. StandsAsBefore (S.may_hold storage) (S.may_hold unopened.storage) words room file.now) }
+        ensures unopened { IfErr result (λ unopened. StandsAsBefore (S.may_hold storage) (S.may_hold unopened.storage) words room file.items) }
     {
-        let images = JournaledImages::open(alloc, storage, file, words, room)?;
-        let Ok(image) = Vec::from_slice(alloc, images.image()) else {
-            return Err(unopened(images));
-        };
+        let mut image = file;
+        let images = JournaledImages::open(alloc, storage, &mut image, words, room)?;
+        image.shrink_to_fit();
         match JournaledPmem::new(alloc, image, images, places) {
             Ok(device) => Ok(device),
             Err(images) => Err(unopened(images)),
         }
     }
 
-    /// The image that was written last.
-    pub fn image(&self) -> &[u64]
-        ensures { result.now ≡ last_image self.now }
+    /// How many words the image has that was written last.
+    pub(crate) fn size(&self) -> usize
+        ensures { result ≡ length (last_image self.now) }
     {
-        self.images.image()
+        self.images.size()
+    }
+
+    /// Whether the image that was written last is what the device holds now.
+    pub fn is_written(&self) -> bool
+        // It is exactly if no image failed to be kept, and no line is marked as stored to since that one was written (`IsWritten`).
+        ensures is { IsTrue result ↔ IsWritten self.now }
+
+        // Then it has the words that the device holds, and a crash may leave it.
+        ensures same { OnTrue result (last_image self.now ≡ image_of (state_of self.now)) }
+        ensures left { OnTrue result (MayLeave (state_of self.now) (last_image self.now)) }
+
+        // Otherwise an image wasn't kept, and `failure` says why, or a line is marked as stored to.
+        ensures otherwise { result ≡ false → ∥ IsSome (failure_of self.now) ∥₁ ⊎ (changed_in self.now ≢ []) }
+    {
+        !self.failed && self.changed.as_slice().is_empty()
     }
 
     /// Why an image wasn't kept, if one wasn't. No fence succeeds since then.
@@ -378,6 +391,33 @@ fn unopened<S: Storage>(images: JournaledImages<S>) -> Unopened<S>
         error: io::Error::from(io::ErrorKind::OutOfMemory),
         storage: images.release(),
     }
+}
+
+// Whether the image names no other places than these, once this word has this value: only words of its superblock name them.
+fn leaves_places(words: &[u64], places: usize, word: usize, value: u64) -> bool
+    requires { NamesPlaces places words.now }
+    ensures { result ≡ true → NamesPlaces places (slice_set words.now word value) }
+{
+    if word < 8 {
+        return keeps_places(words, places, word, value);
+    }
+    true
+}
+
+// Adds the line of a word that is to have this value, unless it has it. Returns whether there was memory.
+fn note_change(changed: &mut ChangedLines, words: &[u64], word: usize, value: u64) -> bool
+    requires within { word < length words.now }
+    requires listed { length words.now ≤ 8 * changed.old.count }
+    ensures has { result ≡ true → (is_listed changed.new.lines (word / 8) ≡ true) ⊎ (slice_index words.now word ≡ value) }
+    ensures others { (other : ℕ) → is_listed changed.old.lines other ≡ true → is_listed changed.new.lines other ≡ true }
+    ensures count { changed.new.count ≡ changed.old.count }
+    ensures places { changed.new.places ≡ changed.old.places }
+    ensures err { result ≡ false → changed.new ≡ changed.old }
+{
+    if words[word] == value {
+        return true;
+    }
+    changed.add(word / 8).is_ok()
 }
 
 // Notes in both marks that a gate was stored, if this word is one. Most words are none, and change no mark.

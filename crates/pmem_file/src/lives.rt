@@ -15,7 +15,7 @@ pub fn next_device_begins_with_what_was_left<B: Storage, S: Storage>(
     alloc: Global,
     last: &JournaledPmem<JournaledImages<B>>,
     next: S,
-    file: &[u64],
+    file: Vec<u64>,
     words: usize,
     room: usize,
     places: usize,
@@ -25,7 +25,7 @@ where
     // A file was read that might be found of the last device, and of its words nothing else may be found at the beginning.
     requires words { words ≡ length (last_image last.now) }
     requires room { room ≡ room_in last.now }
-    requires found { IsFound (B.may_hold (storage_of last.now)) (words + room + 8) file.now }
+    requires found { IsFound (B.may_hold (storage_of last.now)) (words + room + 8) file.items }
     requires begins { IsNoMore (B.may_hold (storage_of last.now)) (S.may_hold next) }
 
     // At Ok the next device begins with an image that might be found of the last one, so with one that a crash of it might have left
@@ -38,7 +38,7 @@ where
 {
     last.found_image_was_left();
     let mut storage = next;
-    match write_back(&mut storage, words, file) {
+    match write_back(&mut storage, words, file.as_slice()) {
         Ok(()) => JournaledPmem::over(alloc, storage, file, words, room, places),
         Err(error) => Err(Unopened { error, storage }),
     }

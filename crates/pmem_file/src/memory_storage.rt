@@ -108,7 +108,7 @@ impl JournaledPmem<JournaledImages<MemoryStorage>> {
         ensures unopened { IfErr result (λ unopened. StandsAs (IsStored unopened.storage) words room (stored_in storage)) }
     {
         match storage.words.clone() {
-            Ok(file) => JournaledPmem::over(alloc, storage, file.as_slice(), words, room, places),
+            Ok(file) => JournaledPmem::over(alloc, storage, file, words, room, places),
             Err(_) => Err(Unopened {
                 error: io::Error::from(ErrorKind::OutOfMemory),
                 storage,

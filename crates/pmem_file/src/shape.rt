@@ -1,4 +1,4 @@
-ghost use Rattle.std.specs.Prelude.{◌≡◌, ◌↔◌, ◌+◌, ◌*◌, ◌/◌, ◌<◌, ◌≤◌, ◌^◌, ℕ, List, drop, length, slice_index, take, Err, IfErr, IfNone, IfOk, IfSome, IsOk, IsTrue, None, OnSome, Some, true};
+ghost use Rattle.std.specs.Prelude.{◌≡◌, ◌↔◌, ◌&&◌, ◌+◌, ◌*◌, ◌/◌, ◌<◌, ◌≤◌, ◌^◌, ℕ, List, drop, length, nat_eq, slice_index, take, Err, IfErr, IfNone, IfOk, IfSome, IsOk, IsTrue, None, OnSome, Some, true};
 ghost use Rattle.std.specs.IoError.{error_kind};
 ghost use Rattle.std.specs.declared.io.ErrorKind.TheVariants.{OutOfMemory};
 ghost use Rattle.base.specs.Layout.{Layout, is_in_limits, is_large};
@@ -6,26 +6,26 @@ ghost use Rattle.base.specs.Images.{layout_of};
 ghost use Rattle.journal.specs.Files.{HasTail, IsFile, Opens};
 ghost use Rattle.journal.specs.Images.{last_image, room_of, storage_of};
 ghost use Rattle.journal.specs.Kept.{IsFound};
-ghost use Rattle.log_area.specs.Rulings.{IsLaidOut, layout_damage};
+ghost use Rattle.log_area.specs.Rulings.{IsLaidOut};
 ghost use Rattle.pmem_file.specs.declared.opening.OpenError.{OpenError};
 ghost use Rattle.pmem_file.specs.Shapes.{HasShape, IsBlank, IsFirstTail, IsForMemory, IsGrowing, IsGrown, IsImageOf, IsNothingBehind, IsOurs, KeepsNames, least_room, room_made, room_needed, room_older, whole};
 
-use crate::journaled::JournaledPmem;
+use crate::gates::is_formatted;
 use crate::opening::OpenError;
 use base::fault::Fault;
 use base::geometry::Geometry;
 use byteorder::{ByteOrder, LittleEndian};
-use journal::{
-    JournaledImages, Nowhere, Storage, extent_of, image_in, left_files_name_their_shape,
-};
-use log_area::read_geometry;
-use std::alloc::Global;
+use journal::{JournaledImages, Storage, extent_of, image_in, left_files_name_their_shape};
+use std::alloc::{AllocError, Global};
 use std::fs::File;
 use std::io;
-use std::io::{ErrorKind, Read};
+use std::io::Read;
 
 // The longest file that is read: an image of 2,147,500,096 bytes, and a journal that an entry of all its lines fits into.
 const MOST_BYTES: u64 = 4_563_437_952;
+
+// The part of a file that is read at once.
+const PART_BYTES: u64 = 65_536;
 
 // A journal of 1 MiB has room for two thousand commits of a row each, and only then the image is written in place.
 const LEAST_ROOM: usize = 131_072;
@@ -145,13 +145,22 @@ impl Found {
     ghost use Rattle.pmem_file.specs.declared.opening.OpenError.{OpenError};
     ghost use Rattle.pmem_file.specs.Shapes.{HasShape, IsForMemory, IsOurs, KeepsNames, padded, whole};
 
+    /// Reads the file part by part, so that only its words are held.
     pub(crate) fn read(alloc: Global, file: &File) -> io::Result<Found> {
         let length = file.metadata()?.len();
-        let mut bytes = Vec::new(alloc);
-        file.take(MOST_BYTES).read_to_end(&mut bytes)?;
-        let count = bytes.len() / 8;
-        let mut words = Vec::from_elem(alloc, 0, count)?;
-        LittleEndian::read_u64_into(&bytes[..8 * count], words.as_mut_slice());
+        let mut words = Vec::with_capacity(alloc, (length.min(MOST_BYTES) / 8) as usize)?;
+        let mut bytes = Vec::with_capacity(alloc, PART_BYTES as usize)?;
+        let mut left = MOST_BYTES;
+        while left > 0 {
+            let size = left.min(PART_BYTES);
+            bytes.clear();
+            file.take(size).read_to_end(&mut bytes)?;
+            push_words(&mut words, bytes.as_slice())?;
+            if (bytes.len() as u64) < size {
+                return Ok(Found { words, length });
+            }
+            left -= size;
+        }
         Ok(Found { words, length })
     }
 
@@ -198,17 +207,22 @@ impl Found {
                 Err(error) => return Err(OpenError::Io(error)),
             }
         }
-        Err(self.refusal(alloc)?)
+        Err(self.refusal())
     }
 
     // Why the file is refused.
-    fn refusal(&self, alloc: Global) -> io::Result<OpenError> {
-        let refusal = match geometry_in(alloc, self.words.as_slice())? {
-            Ok(_) | Err(Fault::BadGeometry) => self.wrong_length(),
-            Err(Fault::NotFormatted) => OpenError::NotAnImage,
-            Err(fault) => OpenError::Image(fault),
-        };
-        Ok(refusal)
+    fn refusal(&self) -> OpenError {
+        let words = self.words.as_slice();
+        match words.get(1) {
+            Some(version) if is_formatted(words) => {
+                if Geometry::is_known_version(*version) {
+                    self.wrong_length()
+                } else {
+                    OpenError::Image(Fault::Version(*version))
+                }
+            }
+            _ => OpenError::NotAnImage,
+        }
     }
 
     // How the length differs from that of the geometry in its superblock, if one is there.
@@ -255,6 +269,15 @@ impl Found {
     }
 }
 
+// Adds the whole words of these bytes.
+fn push_words(words: &mut Vec<u64>, bytes: &[u8]) -> Result<(), AllocError> {
+    let start = words.len();
+    let count = bytes.len() / 8;
+    words.resize(start.saturating_add(count), 0)?;
+    LittleEndian::read_u64_into(&bytes[..8 * count], &mut words.as_mut_slice()[start..]);
+    Ok(())
+}
+
 // Of a file without words.
 #[tactic(auto, using(crate::proofs::Shapes::nothing, crate::proofs::Shapes::names_nothing))]
 fn new_shape(asked: &Option<Geometry>, file: &[u64]) -> Result<Shape, OpenError>
@@ -287,11 +310,11 @@ fn shape_in(alloc: Global, file: &[u64], asked: &Option<Geometry>) -> io::Result
     ensures memory { IfErr result (λ error. error_kind error ≡ OutOfMemory) }
     ensures named { IfOk result (λ found. IfSome found (KeepsNames asked.now file.now)) }
 {
-    match layout_of(alloc, file, asked)? {
+    match layout_of(file, asked) {
         Some(own) => Ok(Some(Shape::new(own))),
         None => match extent_of(file) {
             Some((words, room)) => journaled_shape(alloc, file, words, room, asked),
-            None => growing_shape(alloc, file, asked),
+            None => Ok(growing_shape(file, asked)),
         },
     }
 }
@@ -313,7 +336,7 @@ fn journaled_shape(
     ensures named { IfOk result (λ found. IfSome found (λ shape. (shape.words ≡ words) × (shape.room ≡ room))) }
 {
     let image = image_in(alloc, file, words, room)?;
-    let Some(own) = layout_of(alloc, image.as_slice(), asked)? else {
+    let Some(own) = layout_of(image.as_slice(), asked) else {
         return Ok(None);
     };
     if room < room_needed(own) {
@@ -372,17 +395,14 @@ fn asked_in_limits(asked: &Option<Geometry>)
 }
 
 // The shape of a file that was being made longer, by a program of now or an older one.
-fn growing_shape(alloc: Global, file: &[u64], asked: &Option<Geometry>) -> io::Result<Option<Shape>>
-    ensures some { IfOk result (λ found. IfSome found (HasShape asked.now file.now)) }
-    ensures none { IfOk result (λ found. IfNone found (¬ IsGrowing asked.now file.now)) }
-    ensures memory { IfErr result (λ error. error_kind error ≡ OutOfMemory) }
+fn growing_shape(file: &[u64], asked: &Option<Geometry>) -> Option<Shape>
+    ensures some { IfSome result (HasShape asked.now file.now) }
+    ensures none { IfNone result (¬ IsGrowing asked.now file.now) }
 {
-    let Some(own) = own_geometry(file).or(*asked) else {
-        return Ok(None);
-    };
-    match grown_shape(alloc, file, asked, Shape::new(own))? {
-        Some(shape) => Ok(Some(shape)),
-        None => grown_shape(alloc, file, asked, Shape::older(own)),
+    let own = own_geometry(file).or(*asked)?;
+    match grown_shape(file, asked, Shape::new(own)) {
+        Some(shape) => Some(shape),
+        None => grown_shape(file, asked, Shape::older(own)),
     }
 }
 
@@ -415,29 +435,20 @@ fn is_grown(file: &[u64], shape: Shape) -> bool
 }
 
 // This shape, if the file was being made as long: behind its image there is nothing yet, except for words of the first tail.
-#[tactic(auto, using(crate::proofs::Shapes::growing))]
-fn grown_shape(
-    alloc: Global,
-    file: &[u64],
-    asked: &Option<Geometry>,
-    shape: Shape,
-) -> io::Result<Option<Shape>>
+fn grown_shape(file: &[u64], asked: &Option<Geometry>, shape: Shape) -> Option<Shape>
     requires { whole shape < 2 ^ 58 }
-    ensures some { IfOk result (λ found. IfSome found (HasShape asked.now file.now)) }
-    ensures none { IfOk result (λ found. IfNone found ((own : Layout) → length file.now ≡ whole shape → IsNothingBehind shape.words shape.room (drop shape.words file.now) → ¬ IsImageOf asked.now own (take shape.words file.now))) }
-    ensures memory { IfErr result (λ error. error_kind error ≡ OutOfMemory) }
+    ensures some { IfSome result (HasShape asked.now file.now) }
+    ensures none { IfNone result ((own : Layout) → length file.now ≡ whole shape → IsNothingBehind shape.words shape.room (drop shape.words file.now) → ¬ IsImageOf asked.now own (take shape.words file.now)) }
 {
     if !is_grown(file, shape) {
-        return Ok(None);
+        return None;
     }
-    match layout_of(alloc, &file[..shape.words], asked)? {
-        Some(own) => Ok(Some(Shape {
-            words: shape.words,
-            room: shape.room,
-            places: own.places() as usize,
-        })),
-        None => Ok(None),
-    }
+    let own = layout_of(&file[..shape.words], asked)?;
+    Some(Shape {
+        words: shape.words,
+        room: shape.room,
+        places: own.places() as usize,
+    })
 }
 
 // Whether there is nothing behind an image but some words of a tail that doesn't count.
@@ -469,17 +480,13 @@ fn is_first_tail(tail: &[u64], shape: Shape) -> bool
 }
 
 // The layout of an image of these words. If nothing was ever kept in it, that is the one that is asked for.
-fn layout_of(alloc: Global, image: &[u64], asked: &Option<Geometry>) -> io::Result<Option<Geometry>>
-    ensures some { IfOk result (λ found. IfSome found (λ own. IsImageOf asked.now own image.now)) }
-    ensures none { IfOk result (λ found. IfNone found ((own : Layout) → ¬ IsImageOf asked.now own image.now)) }
-    ensures memory { IfErr result (λ error. error_kind error ≡ OutOfMemory) }
+fn layout_of(image: &[u64], asked: &Option<Geometry>) -> Option<Geometry>
+    ensures some { IfSome result (λ own. IsImageOf asked.now own image.now) }
+    ensures none { IfNone result ((own : Layout) → ¬ IsImageOf asked.now own image.now) }
 {
-    if let Some(geometry) = blank_layout(image, asked) {
-        return Ok(Some(geometry));
-    }
-    match geometry_in(alloc, image)? {
-        Ok(own) => Ok(Some(own)),
-        Err(_) => Ok(None),
+    match blank_layout(image, asked) {
+        Some(geometry) => Some(geometry),
+        None => laid_out(image),
     }
 }
 
@@ -494,17 +501,28 @@ fn blank_layout(image: &[u64], asked: &Option<Geometry>) -> Option<Geometry>
     }
 }
 
-// What the superblock of these words says.
-fn geometry_in(alloc: Global, image: &[u64]) -> io::Result<Result<Geometry, Fault>>
-    ensures ok { IfOk result (λ found. IfOk found (λ own. IsLaidOut own image.now)) }
-    ensures fault { IfOk result (λ found. IfErr found (λ fault. layout_damage image.now ≡ Some fault)) }
-    ensures memory { IfErr result (λ error. error_kind error ≡ OutOfMemory) }
+// The layout of an image of these words by its superblock. `None` if these aren't the words of one.
+fn laid_out(image: &[u64]) -> Option<Geometry>
+    ensures some { IfSome result (λ own. IsLaidOut own image.now) }
+    ensures none { IfNone result ((own : Layout) → ¬ IsLaidOut own image.now) }
 {
-    let words = Vec::from_slice(alloc, image)?;
-    match JournaledPmem::new(alloc, words, Nowhere, 0) {
-        Ok(device) => Ok(read_geometry(&device)),
-        Err(Nowhere) => Err(io::Error::from(ErrorKind::OutOfMemory)),
+    if !is_formatted(image) {
+        return None;
     }
+    let geometry = own_geometry(image)?;
+    if has_good_end(image, geometry.words()) {
+        Some(geometry)
+    } else {
+        None
+    }
+}
+
+// Whether the superblock says that the image has this many words, as it has, and ends with zeros.
+fn has_good_end(image: &[u64], total: u64) -> bool
+    requires { 8 ≤ length image.now }
+    ensures { result ≡ (nat_eq (slice_index image.now 5) total && nat_eq (length image.now) (slice_index image.now 5) && nat_eq (slice_index image.now 6) 0 && nat_eq (slice_index image.now 7) 0) }
+{
+    image[5] == total && image.len() as u64 == image[5] && image[6] == 0 && image[7] == 0
 }
 
 // Whether nothing was ever kept: it has the length of a new image, and word 0 and those of all slots are 0.

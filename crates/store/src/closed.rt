@@ -1,12 +1,10 @@
-//! Closing a store writes nothing further once all is covered: the file holds the device's image already. That is looked at, so that
-//! the file's account says which image is found there.
+//! Closing a store writes nothing further once all is covered: the file holds the device's image already. The device says whether
+//! it does, so that the file's account says which image is found there.
 
 ghost use Rattle.std.specs.Prelude.{IfErr, IfOk};
-ghost use Rattle.std.specs.Bool.{OnTrue};
 ghost use Rattle.std.specs.String.{string_bytes};
 ghost use Rattle.database.specs.Closing.{ClosesRun, IsClosed};
 ghost use Rattle.database.specs.Histories.{ClosesAt};
-ghost use Rattle.pmem.specs.Device.{MayLeave};
 ghost use Rattle.pmem_file.specs.Devices.{last_image, state_of};
 ghost use Rattle.store.specs.Closed.{IsClosedAs};
 ghost use Rattle.store.specs.Opening.{IsClosingError};
@@ -15,7 +13,6 @@ use crate::error::StoreError;
 use crate::files::Device;
 use database::{Front, Origin};
 use file_words::Account;
-use pmem::Pmem;
 use std::io::{Error, ErrorKind};
 use std::marker::Brand;
 
@@ -39,7 +36,7 @@ pub fn close_file<J: Origin>(
     ensures err { IfErr result (IsClosingError (string_bytes name)) }
 {
     let database::Closed { device, front } = closed;
-    if !is_written(&device) {
+    if !device.is_written() {
         let cause = Error::from(ErrorKind::InvalidData);
         return Err(StoreError::Lost { name, cause });
     }
@@ -47,20 +44,4 @@ pub fn close_file<J: Origin>(
         Ok(account) => Ok(Closed { account, front }),
         Err(cause) => Err(StoreError::Lost { name, cause }),
     }
-}
-
-// Whether the image that was written last is what the device holds now. Then it is one that a crash leaves.
-fn is_written(device: &Device) -> bool
-    ensures { OnTrue result (MayLeave (state_of device.now) (last_image device.now)) }
-{
-    let image = device.image();
-    if image.len() != device.words() {
-        return false;
-    }
-    for word in 0..image.len() {
-        if device.load(word) != image[word] {
-            return false;
-        }
-    }
-    true
 }

@@ -7,6 +7,7 @@ use Rattle.journal.proofs.Appended.{rests-either, append-either, append-kept}
 use Rattle.journal.proofs.Tails.{names_appended}
 use Rattle.journal.proofs.Places.{places_behind}
 use Rattle.journal.proofs.Decides.{decides_appended, decides_rests}
+use Rattle.journal.proofs.Placings.{placed-still}
 use Rattle.journal.proofs.appending.append.Goals as goal
 
 pub returns-in_err-entry-clause-either : goal.returns-in_err-entry-clause-either
@@ -14,7 +15,7 @@ returns-in_err-entry-clause-either g c = grind (arith, rests-either)
 
 pub returns-in_err-write-clause-either : goal.returns-in_err-write-clause-either
 returns-in_err-write-clause-either g c =
-    let durable = c.args.durable.now in
+    let durable = c.args.durable.now.value.items in
     let lines = c.args.changed.now in
     let changed = c.requires.changed in
     let old = g.S.Storage.may_hold c.args.storage.now in
@@ -22,11 +23,11 @@ returns-in_err-write-clause-either g c =
     let is = c.as_slice.ensures.value ∙ c.in_ok-entry.ensures in
     append-either old new (length durable) c.args.room c.args.position.pass c.args.position.words durable c.args.words.now lines c.requires.known changed.lines_are
     (omega (arith, entry_size c.args.position.pass lines changed.lines_are, c.requires.within)) c.requires.same (λ word lt. changed.makes word (omega (arith, lt, c.requires.same)))
-    (rw is at c.write.ensures.found)
+    (rw c.requires.same at (rw is at c.write.ensures.found))
 
 pub returns-clause-either : goal.returns-clause-either
 returns-clause-either g c =
-    let durable = c.args.durable.now in
+    let durable = c.args.durable.now.value.items in
     let lines = c.args.changed.now in
     let changed = c.requires.changed in
     let old = g.S.Storage.may_hold c.args.storage.now in
@@ -34,11 +35,11 @@ returns-clause-either g c =
     let is = c.as_slice.ensures.value ∙ c.in_ok-entry.ensures in
     append-either old new (length durable) c.args.room c.args.position.pass c.args.position.words durable c.args.words.now lines c.requires.known changed.lines_are
     (omega (arith, entry_size c.args.position.pass lines changed.lines_are, c.requires.within)) c.requires.same (λ word lt. changed.makes word (omega (arith, lt, c.requires.same)))
-    (rw is at c.write.ensures.found)
+    (rw c.requires.same at (rw is at c.write.ensures.found))
 
 pub returns-clause-rests : goal.returns-clause-rests
 returns-clause-rests g c =
-    let durable = c.args.durable.now in
+    let durable = c.args.durable.now.value.items in
     let words = c.args.words.now in
     let lines = c.args.changed.now in
     let changed = c.requires.changed in
@@ -55,57 +56,71 @@ returns-clause-rests g c =
     subst N (sym count) (subst R (sym made) (∥∥₁_map known (λ r.
     append-kept old new (length durable) c.args.room c.args.position.pass c.args.position.words durable words lines r changed.lines_are
     (omega (arith, entry_size c.args.position.pass lines changed.lines_are, c.requires.within)) c.requires.same (λ word lt. changed.makes word (omega (arith, lt, c.requires.same)))
-    (rw is at c.write.ensures.others) (rw is at c.in_ok-write.ensures.written))))
+    (rw c.requires.same at (rw is at c.write.ensures.others)) (rw c.requires.same at (rw is at c.in_ok-write.ensures.written)))))
 
 pub returns-in_err-write-clause-tail : goal.returns-in_err-write-clause-tail
 returns-in_err-write-clause-tail g c =
-    let words = length c.args.durable.now in
+    let words = length c.args.durable.now.value.items in
     let lines = c.args.changed.now in
     let position = c.args.position in
     let old = g.S.Storage.may_hold c.args.storage.now in
     let new = g.S.Storage.may_hold c.write.new.self in
     let is = c.as_slice.ensures.value ∙ c.in_ok-entry.ensures in
-    names_appended old new words c.args.room position.words position.pass lines c.requires.changed.lines_are c.requires.within (rw is at c.write.ensures.found)
+    names_appended old new words c.args.room position.words position.pass lines c.requires.changed.lines_are c.requires.within (rw c.requires.same at (rw is at c.write.ensures.found))
 
 pub returns-clause-tail : goal.returns-clause-tail
 returns-clause-tail g c =
-    let words = length c.args.durable.now in
+    let words = length c.args.durable.now.value.items in
     let lines = c.args.changed.now in
     let position = c.args.position in
     let old = g.S.Storage.may_hold c.args.storage.now in
     let new = g.S.Storage.may_hold c.write.new.self in
     let is = c.as_slice.ensures.value ∙ c.in_ok-entry.ensures in
-    names_appended old new words c.args.room position.words position.pass lines c.requires.changed.lines_are c.requires.within (rw is at c.write.ensures.found)
+    names_appended old new words c.args.room position.words position.pass lines c.requires.changed.lines_are c.requires.within (rw c.requires.same at (rw is at c.write.ensures.found))
 
 pub returns-in_err-write-clause-place : goal.returns-in_err-write-clause-place
 returns-in_err-write-clause-place g c =
-    let durable = c.args.durable.now in
+    let durable = c.args.durable.now.value.items in
     let old = g.S.Storage.may_hold c.args.storage.now in
     let new = g.S.Storage.may_hold c.write.new.self in
-    places_behind old new durable (length durable + c.args.position.words) _ (omega arith) c.write.ensures.found
+    places_behind old new durable (length durable + c.args.position.words) _ (omega arith) (rw c.requires.same at c.write.ensures.found)
 
 pub returns-clause-place : goal.returns-clause-place
 returns-clause-place g c =
-    let durable = c.args.durable.now in
+    let durable = c.args.durable.now.value.items in
     let old = g.S.Storage.may_hold c.args.storage.now in
     let new = g.S.Storage.may_hold c.write.new.self in
-    places_behind old new durable (length durable + c.args.position.words) _ (omega arith) c.write.ensures.found
+    places_behind old new durable (length durable + c.args.position.words) _ (omega arith) (rw c.requires.same at c.write.ensures.found)
 
 pub returns-in_err-entry-clause-decides : goal.returns-in_err-entry-clause-decides
 returns-in_err-entry-clause-decides g c =
-    let durable = c.args.durable.now in
+    let durable = c.args.durable.now.value.items in
     decides_rests (g.S.Storage.may_hold c.args.storage.now) (length durable) c.args.room c.args.position.pass c.args.position.words durable c.requires.known
 
 pub returns-in_err-write-clause-decides : goal.returns-in_err-write-clause-decides
 returns-in_err-write-clause-decides g c =
-    let durable = c.args.durable.now in
+    let durable = c.args.durable.now.value.items in
     let old = g.S.Storage.may_hold c.args.storage.now in
     let new = g.S.Storage.may_hold c.write.new.self in
-    decides_appended old new (length durable) c.args.room c.args.position.pass c.args.position.words durable (length durable + c.args.position.words) _ (omega arith) c.requires.known c.write.ensures.found
+    decides_appended old new (length durable) c.args.room c.args.position.pass c.args.position.words durable (length durable + c.args.position.words) _ (omega arith) c.requires.known (rw c.requires.same at c.write.ensures.found)
 
 pub returns-clause-decides : goal.returns-clause-decides
 returns-clause-decides g c =
-    let durable = c.args.durable.now in
+    let durable = c.args.durable.now.value.items in
     let old = g.S.Storage.may_hold c.args.storage.now in
     let new = g.S.Storage.may_hold c.write.new.self in
-    decides_appended old new (length durable) c.args.room c.args.position.pass c.args.position.words durable (length durable + c.args.position.words) _ (omega arith) c.requires.known c.write.ensures.found
+    decides_appended old new (length durable) c.args.room c.args.position.pass c.args.position.words durable (length durable + c.args.position.words) _ (omega arith) c.requires.known (rw c.requires.same at c.write.ensures.found)
+
+pub returns-in_err-write-clause-placed : goal.returns-in_err-write-clause-placed
+returns-in_err-write-clause-placed g c lines marks placed =
+    let durable = c.args.durable.now.value.items in
+    let old = g.S.Storage.may_hold c.args.storage.now in
+    let new = g.S.Storage.may_hold c.write.new.self in
+    placed-still old new lines marks durable (places_behind old new durable (length durable + c.args.position.words) _ (omega arith) (rw c.requires.same at c.write.ensures.found)) placed
+
+pub returns-clause-placed : goal.returns-clause-placed
+returns-clause-placed g c lines marks placed =
+    let durable = c.args.durable.now.value.items in
+    let old = g.S.Storage.may_hold c.args.storage.now in
+    let new = g.S.Storage.may_hold c.write.new.self in
+    placed-still old new lines marks durable (places_behind old new durable (length durable + c.args.position.words) _ (omega arith) (rw c.requires.same at c.write.ensures.found)) placed

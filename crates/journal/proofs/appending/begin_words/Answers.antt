@@ -10,42 +10,33 @@ use Rattle.journal.proofs.appending.begin_words.Goals as goal
 pub returns-in_err-changed-clause-either : goal.returns-in_err-changed-clause-either
 returns-in_err-changed-clause-either g c = grind (arith, rests-either)
 
-pub returns-clause-durable : goal.returns-clause-durable
-returns-clause-durable g c =
-    let durable = c.args.durable.now.items in
-    let words = c.args.words.now in
-    let lines : List Line = c.as_slice-4.result.now in
-    let now = c.put_each.new.image.items in
-    let is : lines ≡ c.in_ok-changed.changed.items = c.as_slice-4.ensures.value in
-    let L : List Line → Type 0 = λ l. AreChanged l durable words in
-    let changed : L lines = subst L (sym is) (rw c.as_slice.ensures.value at c.in_ok-changed.ensures) in
-    let size : length now ≡ length words = c.put_each.ensures.size ∙ c.requires.differs.size in
-    ext_get_or 0 now words size (λ word lt.
-    let below : word < length words = omega (arith, lt, size) in
-    c.put_each.ensures.each word (omega (arith, below, c.requires.differs.size)) ∙ changed.makes word below)
+pub write_changed-requires-clause-changed : goal.write_changed-requires-clause-changed
+write_changed-requires-clause-changed g c =
+    let L : List Line → Type 0 = λ l. AreChanged l c.args.durable.now.value.items c.args.words.now in
+    subst L (sym c.as_slice.ensures.value) (c.in_ok-changed.ensures c.args.durable.now.value.items c.requires.differs)
 
 pub returns-in_err-check_part-clause-either : goal.returns-in_err-check_part-clause-either
 returns-in_err-check_part-clause-either g c = grind (arith, rests-either)
 
 pub returns-in_err-check_part-clause-decides : goal.returns-in_err-check_part-clause-decides
 returns-in_err-check_part-clause-decides g c =
-    let durable = c.args.durable.now.items in
+    let durable = c.args.durable.now.value.items in
     decides_rests (g.S.Storage.may_hold c.args.storage.now) (length durable) c.args.room c.args.position.pass c.args.position.words durable c.requires.known
 
 pub returns-in_err-changed-clause-decides : goal.returns-in_err-changed-clause-decides
 returns-in_err-changed-clause-decides g c =
-    let durable = c.args.durable.now.items in
+    let durable = c.args.durable.now.value.items in
     decides_rests (g.S.Storage.may_hold c.args.storage.now) (length durable) c.args.room c.args.position.pass c.args.position.words durable c.requires.known
 
 pub returns-clause-placed : goal.returns-clause-placed
 returns-clause-placed g c =
-    let durable = c.args.durable.now.items in
+    let durable = c.args.durable.now.value.items in
     let words = c.args.words.now in
-    let lines : List Line = c.as_slice-5.result.now in
-    let mid : List Bool = c.write_changed.new.unplaced.items in
-    let new : List Bool = c.mark_each.new.unplaced.items in
-    let is : lines ≡ c.in_ok-changed.changed.items = c.as_slice-5.ensures.value in
+    let lines : List Line = c.as_slice-2.result.now in
+    let mid = c.write_changed.new.unplaced in
+    let new = c.add.new.self in
+    let is : lines ≡ c.in_ok-changed.changed.items = c.as_slice-2.ensures.value in
     let L : List Line → Type 0 = λ l. AreChanged l durable words in
-    let changed : L lines = subst L (sym is) (rw c.as_slice.ensures.value at c.in_ok-changed.ensures) in
-    placed-changed (g.S.Storage.may_hold c.write_changed.new.storage) mid new lines durable words changed (sym c.requires.differs.size) (omega (arith, c.write_changed.ensures.marks, c.requires.lines))
-    (record { size = c.mark_each.ensures.size; each = c.mark_each.ensures.marked }) (rw c.as_slice-2.ensures.value at c.in_ok-next.ensures.placed)
+    let changed : L lines = subst L (sym is) (c.in_ok-changed.ensures durable c.requires.differs) in
+    placed-changed (g.S.Storage.may_hold c.write_changed.new.storage) mid.marks.items new.marks.items mid.lines.items new.lines.items lines durable words changed (sym c.requires.differs.size)
+    c.in_ok-add.ensures.lines (record { size = c.add.ensures.size; each = c.in_ok-add.ensures.marks }) c.in_ok-next.ensures.placed

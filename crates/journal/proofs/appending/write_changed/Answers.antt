@@ -8,7 +8,7 @@ use Rattle.journal.proofs.Changes.{unchanged}
 use Rattle.journal.proofs.Within.{rests_within}
 use Rattle.journal.proofs.Appended.{rests-behind, rests-either, opens-either}
 use Rattle.journal.proofs.Decides.{decides_opens, decides_rests}
-use Rattle.journal.proofs.Placings.{any_ok, placed-still, rests-placed}
+use Rattle.journal.proofs.Placings.{any_ok}
 use Rattle.journal.proofs.appending.write_changed.Goals as goal
 
 none : (lines : List Line) → length lines ≡ 0 → lines ≡ []
@@ -20,7 +20,7 @@ returns-then-is_empty-clause-either g c = grind (arith, rests-either)
 
 pub returns-then-is_empty-clause-rests : goal.returns-then-is_empty-clause-rests
 returns-then-is_empty-clause-rests g c =
-    let durable = c.args.durable.now in
+    let durable = c.args.durable.now.value.items in
     let words = c.args.words.now in
     let empty : length c.args.changed.now ≡ 0 = eqb-true _ _ (sym c.is_empty.ensures ∙ c.if-is_empty.true) in
     let held = g.S.Storage.may_hold c.args.storage.now in
@@ -34,7 +34,7 @@ returns-then-size-room-clause-either g c = grind (arith, rests-either)
 
 pub begin_pass-requires-clause-within : goal.begin_pass-requires-clause-within
 begin_pass-requires-clause-within g c =
-    let durable = c.args.durable.now in
+    let durable = c.args.durable.now.value.items in
     let room = c.args.room in
     let position = c.args.position in
     let held = g.S.Storage.may_hold c.args.storage.now in
@@ -42,25 +42,21 @@ begin_pass-requires-clause-within g c =
     omega (arith, over)
 
 pub returns-in_err-begin_pass-clause-either : goal.returns-in_err-begin_pass-clause-either
-returns-in_err-begin_pass-clause-either g c = grind (arith, opens-either (g.S.Storage.may_hold c.begin_pass.new.storage) (length c.args.durable.now) c.args.room c.args.durable.now c.args.words.now c.begin_pass.ensures.opens, c.begin_pass.ensures.opens)
+returns-in_err-begin_pass-clause-either g c = grind (arith, opens-either (g.S.Storage.may_hold c.begin_pass.new.storage) (length c.args.durable.now.value.items) c.args.room c.args.durable.now.value.items c.args.words.now c.begin_pass.ensures.opens, c.begin_pass.ensures.opens)
 
 pub returns-then-is_empty-clause-decides : goal.returns-then-is_empty-clause-decides
 returns-then-is_empty-clause-decides g c =
-    let durable = c.args.durable.now in
+    let durable = c.args.durable.now.value.items in
     decides_rests (g.S.Storage.may_hold c.args.storage.now) (length durable) c.args.room c.args.position.pass c.args.position.words durable c.requires.known
 
 pub returns-then-size-room-clause-decides : goal.returns-then-size-room-clause-decides
 returns-then-size-room-clause-decides g c =
-    let durable = c.args.durable.now in
+    let durable = c.args.durable.now.value.items in
     decides_rests (g.S.Storage.may_hold c.args.storage.now) (length durable) c.args.room c.args.position.pass c.args.position.words durable c.requires.known
 
 pub returns-in_err-begin_pass-clause-decides : goal.returns-in_err-begin_pass-clause-decides
 returns-in_err-begin_pass-clause-decides g c =
-    decides_opens (g.S.Storage.may_hold c.begin_pass.new.storage) (length c.args.durable.now) c.args.room c.args.durable.now c.begin_pass.ensures.opens
+    decides_opens (g.S.Storage.may_hold c.begin_pass.new.storage) (length c.args.durable.now.value.items) c.args.room c.args.durable.now.value.items c.begin_pass.ensures.opens
 
 pub returns-clause-placed : goal.returns-clause-placed
-returns-clause-placed g c =
-    let durable = c.args.durable.now in
-    let mid = g.S.Storage.may_hold c.begin_pass.new.storage in
-    let new = g.S.Storage.may_hold c.append-2.new.storage in
-    any_ok c.append-2.result (placed-still mid new _ durable c.append-2.ensures.place (rests-placed mid c.args.room (not c.args.position.pass) _ durable c.in_ok-begin_pass.ensures.rests))
+returns-clause-placed g c = any_ok c.append-2.result (c.append-2.ensures.placed _ _ c.in_ok-begin_pass.ensures.placed)

@@ -7,8 +7,8 @@ pub returns-in-Ok-clause-leaves : goal.returns-in-Ok-clause-leaves
 returns-in-Ok-clause-leaves g c =
     let hold = g.S.Storage.may_hold in
     if_ok c.open.result (λ images stands is.
-    let all : IsLeft (hold images.storage) (length images.written.items) images.room = record { some = images.part.has; names = images.named; part = images.holds; decides = images.decides } in
-    subst (λ (n : ℕ). IsLeft (hold images.storage) n c.args.room) stands.size (subst (λ (n : ℕ). IsLeft (hold images.storage) (length images.written.items) n) is all)) c.open.ensures.stands c.open.ensures.room
+    let all : IsLeft (hold images.storage) (length images.written.value.items) images.room = record { some = images.part.has; names = images.named; part = images.holds; decides = images.decides } in
+    subst (λ (n : ℕ). IsLeft (hold images.storage) n c.args.room) stands.size (subst (λ (n : ℕ). IsLeft (hold images.storage) (length images.written.value.items) n) is all)) c.open.ensures.stands c.open.ensures.room
 
 pub returns-in-Ok-clause-stopped : goal.returns-in-Ok-clause-stopped
 returns-in-Ok-clause-stopped g c =
@@ -16,8 +16,8 @@ returns-in-Ok-clause-stopped g c =
     let hold = g.S.Storage.may_hold in
     let words = c.args.words in
     let room = c.args.room in
-    let file = c.args.file.now in
-    let within = read_within before (hold c.args.next) (hold c.write_back.new.storage) words room file c.requires.found c.requires.begins c.write_back.ensures.puts in
+    let file = c.args.file.now.items in
+    let within = read_within before (hold c.args.next) (hold c.write_back.new.storage) words room file c.requires.found c.requires.begins (rw c.as_slice.ensures.value at c.write_back.ensures.puts) in
     if_err c.open.result (λ unopened stands. stopped_stands before (hold c.write_back.new.storage) (hold unopened.storage) words room file c.requires.file c.requires.found c.requires.left within stands) c.open.ensures.unopened
 
 pub returns-in-Ok-clause-left : goal.returns-in-Ok-clause-left
@@ -26,8 +26,8 @@ returns-in-Ok-clause-left g c =
     let hold = g.S.Storage.may_hold in
     let words = c.args.words in
     let room = c.args.room in
-    let file = c.args.file.now in
-    let within = read_within before (hold c.args.next) (hold c.write_back.new.storage) words room file c.requires.found c.requires.begins c.write_back.ensures.puts in
+    let file = c.args.file.now.items in
+    let within = read_within before (hold c.args.next) (hold c.write_back.new.storage) words room file c.requires.found c.requires.begins (rw c.as_slice.ensures.value at c.write_back.ensures.puts) in
     if_err_all c.open.result (λ unopened stands names part. stopped_left before (hold c.write_back.new.storage) (hold unopened.storage) words room file c.requires.file c.requires.found c.requires.left within stands names part)
     c.open.ensures.unopened c.open.ensures.tail c.open.ensures.part
 
@@ -35,5 +35,5 @@ pub returns-in-Err-clause-left : goal.returns-in-Err-clause-left
 returns-in-Err-clause-left g c =
     let before = g.B.Storage.may_hold c.args.last.now in
     let hold = g.S.Storage.may_hold in
-    let within = read_within before (hold c.args.next) (hold c.write_back.new.storage) c.args.words c.args.room c.args.file.now c.requires.found c.requires.begins c.write_back.ensures.puts in
+    let within = read_within before (hold c.args.next) (hold c.write_back.new.storage) c.args.words c.args.room c.args.file.now.items c.requires.found c.requires.begins (rw c.as_slice.ensures.value at c.write_back.ensures.puts) in
     left_within before (hold c.write_back.new.storage) c.args.words c.args.room within c.requires.left

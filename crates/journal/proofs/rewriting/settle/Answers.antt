@@ -8,7 +8,7 @@ use Rattle.journal.proofs.rewriting.settle.Goals as goal
 
 pub turn_off-requires-clause-known : goal.turn_off-requires-clause-known
 turn_off-requires-clause-known g c =
-    let image = c.args.image.now in
+    let image = c.args.image.now.value.items in
     let room = c.args.room in
     let old = g.S.Storage.may_hold c.args.storage.now in
     let new = g.S.Storage.may_hold c.put_unplaced.new.storage in
@@ -16,7 +16,7 @@ turn_off-requires-clause-known g c =
 
 pub returns-in_err-put_unplaced-clause-opens : goal.returns-in_err-put_unplaced-clause-opens
 returns-in_err-put_unplaced-clause-opens g c =
-    let image = c.args.image.now in
+    let image = c.args.image.now.value.items in
     let room = c.args.room in
     let old = g.S.Storage.may_hold c.args.storage.now in
     let new = g.S.Storage.may_hold c.put_unplaced.new.storage in
@@ -24,7 +24,7 @@ returns-in_err-put_unplaced-clause-opens g c =
 
 pub returns-in_err-put_unplaced-clause-tail : goal.returns-in_err-put_unplaced-clause-tail
 returns-in_err-put_unplaced-clause-tail g c =
-    let image = c.args.image.now in
+    let image = c.args.image.now.value.items in
     let old = g.S.Storage.may_hold c.args.storage.now in
     let new = g.S.Storage.may_hold c.put_unplaced.new.storage in
     names_before old new (length image) c.args.room 0 image (omega arith) c.put_unplaced.ensures.puts
@@ -33,18 +33,18 @@ pub returns-in_err-put_unplaced-clause-place : goal.returns-in_err-put_unplaced-
 returns-in_err-put_unplaced-clause-place g c =
     let old = g.S.Storage.may_hold c.args.storage.now in
     let new = g.S.Storage.may_hold c.put_unplaced.new.storage in
-    places_image old new c.args.image.now c.put_unplaced.ensures.puts
+    places_image old new c.args.image.now.value.items c.put_unplaced.ensures.puts
 
 pub returns-clause-tail : goal.returns-clause-tail
 returns-clause-tail g c names =
-    let image = c.args.image.now in
+    let image = c.args.image.now.value.items in
     let old = g.S.Storage.may_hold c.args.storage.now in
     let mid = g.S.Storage.may_hold c.put_unplaced.new.storage in
     c.turn_off.ensures.tail (names_before old mid (length image) c.args.room 0 image (omega arith) c.put_unplaced.ensures.puts names)
 
 pub returns-clause-place : goal.returns-clause-place
 returns-clause-place g c =
-    let image = c.args.image.now in
+    let image = c.args.image.now.value.items in
     let old = g.S.Storage.may_hold c.args.storage.now in
     let mid = g.S.Storage.may_hold c.put_unplaced.new.storage in
     let new = g.S.Storage.may_hold c.turn_off.new.storage in

@@ -7,5 +7,5 @@ returns g c own =
     let images = c.args.images.now in
     let file = c.args.file.now in
     let found = c.requires.found in
-    not-whole c.args.asked.now own file (length images.written.items) images.room found.size images.part.has (images.holds (get_or file 5 0) (found.each 5 (omega (arith, images.part.has))))
+    not-whole c.args.asked.now own file (length images.written.value.items) images.room found.size images.part.has (images.holds (get_or file 5 0) (found.each 5 (omega (arith, images.part.has))))
     c.left_files_name_their_shape.ensures.tail (c.asked_in_limits.ensures own)

@@ -1,4 +1,4 @@
-use Rattle.std.proofs.Common.{◌≡◌, ℕ, Option, IfSome, length, subst, ap, ◌∙◌}
+use Rattle.std.proofs.Common.{ℕ, Option, IfSome, length, subst, ap, ◌∙◌}
 use Rattle.journal.specs.Images.{last_image, room_of}
 use Rattle.pmem_file.specs.declared.shape.Shape.{Shape}
 use Rattle.pmem_file.specs.Shapes.{KeepsNames}

@@ -8,5 +8,5 @@ returns-in-Ok-clause-file g c = record {
   found = c.in-Ok.ensures.left;
   cut = c.in-Ok.ensures.cut;
   covers =
-      covers-history g.J.Origin.opened (state_of c.args.closed.device) g.J.Origin.kept (last_image c.args.closed.device) c.args.closed.front c.if-not-is_written.ensures c.requires.history;
+      covers-history g.J.Origin.opened (state_of c.args.closed.device) g.J.Origin.kept (last_image c.args.closed.device) c.args.closed.front c.if-not-is_written.ensures.left c.requires.history;
 }

@@ -1,5 +1,7 @@
-use Rattle.std.proofs.Common.{inl, true, ℕ, ◌+◌, List, length, get_or, refl}
-use Rattle.std.proofs.lemmas.Bool.{eq-eqb}
+use Rattle.std.proofs.Common.{◌≡◌, ◌∙◌, inl, true, false, Bool, ℕ, ◌*◌, List, length, refl, sym, ap, subst, arith}
+use Rattle.std.proofs.lemmas.Grind.{merely}
+use Rattle.journal.specs.Files.{Opens, pass_word}
+use Rattle.journal.specs.States.{KnowsJournal}
 use Rattle.journal.proofs.Appended.{may-kept}
 use Rattle.journal.proofs.Files.{read-stands, rewritten-stands}
 use Rattle.journal.proofs.Tails.{names_read, first_read, first_pass}
@@ -7,52 +9,98 @@ use Rattle.journal.proofs.Decides.{decides_rests}
 use Rattle.journal.proofs.Placings.{rests-placed}
 use Rattle.journal.proofs.journaled.JournaledImages.open.Goals as goal
 
-pub returns-in-Ok-rewrite-clause-found : goal.returns-in-Ok-rewrite-clause-found
-returns-in-Ok-rewrite-clause-found g c image may =
-    let durable = c.in-Ok.durable.items in
-    let hold = g.S.Storage.may_hold c.rewrite.new.storage in
-    may-kept hold (length durable) c.args.room true 0 durable image (rw c.as_slice.ensures.value at c.in-Ok-rewrite.ensures.rests) refl may
+pass_true : (pass : Bool) → pass_word pass ≡ 0 → pass ≡ true
+pass_true true is = refl
+pass_true false is = absurd (omega (arith, is))
 
 pub returns-in-Err-clause-unopened : goal.returns-in-Err-clause-unopened
-returns-in-Err-clause-unopened g c = read-stands (g.S.Storage.may_hold c.args.storage) c.args.words c.args.room c.args.file.now c.requires.back
+returns-in-Err-clause-unopened g c = read-stands (g.S.Storage.may_hold c.args.storage) c.args.words c.args.room c.args.file.now.items c.requires.back
+
+pub returns-in-Err-clause-first : goal.returns-in-Err-clause-first
+returns-in-Err-clause-first g c is begins = inl (first_read (g.S.Storage.may_hold c.args.storage) c.args.words c.args.room c.args.file.now.items (c.requires.back is.size) begins)
+
+pub returns-in_default-clause-unopened : goal.returns-in_default-clause-unopened
+returns-in_default-clause-unopened g c = read-stands (g.S.Storage.may_hold c.args.storage) c.args.words c.args.room c.args.file.now.items c.requires.back
+
+pub returns-in_default-clause-tail : goal.returns-in_default-clause-tail
+returns-in_default-clause-tail g c is has = names_read (g.S.Storage.may_hold c.args.storage) c.args.words c.args.room c.args.file.now.items (c.requires.back is.size) has
+
+pub returns-in-Ok-rewrite-clause-found : goal.returns-in-Ok-rewrite-clause-found
+returns-in-Ok-rewrite-clause-found g c image may =
+    let is : c.of.result.value.items ≡ c.leave_image.new.file.items = ap (λ v. v.items) c.of.ensures in
+    let durable = c.of.result.value.items in
+    may-kept (g.S.Storage.may_hold c.rewrite.new.storage) (length durable) c.args.room true 0 durable image (rw (sym is) at c.in-Ok-rewrite.ensures.rests) refl may
 
 pub returns-in-Err-rewrite-clause-unopened : goal.returns-in-Err-rewrite-clause-unopened
 returns-in-Err-rewrite-clause-unopened g c =
-    let durable = c.in-Ok.durable.items in
+    let opens = c.in-Ok.ensures.stands in
     let old = g.S.Storage.may_hold c.args.storage in
     let new = g.S.Storage.may_hold c.rewrite.new.storage in
-    let opens = c.in-Ok.ensures.stands in
-    rewritten-stands old new c.args.words c.args.room c.args.file.now durable c.in-Ok.ensures.file.size c.requires.back opens (rw opens.size at (rw c.as_slice.ensures.value at c.rewrite.ensures.opens))
+    rewritten-stands old new c.args.words c.args.room c.args.file.now.items c.leave_image.new.file.items c.in-Ok.ensures.file.size c.requires.back opens (rw opens.size at c.rewrite.ensures.opens)
 
 pub returns-in-Err-rewrite-clause-tail : goal.returns-in-Err-rewrite-clause-tail
 returns-in-Err-rewrite-clause-tail g c is has =
     let old = g.S.Storage.may_hold c.args.storage in
-    let opens = c.in-Ok.ensures.stands in
-    (rw opens.size at (rw c.as_slice.ensures.value at c.rewrite.ensures.tail)) (names_read old c.args.words c.args.room c.args.file.now (c.requires.back is.size) has)
-
-pub returns-in-Err-clause-first : goal.returns-in-Err-clause-first
-returns-in-Err-clause-first g c is begins = inl (first_read (g.S.Storage.may_hold c.args.storage) c.args.words c.args.room c.args.file.now (c.requires.back is.size) begins)
+    let size = c.in-Ok.ensures.stands.size in
+    (rw size at c.rewrite.ensures.tail) (names_read old c.args.words c.args.room c.args.file.now.items (c.requires.back is.size) has)
 
 pub returns-in-Err-rewrite-clause-first : goal.returns-in-Err-rewrite-clause-first
 returns-in-Err-rewrite-clause-first g c is begins =
     let words = c.args.words in
     let room = c.args.room in
-    let file : List ℕ = c.args.file.now in
-    let opens = c.in-Ok.ensures.stands in
-    let pass = eq-eqb (get_or file (words + room + 3) 0) 0 (first_pass words room file begins) in
-    (rw opens.size at (rw c.as_slice.ensures.value at c.rewrite.ensures.first)) pass (first_read (g.S.Storage.may_hold c.args.storage) words room file (c.requires.back is.size) begins)
+    let file : List ℕ = c.args.file.now.items in
+    let size = c.in-Ok.ensures.stands.size in
+    let pass = pass_true c.in-Ok.pass (sym c.in-Ok.ensures.pass ∙ first_pass words room file begins) in
+    (rw size at c.rewrite.ensures.first) pass (first_read (g.S.Storage.may_hold c.args.storage) words room file (c.requires.back is.size) begins)
+
+pub invariant_of-result-clause-sized : goal.invariant_of-result-clause-sized
+invariant_of-result-clause-sized g c =
+    let is : c.of.result.value.items ≡ c.leave_image.new.file.items = ap (λ v. v.items) c.of.ensures in
+    let size : length c.of.result.value.items ≡ c.args.words = ap (λ (l : List ℕ). length l) is ∙ c.in-Ok.ensures.stands.size in
+    sym size
+
+pub invariant_of-result-clause-whole : goal.invariant_of-result-clause-whole
+invariant_of-result-clause-whole g c =
+    let is : c.of.result.value.items ≡ c.leave_image.new.file.items = ap (λ v. v.items) c.of.ensures in
+    let size : length c.of.result.value.items ≡ c.args.words = ap (λ (l : List ℕ). length l) is ∙ c.in-Ok.ensures.stands.size in
+    omega (arith, c.in-Ok.ensures.file.whole, size)
+
+pub invariant_of-result-clause-fits : goal.invariant_of-result-clause-fits
+invariant_of-result-clause-fits g c =
+    let is : c.of.result.value.items ≡ c.leave_image.new.file.items = ap (λ v. v.items) c.of.ensures in
+    let size : length c.of.result.value.items ≡ c.args.words = ap (λ (l : List ℕ). length l) is ∙ c.in-Ok.ensures.stands.size in
+    omega (arith, c.in-Ok.ensures.file.fits, size)
+
+pub invariant_of-result-clause-rests : goal.invariant_of-result-clause-rests
+invariant_of-result-clause-rests g c works none =
+    let is : c.of.result.value.items ≡ c.leave_image.new.file.items = ap (λ v. v.items) c.of.ensures in
+    rw (sym is) at c.in-Ok-rewrite.ensures.rests
+
+pub invariant_of-result-clause-named : goal.invariant_of-result-clause-named
+invariant_of-result-clause-named g c =
+    let is : c.of.result.value.items ≡ c.leave_image.new.file.items = ap (λ v. v.items) c.of.ensures in
+    rw (sym is) at c.in-Ok-rewrite.ensures.named
+
+pub invariant_of-result-clause-part : goal.invariant_of-result-clause-part
+invariant_of-result-clause-part g c =
+    let is : c.of.result.value.items ≡ c.leave_image.new.file.items = ap (λ v. v.items) c.of.ensures in
+    rw (sym is) at c.in-Ok-rewrite.ensures.part
+
+pub invariant_of-result-clause-holds : goal.invariant_of-result-clause-holds
+invariant_of-result-clause-holds g c =
+    let is : c.of.result.value.items ≡ c.leave_image.new.file.items = ap (λ v. v.items) c.of.ensures in
+    rw (sym is) at c.in-Ok-rewrite.ensures.holds
 
 pub invariant_of-result-clause-decides : goal.invariant_of-result-clause-decides
 invariant_of-result-clause-decides g c =
-    let durable = c.in-Ok.durable.items in
-    decides_rests (g.S.Storage.may_hold c.rewrite.new.storage) (length durable) c.args.room true 0 durable (rw c.as_slice.ensures.value at c.in-Ok-rewrite.ensures.rests)
-
-pub returns-in_default-clause-unopened : goal.returns-in_default-clause-unopened
-returns-in_default-clause-unopened g c = read-stands (g.S.Storage.may_hold c.args.storage) c.args.words c.args.room c.args.file.now c.requires.back
-
-pub returns-in_default-clause-tail : goal.returns-in_default-clause-tail
-returns-in_default-clause-tail g c is has = names_read (g.S.Storage.may_hold c.args.storage) c.args.words c.args.room c.args.file.now (c.requires.back is.size) has
+    let is : c.of.result.value.items ≡ c.leave_image.new.file.items = ap (λ v. v.items) c.of.ensures in
+    let durable = c.of.result.value.items in
+    decides_rests (g.S.Storage.may_hold c.rewrite.new.storage) (length durable) c.args.room true 0 durable (rw (sym is) at c.in-Ok-rewrite.ensures.rests)
 
 pub invariant_of-result-clause-placed : goal.invariant_of-result-clause-placed
 invariant_of-result-clause-placed g c works =
-    rests-placed (g.S.Storage.may_hold c.rewrite.new.storage) c.args.room true c.in-Ok-from_elem.unplaced.items c.in-Ok.durable.items (rw c.as_slice.ensures.value at c.in-Ok-rewrite.ensures.rests)
+    let is : c.of.result.value.items ≡ c.leave_image.new.file.items = ap (λ v. v.items) c.of.ensures in
+    let durable = c.of.result.value.items in
+    let unplaced = c.in-Ok-new.unplaced in
+    let size : 8 * length unplaced.marks.items ≡ length durable = omega (arith, c.in-Ok-new.ensures.size, c.in-Ok.ensures.file.whole, c.in-Ok.ensures.stands.size, ap (λ (l : List ℕ). length l) is) in
+    rests-placed (g.S.Storage.may_hold c.rewrite.new.storage) c.args.room true unplaced.lines.items unplaced.marks.items durable c.in-Ok-new.ensures.lines size c.in-Ok-new.ensures.marks (rw (sym is) at c.in-Ok-rewrite.ensures.rests)

@@ -1,4 +1,3 @@
-use Rattle.std.proofs.Common.{ap, length}
 use Rattle.pmem_file.specs.Devices.{last_image}
 use Rattle.pmem_file.specs.Files.{held_in}
 use Rattle.pmem_file.proofs.Closed.{left-closed}
@@ -6,4 +5,4 @@ use Rattle.pmem_file.proofs.file_device.JournaledPmem+JournaledImages+FileStorag
 
 pub returns-in-Ok-clause-left : goal.returns-in-Ok-clause-left
 returns-in-Ok-clause-left c =
-    left-closed c.close.result (held_in c.in-Ok.storage) _ _ (last_image c.args.self) c.in-Ok.ensures.closed (ap length c.image-words.ensures) c.close.ensures.found
+    left-closed c.close.result (held_in c.in-Ok.storage) _ _ (last_image c.args.self) c.in-Ok.ensures.closed c.size-words.ensures c.close.ensures.found

@@ -11,34 +11,34 @@ use Rattle.pmem_file.specs.Traces.{device_of}
 use Rattle.pmem_file.proofs.journaled.JournaledPmem+JournaledImages+S.over.Goals as goal
 
 pub new-requires : goal.new-requires
-new-requires g c = record { holds = λ image may. c.in_ok-images.ensures.found image may ∙ sym (c.in-Ok.ensures.items ∙ c.image.ensures) }
+new-requires g c = record { holds = λ image may. c.in_ok-images.ensures.found image may ∙ sym (c.shrink_to_fit.ensures.items ∙ c.in_ok-images.ensures.image) }
 
-pub returns-in-Ok-new-clause-stands : goal.returns-in-Ok-new-clause-stands
-returns-in-Ok-new-clause-stands g c =
-    let P : List ℕ → Type 0 = λ l. Opens c.args.words c.args.room c.args.file.now l in
-    let is : image_of (device_of c.in-Ok-new.device.trace) ≡ c.in_ok-images.images.written.items =
-    ap image_of c.in-Ok-new.ensures.device ∙ image-restarted c.in-Ok.image.items ∙ (c.in-Ok.ensures.items ∙ c.image.ensures) in
+pub returns-in-Ok-clause-stands : goal.returns-in-Ok-clause-stands
+returns-in-Ok-clause-stands g c =
+    let P : List ℕ → Type 0 = λ l. Opens c.args.words c.args.room c.args.file.items l in
+    let is : image_of (device_of c.in-Ok.device.trace) ≡ c.in_ok-images.images.written.value.items =
+    ap image_of c.in-Ok.ensures.device ∙ image-restarted c.shrink_to_fit.new.self.items ∙ (c.shrink_to_fit.ensures.items ∙ c.in_ok-images.ensures.image) in
     subst P (sym is) c.in_ok-images.ensures.stands
 
-pub returns-in-Ok-new-clause-found : goal.returns-in-Ok-new-clause-found
-returns-in-Ok-new-clause-found g c image may =
+pub returns-in-Ok-clause-found : goal.returns-in-Ok-clause-found
+returns-in-Ok-clause-found g c image may =
     let hold = g.S.Storage.may_hold in
-    let is : image_of (device_of c.in-Ok-new.device.trace) ≡ c.in_ok-images.images.written.items =
-    ap image_of c.in-Ok-new.ensures.device ∙ image-restarted c.in-Ok.image.items ∙ (c.in-Ok.ensures.items ∙ c.image.ensures) in
-    c.in_ok-images.ensures.found image (subst (λ i. MayBe (hold (storage_of i)) (room_of i) (last_image i) image) c.in-Ok-new.ensures.keeps may) ∙ sym is
+    let is : image_of (device_of c.in-Ok.device.trace) ≡ c.in_ok-images.images.written.value.items =
+    ap image_of c.in-Ok.ensures.device ∙ image-restarted c.shrink_to_fit.new.self.items ∙ (c.shrink_to_fit.ensures.items ∙ c.in_ok-images.ensures.image) in
+    c.in_ok-images.ensures.found image (subst (λ i. MayBe (hold (storage_of i)) (room_of i) (last_image i) image) c.in-Ok.ensures.keeps may) ∙ sym is
 
-pub returns-in-Ok-new-clause-device : goal.returns-in-Ok-new-clause-device
-returns-in-Ok-new-clause-device g c =
-    let is : image_of (device_of c.in-Ok-new.device.trace) ≡ c.in-Ok.image.items = ap image_of c.in-Ok-new.ensures.device ∙ image-restarted c.in-Ok.image.items in
-    c.in-Ok-new.ensures.device ∙ sym (ap restarted is)
+pub returns-in-Ok-clause-device : goal.returns-in-Ok-clause-device
+returns-in-Ok-clause-device g c =
+    let is : image_of (device_of c.in-Ok.device.trace) ≡ c.shrink_to_fit.new.self.items = ap image_of c.in-Ok.ensures.device ∙ image-restarted c.shrink_to_fit.new.self.items in
+    c.in-Ok.ensures.device ∙ sym (ap restarted is)
 
-pub returns-in-Ok-new-clause-places : goal.returns-in-Ok-new-clause-places
-returns-in-Ok-new-clause-places g c =
-    let is : image_of (device_of c.in-Ok-new.device.trace) ≡ c.in-Ok.image.items = ap image_of c.in-Ok-new.ensures.device ∙ image-restarted c.in-Ok.image.items in
-    c.in-Ok-new.ensures.places ∙ ap (λ (l : List ℕ). places_named l c.args.places) (sym is)
+pub returns-in-Ok-clause-places : goal.returns-in-Ok-clause-places
+returns-in-Ok-clause-places g c =
+    let is : image_of (device_of c.in-Ok.device.trace) ≡ c.shrink_to_fit.new.self.items = ap image_of c.in-Ok.ensures.device ∙ image-restarted c.shrink_to_fit.new.self.items in
+    c.in-Ok.ensures.places ∙ ap (λ (l : List ℕ). places_named l c.args.places) (sym is)
 
-pub returns-in-Ok-new-clause-works : goal.returns-in-Ok-new-clause-works
-returns-in-Ok-new-clause-works g c = ap (λ i. i.failure) c.in-Ok-new.ensures.keeps ∙ c.in_ok-images.ensures.works
+pub returns-in-Ok-clause-works : goal.returns-in-Ok-clause-works
+returns-in-Ok-clause-works g c = ap (λ i. i.failure) c.in-Ok.ensures.keeps ∙ c.in_ok-images.ensures.works
 
 -- if the storage is the same
 moved : {S : Type 0} (may_hold : S → ℕ → ℕ → Type 0) (old new : S) (words room : ℕ) (file : List ℕ) → new ≡ old → StandsAs (may_hold old) words room file → StandsAs (may_hold new) words room file
@@ -51,19 +51,12 @@ kept may_hold words room named file image is opens only =
     let F : ℕ → Type 0 = λ r. (other : List ℕ) → MayBe may_hold r image other → other ≡ image in
     only-stands may_hold words room file image opens (subst F is only)
 
-pub returns-in_default-clause-unopened : goal.returns-in_default-clause-unopened
-returns-in_default-clause-unopened g c still =
-    let images = c.in_ok-images.images in
-    let hold = g.S.Storage.may_hold in
-    moved hold images.storage c.unopened.result.storage c.args.words c.args.room c.args.file.now c.unopened.ensures
-    (kept (hold images.storage) c.args.words c.args.room images.room c.args.file.now images.written.items c.in_ok-images.ensures.room c.in_ok-images.ensures.stands c.in_ok-images.ensures.found)
-
 pub returns-in-Err-clause-unopened : goal.returns-in-Err-clause-unopened
 returns-in-Err-clause-unopened g c still =
     let images = c.in_ok-images.images in
     let hold = g.S.Storage.may_hold in
-    moved hold images.storage c.unopened-in-Err.result.storage c.args.words c.args.room c.args.file.now (c.unopened-in-Err.ensures ∙ ap (λ i. i.storage) c.in-Err.ensures.images)
-    (kept (hold images.storage) c.args.words c.args.room images.room c.args.file.now images.written.items c.in_ok-images.ensures.room c.in_ok-images.ensures.stands c.in_ok-images.ensures.found)
+    moved hold images.storage c.unopened.result.storage c.args.words c.args.room c.args.file.items (c.unopened.ensures ∙ ap (λ i. i.storage) c.in-Err.ensures.images)
+    (kept (hold images.storage) c.args.words c.args.room images.room c.args.file.items images.written.value.items c.in_ok-images.ensures.room c.in_ok-images.ensures.stands c.in_ok-images.ensures.found)
 
 -- an error is handed on as it is
 passed : {T E : Type 0} (result : Result T E) (error : E) (P : E → Type 0) → IsErrAnd result (λ other. other ≡ error) → P error → IfErr result P
@@ -73,4 +66,4 @@ passed (Err other) error P is p = subst P (sym is) p
 pub returns-in_err-images-clause-unopened : goal.returns-in_err-images-clause-unopened
 returns-in_err-images-clause-unopened g c =
     let hold = g.S.Storage.may_hold in
-    passed c.from_residual.result c.in_err-images.field-0.0 (λ unopened. StandsAsBefore (hold c.args.storage) (hold unopened.storage) c.args.words c.args.room c.args.file.now) c.from_residual.ensures.1 c.in_err-images.ensures.unopened
+    passed c.from_residual.result c.in_err-images.field-0.0 (λ unopened. StandsAsBefore (hold c.args.storage) (hold unopened.storage) c.args.words c.args.room c.args.file.items) c.from_residual.ensures.1 c.in_err-images.ensures.unopened

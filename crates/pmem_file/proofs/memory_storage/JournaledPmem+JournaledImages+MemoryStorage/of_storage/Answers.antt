@@ -11,8 +11,8 @@ returns-in-Err-clause-unopened c = file-stands (IsStored c.args.storage) c.args.
 
 pub returns-in-Ok-clause-unopened : goal.returns-in-Ok-clause-unopened
 returns-in-Ok-clause-unopened c =
-    let file : List ℕ = c.as_slice.result.now in
-    let is : file ≡ stored_in c.args.storage = c.as_slice.ensures.value ∙ each_same c.args.storage.words.items c.in-Ok.file.items c.in-Ok.ensures.cases.0 in
+    let file : List ℕ = c.in-Ok.file.items in
+    let is : file ≡ stored_in c.args.storage = each_same c.args.storage.words.items c.in-Ok.file.items c.in-Ok.ensures.cases.0 in
     if_err c.over.result (λ unopened stands.
     subst (λ (l : List ℕ). StandsAs (IsStored unopened.storage) c.args.words c.args.room l) is
     (held-stands (IsStored c.args.storage) (IsStored unopened.storage) c.args.words c.args.room file (λ word x lt h. h ∙ sym (ap (λ (l : List ℕ). slice_index l word) is)) stands)) c.over.ensures.unopened

@@ -1,7 +1,8 @@
-use Rattle.std.proofs.Common.{inl, length}
+use Rattle.std.proofs.Common.{inl, ℕ, List, length, sym, ap, arith}
 use Rattle.journal.proofs.Files.{covers-opens, merely-opens, on_ok}
 use Rattle.journal.proofs.Places.{part_off, part_placed}
-use Rattle.journal.proofs.rewriting.rewrite.Goals as goal
+use Rattle.journal.proofs.Placings.{any_ok}
+use Rattle.journal.proofs.rewriting.bring_to_rest.Goals as goal
 
 pub returns-in_err-clear-clause-tail : goal.returns-in_err-clear-clause-tail
 returns-in_err-clear-clause-tail g c names = c.clear.ensures.tail (c.turn_off.ensures.tail (c.put_in_place.ensures.tail names))
@@ -14,16 +15,31 @@ returns-in_err-clear-clause-first g c pass first = inl (c.clear.ensures.first (c
 
 pub returns-in_err-check_part-clause-opens : goal.returns-in_err-check_part-clause-opens
 returns-in_err-check_part-clause-opens g c covers =
-    let image = c.args.image.now in
+    let image = c.args.written.now.value.items in
     let old = g.S.Storage.may_hold c.args.storage.now in
     merely-opens old (length image) c.args.room image covers (covers-opens old (length image) c.args.room image)
 
 pub returns-clause-holds : goal.returns-clause-holds
 returns-clause-holds g c =
-    let image = c.args.image.now in
-    let part = c.in_ok-check_part.ensures in
+    let image = c.args.written.now.value.items in
+    let part = rw (sym c.requires.same) at c.in_ok-check_part.ensures in
     let off = g.S.Storage.may_hold c.turn_off.new.storage in
     let clear = g.S.Storage.may_hold c.clear.new.storage in
     let on = g.S.Storage.may_hold c.turn_on.new.storage in
     let holds = part_placed off clear c.args.room image part c.clear.ensures.place (part_off off c.args.room image part c.in_ok-turn_off.ensures.done) in
     on_ok c.turn_on.result (λ done. part_placed clear on c.args.room image part c.turn_on.ensures.place holds) c.turn_on.ensures.done
+
+pub check_part-requires : goal.check_part-requires
+check_part-requires g c = omega (arith, c.requires.fits, ap (λ (l : List ℕ). length l) c.requires.same)
+
+pub turn_off-requires-clause-size : goal.turn_off-requires-clause-size
+turn_off-requires-clause-size g c = ap (λ (l : List ℕ). length l) (sym c.requires.same)
+
+pub clear-requires-clause-size : goal.clear-requires-clause-size
+clear-requires-clause-size g c = ap (λ (l : List ℕ). length l) (sym c.requires.same)
+
+pub turn_on-requires-clause-size : goal.turn_on-requires-clause-size
+turn_on-requires-clause-size g c = ap (λ (l : List ℕ). length l) (sym c.requires.same)
+
+pub returns-clause-part : goal.returns-clause-part
+returns-clause-part g c = any_ok c.turn_on.result (rw (sym c.requires.same) at c.in_ok-check_part.ensures)
