@@ -13,7 +13,7 @@ use Rattle.base.specs.declared.step.Stage.TheVariants.{GateFlushed}
 use Rattle.pmem.specs.Device.{Device}
 use Rattle.pmem.specs.declared.device.Pmem.{Ghosts}
 use Rattle.room.specs.Room.{Leads, covered_by}
-use Rattle.database.specs.declared.desk.Desk.{Desk}
+use Rattle.database.specs.declared.locked.Locked.{Locked}
 use Rattle.database.specs.declared.opened.OpenedRoom.{OpenedRoom}
 use Rattle.roles.specs.declared.turn.Turn.{Turn}
 use Rattle.roles.specs.declared.turn.Turn.TheVariants.{Idle, Finished, Flushed, LacksMemory, Stopped, Unfinished}
@@ -67,19 +67,19 @@ GoesOn reply = (fault : Fault) → reply ≡ Refused fault → fault ≡ OutOfMe
 -- What isn't counted stays as it was: the commits that wait, the workers and whether they have to end, who leads, watches or syncs, and who
 -- has to be woken.
 -- Excluded: a turn that counts a worker out, or forgets whom to wake.
-abbrev pub LeavesRest : {D J : Type 0} → {G : Ghosts D} → {O : Origins J} → Desk D J G O → Desk D J G O → Type 0
+abbrev pub LeavesRest : {D J : Type 0} → {G : Ghosts D} → {O : Origins J} → Locked D J G O → Locked D J G O → Type 0
 LeavesRest old new =
     (new.group ≡ old.group) × (new.roles ≡ old.roles) × (new.syncs_apart ≡ old.syncs_apart)
 
 -- all counts but that of the open transactions stay as they were
-abbrev pub LeavesCounts : {D J : Type 0} → {G : Ghosts D} → {O : Origins J} → Desk D J G O → Desk D J G O → Type 0
+abbrev pub LeavesCounts : {D J : Type 0} → {G : Ghosts D} → {O : Origins J} → Locked D J G O → Locked D J G O → Type 0
 LeavesCounts old new = (new.covered ≡ old.covered) × (new.refusals ≡ old.refusals)
 
 -- The room makes one tick of the committer, and nothing else. If it is refused, that is kept as the reason why the committer has ended, and
 -- nothing else is ever kept as one; lack of memory doesn't end the committer. Refusals for it and the rows that the tick covered are
 -- counted. The outcome of the turn is read off the tick's reply.
 -- Excluded: commits that are counted instead of rows.
-pub record TicksOnce {D J : Type 0} {G : Ghosts D} {O : Origins J} (state : D → Device) (old new : Desk D J G O) (result : Turn) : Type 0 where
+pub record TicksOnce {D J : Type 0} {G : Ghosts D} {O : Origins J} (state : D → Device) (old new : Locked D J G O) (result : Turn) : Type 0 where
   pub reply : Reply
   pub ticks : InRoom (λ before after. Leads state before after CommitTick reply) old.room new.room
   pub ended : (fault : Fault) → reply ≡ Refused fault → fault ≢ OutOfMemory → ended_of new.room ≡ Some fault

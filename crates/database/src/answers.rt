@@ -1,6 +1,6 @@
 //! Replies to waiting commits, under a lock of their own. The thread that covers a group leaves each reply in a place here and ends
-//! the session. A thread that is woken then needs no turn of the desk's lock: one call wakes all of them, and they don't queue up
-//! for the desk.
+//! the session. A thread that is woken then needs no turn of the database's lock: one call wakes all of them, and they don't queue up
+//! for that lock.
 
 ghost use Rattle.std.specs.Prelude.{◌<◌, IfSome, IfNone};
 ghost use Rattle.std.specs.Result.{ForOk, ForErr};

@@ -1,4 +1,4 @@
-//! What a thread does with the room in a turn of the desk's lock: writes, the draw and the stamps before its commit waits, and
+//! What a thread does with the room in a turn of the database's lock: writes, the draw and the stamps before its commit waits, and
 //! the poll and the end after that. No step of another thread comes in between, so each function says exactly which steps the
 //! room makes.
 

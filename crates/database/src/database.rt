@@ -1,11 +1,11 @@
-//! What callers see. A database holds the desk through an `Arc`, and so do its two workers, whose threads nobody joins: closing
+//! What callers see. A database holds its lock through an `Arc`, and so do its two workers, whose threads nobody joins: closing
 //! waits until both have counted themselves out under the lock.
 
 ghost use Rattle.std.specs.Prelude.{◌≡◌};
 
 use crate::closing::close_room;
-use crate::desk::Shared;
 use crate::error::CommitError;
+use crate::locked::Shared;
 use crate::opened::OpenedRoom;
 use crate::transaction::Transaction;
 use crate::workers::start_workers;
@@ -232,8 +232,8 @@ impl<D: SyncAhead + Drop, R: Wait + Drop, J: Origin> Database<D, R, J> {
     pub fn status(&self) -> Status
         ensures { ComesTo (λ q. ShowsStatus q result) }
     {
-        let desk = self.shared.desk(&self.rt);
-        let Some(room) = &desk.room else {
+        let locked = self.shared.locked(&self.rt);
+        let Some(room) = &locked.room else {
             unreachable!()
         };
         room.status()
@@ -244,8 +244,8 @@ impl<D: SyncAhead + Drop, R: Wait + Drop, J: Origin> Database<D, R, J> {
     pub fn usage(&self) -> Usage
         ensures { ComesTo (λ q. ShowsUsage q result) }
     {
-        let desk = self.shared.desk(&self.rt);
-        let Some(room) = &desk.room else {
+        let locked = self.shared.locked(&self.rt);
+        let Some(room) = &locked.room else {
             unreachable!()
         };
         room.usage()
@@ -255,8 +255,8 @@ impl<D: SyncAhead + Drop, R: Wait + Drop, J: Origin> Database<D, R, J> {
     pub fn report(&self) -> Report
         ensures { ComesTo (λ q. ShowsReport q result) }
     {
-        let desk = self.shared.desk(&self.rt);
-        let Some(room) = &desk.room else {
+        let locked = self.shared.locked(&self.rt);
+        let Some(room) = &locked.room else {
             unreachable!()
         };
         room.report()
@@ -266,8 +266,8 @@ impl<D: SyncAhead + Drop, R: Wait + Drop, J: Origin> Database<D, R, J> {
     pub fn geometry(&self) -> Geometry
         ensures { ComesTo (λ q. result ≡ q.layout) }
     {
-        let desk = self.shared.desk(&self.rt);
-        let Some(room) = &desk.room else {
+        let locked = self.shared.locked(&self.rt);
+        let Some(room) = &locked.room else {
             unreachable!()
         };
         room.geometry()

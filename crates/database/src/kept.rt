@@ -16,20 +16,30 @@ use std::thread::Threads;
 use sync_ahead::SyncAhead;
 
 /// What a program does with a database whose history is kept.
-pub trait Program<D: SyncAhead + Drop, R: Wait + Drop> {
-    ghost use Rattle.std.specs.Prelude.{◌≡◌, true};
+pub trait Program {
+    ghost use Rattle.std.specs.Prelude.{◌≡◌, None, true};
+    ghost use Rattle.base.specs.Images.{opening_fault};
+    ghost use Rattle.pmem.specs.Words.{IsAtRest, image_of};
 
     type Answer;
 
-    fn run<J: Origin + Send + Sync + 'static>(self, database: Database<D, R, J>) -> Self::Answer
-        requires kept { J.kept ≡ true };
+    /// It may start threads that share the database.
+    fn run<
+        D: SyncAhead + Drop + Send + Sync,
+        R: Threads + Wait + Copy + Drop + Send + Sync,
+        J: Origin + Send + Sync,
+    >(self, database: Database<D, R, J>) -> Self::Answer
+        // The history is kept, from the opening of this device: it was at rest, and its image isn't refused.
+        requires kept { J.kept ≡ true }
+        requires at_rest { IsAtRest J.opened }
+        requires may_open { opening_fault (image_of J.opened) ≡ None };
 }
 
 /// Opens a device at rest, keeps its history from then on, and runs the program with the database.
 pub fn run_kept<
     D: SyncAhead + Drop + Send + Sync + 'static,
     R: Threads + Wait + Copy + Drop + Send + Sync + 'static,
-    P: Program<D, R> + Drop,
+    P: Program + Drop,
 >(rt: R, alloc: Global, device: D, program: P) -> Result<P::Answer, Refused<D>>
 where
     D::Pending: Send,
@@ -49,7 +59,7 @@ fn run_named<
     J: Origin + Send + Sync + 'static,
     D: SyncAhead + Drop + Send + Sync + 'static,
     R: Threads + Wait + Copy + Drop + Send + Sync + 'static,
-    P: Program<D, R> + Drop,
+    P: Program + Drop,
 >(rt: R, alloc: Global, device: D, program: P, history: History) -> Result<P::Answer, Refused<D>>
 where
     D::Pending: Send,
@@ -64,7 +74,7 @@ where
         → IfErr result (λ e. KeepsHistory (D.state device) (D.state e.device) history next) }
 {
     match Database::<D, R, J>::open_kept(rt, alloc, device, history) {
-        Ok(database) => Ok(program.run::<J>(database)),
+        Ok(database) => Ok(program.run::<D, R, J>(database)),
         Err(refused) => Err(refused),
     }
 }

@@ -2,9 +2,9 @@
 //! others sleep until their reply is there. The first to come watches, so that a group for which nobody else comes is led too.
 //! `Roles` says which of the two roles is taken. A thread that takes a turn of the committer leads, also if the group is empty.
 
-use crate::desk::{Desk, Shared};
 use crate::ending::Ending;
 use crate::error::CommitError;
+use crate::locked::{Locked, Shared};
 use base::Ts;
 use history::Origin;
 use roles::{Next, Turn};
@@ -28,24 +28,24 @@ impl<D: SyncAhead + Drop, J: Origin> Shared<D, J> {
     pub fn wait<'a, R: Wait>(
         &'a self,
         rt: &R,
-        desk: MutexGuard<'a, Desk<D, J>>,
+        locked: MutexGuard<'a, Locked<D, J>>,
         session: u8,
         timestamp: Ts,
     ) -> (Result<(), CommitError>, Option<Ending<J>>)
         ensures { IsAnsweredAt session timestamp result.0 }
     {
-        let mut desk = desk;
-        desk.group.join();
-        let is_whole = desk.is_whole();
-        if desk.roles.follows(is_whole) {
+        let mut locked = locked;
+        locked.group.join();
+        let is_whole = locked.is_whole();
+        if locked.roles.follows(is_whole) {
             if let Some(place) = self.reserve_answer(rt) {
-                desk.group.follow(session, place);
-                drop(desk);
+                locked.group.follow(session, place);
+                drop(locked);
                 return self.take_answer(rt, session, timestamp, place);
             }
         }
-        desk.refusals = 0;
-        self.lead(rt, desk, session, timestamp)
+        locked.refusals = 0;
+        self.lead(rt, locked, session, timestamp)
     }
 
     fn reserve_answer<R: Wait>(&self, rt: &R) -> Option<usize> {
@@ -78,22 +78,22 @@ impl<D: SyncAhead + Drop, J: Origin> Shared<D, J> {
     fn lead<'a, R: Wait>(
         &'a self,
         rt: &R,
-        desk: MutexGuard<'a, Desk<D, J>>,
+        locked: MutexGuard<'a, Locked<D, J>>,
         session: u8,
         timestamp: Ts,
     ) -> (Result<(), CommitError>, Option<Ending<J>>)
         ensures { IsAnsweredAt session timestamp result.0 }
     {
-        let mut desk = self.gather(rt, desk);
+        let mut locked = self.gather(rt, locked);
         for _ in rt.forever() {
-            let (answer, ending) = desk.answer_to_with_ending(session, timestamp);
+            let (answer, ending) = locked.answer_to_with_ending(session, timestamp);
             if let Some(answer) = answer {
-                desk.group.leave(session);
-                desk.leave();
-                self.end_lead(desk);
+                locked.group.leave(session);
+                locked.leave();
+                self.end_lead(locked);
                 return (answer, ending);
             }
-            desk = self.take_lead(rt, desk);
+            locked = self.take_lead(rt, locked);
         }
         unreachable!()
     }
@@ -102,48 +102,48 @@ impl<D: SyncAhead + Drop, J: Origin> Shared<D, J> {
     fn gather<'a, R: Wait>(
         &'a self,
         rt: &R,
-        desk: MutexGuard<'a, Desk<D, J>>,
-    ) -> MutexGuard<'a, Desk<D, J>> {
-        let mut desk = desk;
-        let before = desk.missing();
-        if before == 0 || desk.roles.is_led() || !desk.group.may_grow() {
-            return desk;
+        locked: MutexGuard<'a, Locked<D, J>>,
+    ) -> MutexGuard<'a, Locked<D, J>> {
+        let mut locked = locked;
+        let before = locked.missing();
+        if before == 0 || locked.roles.is_led() || !locked.group.may_grow() {
+            return locked;
         }
-        desk.roles.watch();
-        let mut desk = self.watch(rt, desk);
-        if desk.roles.end_watch() {
-            let after = desk.missing();
-            desk.group.grew(before, after);
+        locked.roles.watch();
+        let mut locked = self.watch(rt, locked);
+        if locked.roles.end_watch() {
+            let after = locked.missing();
+            locked.group.grew(before, after);
         }
-        desk
+        locked
     }
 
     // Sleeps as long as others come, up to the longest wait of a group.
     fn watch<'a, R: Wait>(
         &'a self,
         rt: &R,
-        desk: MutexGuard<'a, Desk<D, J>>,
-    ) -> MutexGuard<'a, Desk<D, J>> {
-        let mut desk = desk;
+        locked: MutexGuard<'a, Locked<D, J>>,
+    ) -> MutexGuard<'a, Locked<D, J>> {
+        let mut locked = locked;
         for _ in 0..NAPS {
-            let missing = desk.missing();
-            desk = self.nap(rt, desk);
-            if !desk.roles.is_watched() || desk.is_whole() || missing <= desk.missing() {
+            let missing = locked.missing();
+            locked = self.nap(rt, locked);
+            if !locked.roles.is_watched() || locked.is_whole() || missing <= locked.missing() {
                 break;
             }
         }
-        desk
+        locked
     }
 
     fn nap<'a, R: Wait>(
         &'a self,
         rt: &R,
-        desk: MutexGuard<'a, Desk<D, J>>,
-    ) -> MutexGuard<'a, Desk<D, J>> {
+        locked: MutexGuard<'a, Locked<D, J>>,
+    ) -> MutexGuard<'a, Locked<D, J>> {
         let seen = self.moved.notifications();
-        drop(desk);
+        drop(locked);
         self.moved.sleep(rt, seen, Duration::from_micros(PATIENCE));
-        self.desk(rt)
+        self.locked(rt)
     }
 
     // A turn of the committer, unless another thread takes one. If there is nothing to do, another leads, and covers the commit with its
@@ -151,17 +151,17 @@ impl<D: SyncAhead + Drop, J: Origin> Shared<D, J> {
     fn take_lead<'a, R: Wait>(
         &'a self,
         rt: &R,
-        desk: MutexGuard<'a, Desk<D, J>>,
-    ) -> MutexGuard<'a, Desk<D, J>> {
-        let (mut desk, turn) = self.cover_group(rt, desk);
-        self.notify(rt, &mut desk, turn);
+        locked: MutexGuard<'a, Locked<D, J>>,
+    ) -> MutexGuard<'a, Locked<D, J>> {
+        let (mut locked, turn) = self.cover_group(rt, locked);
+        self.notify(rt, &mut locked, turn);
         match turn.next_of_leader() {
             Next::Sleep => {
-                self.recall(&mut desk, false);
-                self.wait_moved(rt, desk)
+                self.recall(&mut locked, false);
+                self.wait_moved(rt, locked)
             }
-            Next::Yield => self.pass(rt, desk),
-            Next::Again => desk,
+            Next::Yield => self.pass(rt, locked),
+            Next::Again => locked,
         }
     }
 
@@ -169,50 +169,50 @@ impl<D: SyncAhead + Drop, J: Origin> Shared<D, J> {
     pub fn pass<'a, R: Wait>(
         &'a self,
         rt: &R,
-        desk: MutexGuard<'a, Desk<D, J>>,
-    ) -> MutexGuard<'a, Desk<D, J>> {
-        self.exit(desk);
+        locked: MutexGuard<'a, Locked<D, J>>,
+    ) -> MutexGuard<'a, Locked<D, J>> {
+        self.exit(locked);
         thread::yield_now();
-        self.desk(rt)
+        self.locked(rt)
     }
 
     /// Closes the group, if commits wait in it, and takes a turn of the committer, unless another thread leads.
     pub fn cover_group<'a, R: Wait>(
         &'a self,
         rt: &R,
-        desk: MutexGuard<'a, Desk<D, J>>,
-    ) -> (MutexGuard<'a, Desk<D, J>>, Turn) {
-        let mut desk = desk;
-        if !desk.roles.take() {
-            return (desk, Turn::Busy);
+        locked: MutexGuard<'a, Locked<D, J>>,
+    ) -> (MutexGuard<'a, Locked<D, J>>, Turn) {
+        let mut locked = locked;
+        if !locked.roles.take() {
+            return (locked, Turn::Busy);
         }
-        let open = desk.open;
-        if !desk.group.is_empty() {
-            desk.group.close(open);
+        let open = locked.open;
+        if !locked.group.is_empty() {
+            locked.group.close(open);
         }
-        let (mut desk, turn) = self.take_ticks(rt, desk);
-        desk.roles.end_turn();
-        (desk, turn)
+        let (mut locked, turn) = self.take_ticks(rt, locked);
+        locked.roles.end_turn();
+        (locked, turn)
     }
 
     // Leaves those who came during the group's sync to the committer's worker, and wakes the threads that got replies.
-    fn end_lead(&self, desk: MutexGuard<'_, Desk<D, J>>) {
-        let mut desk = desk;
-        let are_left = !desk.group.is_empty();
-        self.recall(&mut desk, are_left);
-        self.exit(desk);
+    fn end_lead(&self, locked: MutexGuard<'_, Locked<D, J>>) {
+        let mut locked = locked;
+        let are_left = !locked.group.is_empty();
+        self.recall(&mut locked, are_left);
+        self.exit(locked);
     }
 
     /// A turn of the committer's worker. Those who wait and have nobody to lead them are a group, which the worker leads.
     pub fn take_over<'a, R: Wait>(
         &'a self,
         rt: &R,
-        desk: MutexGuard<'a, Desk<D, J>>,
-    ) -> (MutexGuard<'a, Desk<D, J>>, Turn) {
-        if desk.group.is_empty() {
-            return self.cover_group(rt, desk);
+        locked: MutexGuard<'a, Locked<D, J>>,
+    ) -> (MutexGuard<'a, Locked<D, J>>, Turn) {
+        if locked.group.is_empty() {
+            return self.cover_group(rt, locked);
         }
-        let desk = self.gather(rt, desk);
-        self.cover_group(rt, desk)
+        let locked = self.gather(rt, locked);
+        self.cover_group(rt, locked)
     }
 }

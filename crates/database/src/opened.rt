@@ -1,4 +1,4 @@
-//! No clause can name what a lock holds, so the type of what the desk's lock holds carries its run. The run has all steps since the
+//! No clause can name what a lock holds, so the type of what that lock holds carries its run. The run has all steps since the
 //! device was opened, and among them the tick that ended the committer, if one has. Only steps change what the room shows.
 
 ghost use Rattle.std.specs.Option.{ForSome};

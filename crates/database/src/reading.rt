@@ -80,9 +80,9 @@ impl<'a, D: SyncAhead + Drop, R: Wait, J: Origin> Transaction<'a, D, R, J> {
         // If the history is kept, the rows are of the reply to that step in the state that the history leads to, as for `scan`.
         ensures sees { IfOk result (λ rows. Sees J.opened self.now.session self.now.trace (λ q. WouldReply q (Scan self.now.session table lo hi) (first_of limit) (Ok rows.items))) }
     {
-        let desk = self.shared.desk(self.rt);
-        desk.attend(self.rt, self.session, &self.trace);
-        let Some(room) = &desk.room else {
+        let locked = self.shared.locked(self.rt);
+        locked.attend(self.rt, self.session, &self.trace);
+        let Some(room) = &locked.room else {
             unreachable!()
         };
         match room.first_rows(self.session, table, lo, hi, limit) {
@@ -107,9 +107,9 @@ impl<'a, D: SyncAhead + Drop, R: Wait, J: Origin> Transaction<'a, D, R, J> {
         // If the history is kept, the rows are of the reply to that step in the state that the history leads to, as for `scan`.
         ensures sees { IfOk result (λ rows. Sees J.opened self.now.session self.now.trace (λ q. WouldReply q (Scan self.now.session table lo hi) (last_of limit) (Ok rows.items))) }
     {
-        let desk = self.shared.desk(self.rt);
-        desk.attend(self.rt, self.session, &self.trace);
-        let Some(room) = &desk.room else {
+        let locked = self.shared.locked(self.rt);
+        locked.attend(self.rt, self.session, &self.trace);
+        let Some(room) = &locked.room else {
             unreachable!()
         };
         match room.last_rows(self.session, table, lo, hi, limit) {
@@ -128,9 +128,9 @@ impl<'a, D: SyncAhead + Drop, R: Wait, J: Origin> Transaction<'a, D, R, J> {
         // If the history is kept, the rows are those that the session sees in the state that the history leads to, as for `scan`.
         ensures sees { IfOk result (λ page. Sees J.opened self.now.session self.now.trace (λ q. ReadsPage q self.now.session first last limit (Ok page))) }
     {
-        let desk = self.shared.desk(self.rt);
-        desk.attend(self.rt, self.session, &self.trace);
-        let Some(room) = &desk.room else {
+        let locked = self.shared.locked(self.rt);
+        locked.attend(self.rt, self.session, &self.trace);
+        let Some(room) = &locked.room else {
             unreachable!()
         };
         room.page(self.session, first, last, limit)

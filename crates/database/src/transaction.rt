@@ -1,5 +1,5 @@
 //! A transaction borrows its database, so by the types none is open when the database is closed. Each call but the commit is
-//! one turn of the desk's lock, and returns when its steps are made.
+//! one turn of the database's lock, and returns when its steps are made.
 
 ghost use Rattle.base.specs.declared.step.Step.TheVariants.{Abort};
 ghost use Rattle.database.specs.Replies.{done_of};
@@ -8,8 +8,8 @@ ghost use Rattle.database.specs.Committing.{HasAborted};
 ghost use Rattle.std.specs.Prelude.{◌≡◌, is_some};
 
 use crate::committing::{put_collecting, write_all};
-use crate::desk::{Desk, Shared};
 use crate::error::CommitError;
+use crate::locked::{Locked, Shared};
 use crate::steps;
 use crate::trace::Trace;
 use base::Ts;
@@ -57,10 +57,10 @@ fn give_up<D: Pmem + Drop, J: Origin, R: Wait>(
 ) -> Result<(), Fault>
     ensures { AnswersStep (Abort session) done_of result }
 {
-    let mut desk = shared.desk(rt);
-    let aborted = desk.abort(session);
-    desk.leave();
-    shared.urge(&desk);
+    let mut locked = shared.locked(rt);
+    let aborted = locked.abort(session);
+    locked.leave();
+    shared.urge(&locked);
     aborted
 }
 
@@ -94,15 +94,15 @@ impl<'a, D: SyncAhead + Drop, R: Wait, J: Origin> Transaction<'a, D, R, J> {
     }
 
     // Keeps how far the history has come.
-    fn keep(&mut self, desk: &Desk<D, J>)
+    fn keep(&mut self, locked: &Locked<D, J>)
         ensures session { self.new.session ≡ self.old.session }
-        ensures trace { KeepsUp self.old.trace (log_in desk.now.room) self.new.trace }
+        ensures trace { KeepsUp self.old.trace (log_in locked.now.room) self.new.trace }
 
         // If it isn't kept, the transaction is what it was, at Err too.
         ensures same { J.kept ≡ false → self.new ≡ self.old }
     {
         let seen = match &self.trace {
-            Some(_) => desk.known(self.rt),
+            Some(_) => locked.known(self.rt),
             None => return,
         };
         if let Some(trace) = &mut self.trace {
@@ -139,9 +139,9 @@ impl<'a, D: SyncAhead + Drop, R: Wait, J: Origin> Transaction<'a, D, R, J> {
         // last step its session has made none.
         ensures sees { IfOk result (λ row. Sees J.opened self.now.session self.now.trace (λ q. Replies q (Get self.now.session key) row_of (Ok row))) }
     {
-        let mut desk = self.shared.desk(self.rt);
-        desk.attend(self.rt, self.session, &self.trace);
-        let Some(room) = &mut desk.room else {
+        let mut locked = self.shared.locked(self.rt);
+        locked.attend(self.rt, self.session, &self.trace);
+        let Some(room) = &mut locked.room else {
             unreachable!()
         };
         steps::get(room, self.session, key)
@@ -156,9 +156,9 @@ impl<'a, D: SyncAhead + Drop, R: Wait, J: Origin> Transaction<'a, D, R, J> {
         // If the history is kept, the rows are the reply to this step in the state that the history leads to, as for `get`.
         ensures sees { IfOk result (λ rows. Sees J.opened self.now.session self.now.trace (λ q. Replies q (Scan self.now.session table lo hi) rows_of (Ok rows.items))) }
     {
-        let mut desk = self.shared.desk(self.rt);
-        desk.attend(self.rt, self.session, &self.trace);
-        let Some(room) = &mut desk.room else {
+        let mut locked = self.shared.locked(self.rt);
+        locked.attend(self.rt, self.session, &self.trace);
+        let Some(room) = &mut locked.room else {
             unreachable!()
         };
         match steps::scan(room, self.session, table, lo, hi) {
@@ -182,13 +182,13 @@ impl<'a, D: SyncAhead + Drop, R: Wait, J: Origin> Transaction<'a, D, R, J> {
         // If it isn't kept, the transaction is what it was, at Err too.
         ensures same { J.kept ≡ false → self.new ≡ self.old }
     {
-        let mut desk = self.shared.desk(self.rt);
-        desk.attend(self.rt, self.session, &self.trace);
-        let Some(room) = &mut desk.room else {
+        let mut locked = self.shared.locked(self.rt);
+        locked.attend(self.rt, self.session, &self.trace);
+        let Some(room) = &mut locked.room else {
             unreachable!()
         };
         let returned = put_collecting(room, self.session, key, row);
-        self.keep(&desk);
+        self.keep(&locked);
         returned
     }
 
@@ -205,13 +205,13 @@ impl<'a, D: SyncAhead + Drop, R: Wait, J: Origin> Transaction<'a, D, R, J> {
         // If it isn't kept, the transaction is what it was, at Err too.
         ensures same { J.kept ≡ false → self.new ≡ self.old }
     {
-        let mut desk = self.shared.desk(self.rt);
-        desk.attend(self.rt, self.session, &self.trace);
-        let Some(room) = &mut desk.room else {
+        let mut locked = self.shared.locked(self.rt);
+        locked.attend(self.rt, self.session, &self.trace);
+        let Some(room) = &mut locked.room else {
             unreachable!()
         };
         let returned = steps::delete(room, self.session, key);
-        self.keep(&desk);
+        self.keep(&locked);
         returned
     }
 
@@ -231,13 +231,13 @@ impl<'a, D: SyncAhead + Drop, R: Wait, J: Origin> Transaction<'a, D, R, J> {
         // If it isn't kept, the transaction is what it was, at Err too.
         ensures same { J.kept ≡ false → self.new ≡ self.old }
     {
-        let mut desk = self.shared.desk(self.rt);
-        desk.attend(self.rt, self.session, &self.trace);
-        let Some(room) = &mut desk.room else {
+        let mut locked = self.shared.locked(self.rt);
+        locked.attend(self.rt, self.session, &self.trace);
+        let Some(room) = &mut locked.room else {
             unreachable!()
         };
         let returned = write_all(room, self.session, writes);
-        self.keep(&desk);
+        self.keep(&locked);
         returned
     }
 
@@ -301,7 +301,7 @@ impl<'a, D: SyncAhead + Drop, R: Wait, J: Origin> Transaction<'a, D, R, J> {
             session,
             trace,
         } = self;
-        match shared.commit(rt, shared.desk(rt), session, trace) {
+        match shared.commit(rt, shared.locked(rt), session, trace) {
             Ok((timestamp, front)) => Ok(Committed { timestamp, front }),
             Err(error) => Err(error),
         }

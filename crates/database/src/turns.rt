@@ -1,4 +1,4 @@
-//! A turn of a worker under the desk's lock. One of the committer has all ticks of its cycle, so a group costs one turn, and it
+//! A turn of a worker under the database's lock. One of the committer has all ticks of its cycle, so a group costs one turn, and it
 //! releases the lock for the sync alone. One of the collector has a fourth of a round's visits at most, so that sessions get in
 //! between.
 
@@ -8,7 +8,7 @@ ghost use Rattle.roles.specs.declared.turn.Turn.TheVariants.{Stopped};
 ghost use Rattle.database.specs.Obeys.{InRoom, Repeats, ended_of};
 ghost use Rattle.database.specs.Ticking.{TicksOnce, LeavesRest, rows_written, covered_since};
 
-use crate::desk::{Desk, Shared};
+use crate::locked::{Locked, Shared};
 use crate::opened::OpenedRoom;
 use base::batch::Batch;
 use base::fault::Fault;
@@ -31,22 +31,22 @@ const LEAST_VISITS: u64 = 64;
 const MOST_VISITS: u64 = 1_024;
 
 // A tick of the committer.
-fn tick<D: Pmem + Drop, J: Origin>(desk: &mut Desk<D, J>) -> Turn
+fn tick<D: Pmem + Drop, J: Origin>(locked: &mut Locked<D, J>) -> Turn
     // The room, if it is there, makes one tick, and no other step. What the tick was refused with is kept as the reason why the
     // committer has ended, and nothing else is. Lack of memory ends nothing. How often in a row it was refused memory is counted:
     // one more if it was, as before after another refusal, and none after any other reply. The rows that it covered are counted.
     // The turn is exactly what the reply to the tick makes of it (`turn_of`).
-    ensures once { IsTrue (is_some desk.old.room) → TicksOnce D.state desk.old desk.new result }
+    ensures once { IsTrue (is_some locked.old.room) → TicksOnce D.state locked.old locked.new result }
 
     // The committer has ended if its turn says so.
-    ensures stopped { result ≡ Stopped → IsTrue (is_some (ended_of desk.new.room)) }
+    ensures stopped { result ≡ Stopped → IsTrue (is_some (ended_of locked.new.room)) }
 {
-    let Some(room) = &mut desk.room else {
+    let Some(room) = &mut locked.room else {
         return Turn::Idle;
     };
     match room.tick() {
-        Ok(tick) => desk.after_tick(tick),
-        Err(fault) => desk.after_refusal(fault),
+        Ok(tick) => locked.after_tick(tick),
+        Err(fault) => locked.after_refusal(fault),
     }
 }
 
@@ -62,25 +62,25 @@ fn rows_of(batch: &Batch) -> u64
 }
 
 /// Visits of the collector, up to the end of a round at most.
-pub fn collect<D: Pmem + Drop, J: Origin>(desk: &mut Desk<D, J>) -> Turn
+pub fn collect<D: Pmem + Drop, J: Origin>(locked: &mut Locked<D, J>) -> Turn
     // The room makes visits, and no other step, and none of them ends the committer. The rows that were covered count on, and
     // from 0 once a round has ended.
-    ensures visits { IsTrue (is_some desk.old.room) → InRoom (λ old new. Repeats D.state old new Collect) desk.old.room desk.new.room }
-    ensures covered { desk.new.covered ≡ covered_since desk.old.covered result }
-    ensures ended { ended_of desk.new.room ≡ ended_of desk.old.room }
+    ensures visits { IsTrue (is_some locked.old.room) → InRoom (λ old new. Repeats D.state old new Collect) locked.old.room locked.new.room }
+    ensures covered { locked.new.covered ≡ covered_since locked.old.covered result }
+    ensures ended { ended_of locked.new.room ≡ ended_of locked.old.room }
 
-    ensures counts { (desk.new.open ≡ desk.old.open) × (desk.new.refusals ≡ desk.old.refusals) }
-    ensures rest { LeavesRest desk.old desk.new }
+    ensures counts { (locked.new.open ≡ locked.old.open) × (locked.new.refusals ≡ locked.old.refusals) }
+    ensures rest { LeavesRest locked.old locked.new }
 {
-    if !desk.is_round_due() {
+    if !locked.is_round_due() {
         return Turn::Idle;
     }
-    let Some(room) = &mut desk.room else {
+    let Some(room) = &mut locked.room else {
         return Turn::Idle;
     };
     let turn = visit_some(room);
     if matches!(turn, Turn::Finished) {
-        desk.covered = 0;
+        locked.covered = 0;
     }
     turn
 }
@@ -102,7 +102,7 @@ fn visit_some<D: Pmem + Drop, J: Origin>(room: &mut OpenedRoom<D, J>) -> Turn
     Turn::Unfinished
 }
 
-impl<D: Pmem + Drop, J: Origin> Desk<D, J> {
+impl<D: Pmem + Drop, J: Origin> Locked<D, J> {
     ghost use Rattle.std.specs.Prelude.{◌≡◌, ◌≢◌, IsSome, Ok};
     ghost use Rattle.base.specs.declared.fault.Fault.TheVariants.{OutOfMemory};
     ghost use Rattle.base.specs.declared.step.Reply.TheVariants.{Refused};
@@ -180,13 +180,13 @@ impl<D: Pmem + Drop, J: Origin> Desk<D, J> {
 impl<D: Pmem + Drop, J: Origin> Shared<D, J> {
     /// Replies to those who wait for their commit, and wakes others whom the turn concerns: threads that wait for another's commit,
     /// and the collector if a round is due, unless a sync wakes it. A thread that waits for its own commit sleeps on.
-    pub fn notify<R: Wait>(&self, rt: &R, desk: &mut Desk<D, J>, turn: Turn) {
+    pub fn notify<R: Wait>(&self, rt: &R, locked: &mut Locked<D, J>, turn: Turn) {
         if !turn.is_news() {
             return;
         }
-        desk.answer_all(&mut self.enter_answers(rt));
+        locked.answer_all(&mut self.enter_answers(rt));
         self.moved.notify_all();
-        if desk.is_round_due() && !desk.syncs_apart {
+        if locked.is_round_due() && !locked.syncs_apart {
             self.rounds.notify_all();
         }
     }
@@ -202,45 +202,45 @@ impl<D: SyncAhead + Drop, J: Origin> Shared<D, J> {
     pub fn take_ticks<'a, R: Wait>(
         &'a self,
         rt: &R,
-        desk: MutexGuard<'a, Desk<D, J>>,
-    ) -> (MutexGuard<'a, Desk<D, J>>, Turn)
+        locked: MutexGuard<'a, Locked<D, J>>,
+    ) -> (MutexGuard<'a, Locked<D, J>>, Turn)
         ensures stopped { result.1 ≡ Stopped → IsTrue (is_some (ended_of (mutex_guard_value result.0).room)) }
     {
-        let mut desk = desk;
+        let mut locked = locked;
         for _ in 0..TICKS {
-            match tick(&mut desk) {
+            match tick(&mut locked) {
                 Turn::Unfinished => {}
-                Turn::Flushed => desk = self.sync_ahead(rt, desk),
-                turn => return (desk, turn),
+                Turn::Flushed => locked = self.sync_ahead(rt, locked),
+                turn => return (locked, turn),
             }
         }
         self.moved.notify_all();
-        (desk, Turn::Unfinished)
+        (locked, Turn::Unfinished)
     }
 
     // Makes the sync that the next tick would wait for, if there is one.
     fn sync_ahead<'a, R: Wait>(
         &'a self,
         rt: &R,
-        desk: MutexGuard<'a, Desk<D, J>>,
-    ) -> MutexGuard<'a, Desk<D, J>> {
-        let mut desk = desk;
-        let Some(mut pending) = desk.begin_sync() else {
-            return desk;
+        locked: MutexGuard<'a, Locked<D, J>>,
+    ) -> MutexGuard<'a, Locked<D, J>> {
+        let mut locked = locked;
+        let Some(mut pending) = locked.begin_sync() else {
+            return locked;
         };
         // The collector has the lock to itself now.
-        if desk.is_round_due() {
+        if locked.is_round_due() {
             self.rounds.notify_all();
         }
-        self.exit(desk);
+        self.exit(locked);
         D::sync(&mut pending);
-        let mut desk = self.enter(rt);
-        desk.end_sync(pending);
-        desk
+        let mut locked = self.enter(rt);
+        locked.end_sync(pending);
+        locked
     }
 }
 
-impl<D: SyncAhead + Drop, J: Origin> Desk<D, J> {
+impl<D: SyncAhead + Drop, J: Origin> Locked<D, J> {
     // Hands out a sync, if the next tick would wait for one.
     fn begin_sync(&mut self) -> Option<D::Pending> {
         let Some(room) = &mut self.room else {

@@ -7,9 +7,9 @@ ghost use Rattle.base.specs.declared.fault.Fault.TheVariants.{WindowFull};
 ghost use Rattle.database.specs.declared.error.CommitError.TheVariants.{Refused};
 
 use crate::committing::prepare;
-use crate::desk::{Desk, Shared};
 use crate::ending::end_after;
 use crate::error::CommitError;
+use crate::locked::{Locked, Shared};
 use crate::trace::Trace;
 use base::Ts;
 use base::fault::Fault;
@@ -36,9 +36,9 @@ impl<D: SyncAhead + Drop, J: Origin> Shared<D, J> {
         ensures ok { IfOk result (ReportsWritten writes.now) }
         ensures err { IfErr result (ReportsUnwritten writes.now) }
     {
-        let mut desk = self.desk(rt);
-        match desk.begin_with(writes) {
-            Ok(session) => match self.commit(rt, desk, session, None) {
+        let mut locked = self.locked(rt);
+        match locked.begin_with(writes) {
+            Ok(session) => match self.commit(rt, locked, session, None) {
                 Ok((timestamp, _)) => Ok(timestamp),
                 Err(error) => Err(error),
             },
@@ -50,7 +50,7 @@ impl<D: SyncAhead + Drop, J: Origin> Shared<D, J> {
     pub fn commit<'a, R: Wait>(
         &'a self,
         rt: &R,
-        desk: MutexGuard<'a, Desk<D, J>>,
+        locked: MutexGuard<'a, Locked<D, J>>,
         session: u8,
         trace: Option<Trace<J>>,
     ) -> Result<(Option<Ts>, Option<Front<J>>), CommitError>
@@ -58,26 +58,26 @@ impl<D: SyncAhead + Drop, J: Origin> Shared<D, J> {
         ensures history { IfOk result (λ done. HasCommitted J.opened session trace done.0 done.1) }
         ensures err { IfErr result (ReportsError session) }
     {
-        let (desk, prepared, drawn, front) = self.prepare(rt, desk, session, &trace);
+        let (locked, prepared, drawn, front) = self.prepare(rt, locked, session, &trace);
         match prepared {
             Ok(timestamp) => match timestamp {
                 Some(timestamp) => {
-                    let (answer, ending) = self.wait(rt, desk, session, timestamp);
+                    let (answer, ending) = self.wait(rt, locked, session, timestamp);
                     match answer {
                         Ok(()) => Ok((Some(timestamp), end_after(rt, session, front, ending))),
                         Err(error) => Err(error),
                     }
                 }
                 None => {
-                    let mut desk = desk;
-                    desk.leave();
-                    self.urge(&desk);
-                    self.exit(desk);
+                    let mut locked = locked;
+                    locked.leave();
+                    self.urge(&locked);
+                    self.exit(locked);
                     Ok((None, front))
                 }
             },
             Err(error) => {
-                drop(desk);
+                drop(locked);
                 self.give_way(rt, session, error, drawn);
                 Err(error)
             }
@@ -89,11 +89,11 @@ impl<D: SyncAhead + Drop, J: Origin> Shared<D, J> {
     fn prepare<'a, R: Wait>(
         &'a self,
         rt: &R,
-        desk: MutexGuard<'a, Desk<D, J>>,
+        locked: MutexGuard<'a, Locked<D, J>>,
         session: u8,
         trace: &Option<Trace<J>>,
     ) -> (
-        MutexGuard<'a, Desk<D, J>>,
+        MutexGuard<'a, Locked<D, J>>,
         Result<Option<Ts>, CommitError>,
         Ts,
         Option<Front<J>>,
@@ -103,30 +103,35 @@ impl<D: SyncAhead + Drop, J: Origin> Shared<D, J> {
         ensures err { IfErr result.1 (ReportsUnprepared session) }
         ensures conflict { (key : Key) → result.1 ≡ Err (Refused (Conflict key)) → ConflictsAt session key result.2 }
     {
-        let mut desk = desk;
+        let mut locked = locked;
         for _ in rt.forever() {
-            if desk.lacks_numbers() {
+            if locked.lacks_numbers() {
                 return (
-                    desk,
+                    locked,
                     Err(CommitError::Refused(Fault::TimestampsOut)),
                     0,
                     None,
                 );
             }
-            desk.attend(rt, session, trace);
-            if let Some(room) = &mut desk.room {
+            locked.attend(rt, session, trace);
+            if let Some(room) = &mut locked.room {
                 let prepared = prepare(rt, room, session);
                 let drawn = room.last_drawn();
                 if !is_full(&prepared) {
-                    let front = desk.known_if(rt, trace.is_some());
-                    return (desk, prepared, drawn, front);
+                    let front = locked.known_if(rt, trace.is_some());
+                    return (locked, prepared, drawn, front);
                 }
-                desk = self.take_turn(rt, desk);
-                if desk.lacks_memory() {
-                    return (desk, Err(CommitError::Refused(Fault::OutOfMemory)), 0, None);
+                locked = self.take_turn(rt, locked);
+                if locked.lacks_memory() {
+                    return (
+                        locked,
+                        Err(CommitError::Refused(Fault::OutOfMemory)),
+                        0,
+                        None,
+                    );
                 }
             } else {
-                desk = self.moved.wait(rt, desk);
+                locked = self.moved.wait(rt, locked);
             }
         }
         unreachable!()
@@ -138,19 +143,19 @@ impl<D: SyncAhead + Drop, J: Origin> Shared<D, J> {
         ensures given { HasAborted session }
         ensures late { (key : Key) → error ≡ Refused (Conflict key) → IsSettledUpTo drawn }
     {
-        let mut desk = self.desk(rt);
-        let _ = desk.abort(session);
+        let mut locked = self.locked(rt);
+        let _ = locked.abort(session);
         match error {
             CommitError::Refused(Fault::Conflict(_)) => {
-                desk.group.excuse();
-                self.urge(&desk);
-                let mut desk = self.settle(rt, desk, drawn);
-                desk.leave();
-                self.exit(desk);
+                locked.group.excuse();
+                self.urge(&locked);
+                let mut locked = self.settle(rt, locked, drawn);
+                locked.leave();
+                self.exit(locked);
             }
             _ => {
-                desk.leave();
-                self.exit(desk);
+                locked.leave();
+                self.exit(locked);
             }
         }
     }
@@ -159,19 +164,19 @@ impl<D: SyncAhead + Drop, J: Origin> Shared<D, J> {
     fn settle<'a, R: Wait>(
         &'a self,
         rt: &R,
-        desk: MutexGuard<'a, Desk<D, J>>,
+        locked: MutexGuard<'a, Locked<D, J>>,
         timestamp: Ts,
-    ) -> MutexGuard<'a, Desk<D, J>>
+    ) -> MutexGuard<'a, Locked<D, J>>
         ensures { IsSettledUpTo timestamp }
     {
-        let mut desk = desk;
+        let mut locked = locked;
         for _ in rt.forever() {
-            if desk.is_settled(timestamp) {
-                return desk;
+            if locked.is_settled(timestamp) {
+                return locked;
             }
-            desk = self.take_turn(rt, desk);
-            if desk.lacks_memory() {
-                return desk;
+            locked = self.take_turn(rt, locked);
+            if locked.lacks_memory() {
+                return locked;
             }
         }
         unreachable!()
@@ -182,24 +187,24 @@ impl<D: SyncAhead + Drop, J: Origin> Shared<D, J> {
     fn take_turn<'a, R: Wait>(
         &'a self,
         rt: &R,
-        desk: MutexGuard<'a, Desk<D, J>>,
-    ) -> MutexGuard<'a, Desk<D, J>> {
-        let mut desk = desk;
-        if 1 < desk.open {
-            if !desk.roles.is_led() {
+        locked: MutexGuard<'a, Locked<D, J>>,
+    ) -> MutexGuard<'a, Locked<D, J>> {
+        let mut locked = locked;
+        if 1 < locked.open {
+            if !locked.roles.is_led() {
                 self.commits.notify_all();
             }
-            return self.wait_moved(rt, desk);
+            return self.wait_moved(rt, locked);
         }
-        let (mut desk, turn) = self.cover_group(rt, desk);
-        self.notify(rt, &mut desk, turn);
+        let (mut locked, turn) = self.cover_group(rt, locked);
+        self.notify(rt, &mut locked, turn);
         // A commit that came meanwhile follows, and this thread won't lead it.
-        let are_left = !desk.group.is_empty();
-        self.recall(&mut desk, are_left);
+        let are_left = !locked.group.is_empty();
+        self.recall(&mut locked, are_left);
         match turn.next_of_waiter() {
-            Next::Sleep => self.wait_moved(rt, desk),
-            Next::Yield => self.pass(rt, desk),
-            Next::Again => desk,
+            Next::Sleep => self.wait_moved(rt, locked),
+            Next::Yield => self.pass(rt, locked),
+            Next::Again => locked,
         }
     }
 }

@@ -4,7 +4,7 @@
 ghost use Rattle.std.specs.Prelude.{◌≡◌, ◌⊎◌, IfErr};
 ghost use Rattle.base.specs.declared.fault.Fault.TheVariants.{OutOfMemory, NoThread};
 
-use crate::desk::{Desk, Shared};
+use crate::locked::{Locked, Shared};
 use crate::turns;
 use base::fault::Fault;
 use history::Origin;
@@ -75,13 +75,13 @@ fn work<R: Wait + Drop, D: SyncAhead + Drop, J: Origin>(
     duty: Duty,
 ) {
     for _ in rt.forever() {
-        let desk = shared.enter(rt);
-        if desk.roles.is_closing {
+        let locked = shared.enter(rt);
+        if locked.roles.is_closing {
             break;
         }
         match duty {
-            Duty::Commit => commit(rt, shared, desk),
-            Duty::Collect => collect(rt, shared, desk),
+            Duty::Commit => commit(rt, shared, locked),
+            Duty::Collect => collect(rt, shared, locked),
         }
     }
     shared.end_working(rt);
@@ -91,20 +91,20 @@ fn work<R: Wait + Drop, D: SyncAhead + Drop, J: Origin>(
 fn commit<'a, R: Wait, D: SyncAhead + Drop, J: Origin>(
     rt: &R,
     shared: &'a Shared<D, J>,
-    desk: MutexGuard<'a, Desk<D, J>>,
+    locked: MutexGuard<'a, Locked<D, J>>,
 ) {
-    let (mut desk, turn) = shared.take_over(rt, desk);
-    shared.notify(rt, &mut desk, turn);
-    let has_group = !desk.group.is_empty();
-    match desk.roles.next_of_worker(turn, has_group) {
-        Next::Again => shared.exit(desk),
+    let (mut locked, turn) = shared.take_over(rt, locked);
+    shared.notify(rt, &mut locked, turn);
+    let has_group = !locked.group.is_empty();
+    match locked.roles.next_of_worker(turn, has_group) {
+        Next::Again => shared.exit(locked),
         Next::Yield => {
-            shared.exit(desk);
+            shared.exit(locked);
             thread::yield_now();
         }
         Next::Sleep => {
-            shared.wake_replied(&mut desk);
-            drop(shared.commits.wait(rt, desk));
+            shared.wake_replied(&mut locked);
+            drop(shared.commits.wait(rt, locked));
         }
     }
 }
@@ -113,16 +113,16 @@ fn commit<'a, R: Wait, D: SyncAhead + Drop, J: Origin>(
 fn collect<'a, R: Wait, D: SyncAhead + Drop, J: Origin>(
     rt: &R,
     shared: &'a Shared<D, J>,
-    desk: MutexGuard<'a, Desk<D, J>>,
+    locked: MutexGuard<'a, Locked<D, J>>,
 ) {
-    let mut desk = desk;
-    match turns::collect(&mut desk) {
-        Turn::Unfinished if !desk.may_round_wait() => {
-            drop(desk);
+    let mut locked = locked;
+    match turns::collect(&mut locked) {
+        Turn::Unfinished if !locked.may_round_wait() => {
+            drop(locked);
             thread::yield_now();
         }
         // The record that drops swept gaps is due.
         Turn::Finished => shared.commits.notify_all(),
-        _ => drop(shared.rounds.wait(rt, desk)),
+        _ => drop(shared.rounds.wait(rt, locked)),
     }
 }

@@ -5,7 +5,7 @@ ghost use Rattle.std.specs.Prelude.{◌≡◌, ◌↔◌, ◌≤◌, IsTrue, IsF
 ghost use Rattle.engine.specs.Agreement.{IsReturned};
 
 use crate::agreement::{agrees, are_told};
-use crate::desk::Desk;
+use crate::locked::Locked;
 use crate::origin::Origin;
 use crate::session::Session;
 use audited::Audited;
@@ -13,43 +13,43 @@ use pmem::Pmem;
 use room::Status;
 
 /// Asks the workers to end, exactly if no fewer sessions came back than were handed out. Otherwise all stays as it was.
-pub fn may_close<D: Pmem + Drop, J: Origin>(desk: &mut Desk<D, J>, count: u64) -> bool
-    ensures may { IsTrue result ↔ (desk.old.handed ≤ count) }
-    ensures closing { IsTrue result → desk.new.workers ≡ record desk.old.workers { is_closing = true } }
-    ensures refused { IsFalse result → desk.new ≡ desk.old }
-    ensures handed { desk.new.handed ≡ desk.old.handed }
-    ensures room { desk.new.audited ≡ desk.old.audited }
+pub fn may_close<D: Pmem + Drop, J: Origin>(locked: &mut Locked<D, J>, count: u64) -> bool
+    ensures may { IsTrue result ↔ (locked.old.handed ≤ count) }
+    ensures closing { IsTrue result → locked.new.workers ≡ record locked.old.workers { is_closing = true } }
+    ensures refused { IsFalse result → locked.new ≡ locked.old }
+    ensures handed { locked.new.handed ≡ locked.old.handed }
+    ensures room { locked.new.audited ≡ locked.old.audited }
 
     // What else is under the lock stays.
-    ensures halted { desk.new.halted ≡ desk.old.halted }
+    ensures halted { locked.new.halted ≡ locked.old.halted }
 {
-    if count < desk.handed {
+    if count < locked.handed {
         return false;
     }
-    desk.workers.close();
+    locked.workers.close();
     true
 }
 
 /// Takes the room out exactly if it was opened with these numbers and agrees with the sessions. Otherwise it stays there.
 pub fn take_room<D: Pmem + Drop, J: Origin, B: Drop>(
-    desk: &mut Desk<D, J>,
+    locked: &mut Locked<D, J>,
     opening: &Status,
     first: u64,
     sessions: &[Session<D, J, B>],
 ) -> Option<Audited<D>>
-    ensures some { IfSome result (λ audited. (desk.old.audited ≡ Some audited) × IsReturned opening.now first sessions.now audited) }
-    ensures none { IfNone result (IfSome desk.old.audited (λ audited. IsReturned opening.now first sessions.now audited → ⊥)) }
-    ensures kept { IfNone result (desk.new.audited ≡ desk.old.audited) }
+    ensures some { IfSome result (λ audited. (locked.old.audited ≡ Some audited) × IsReturned opening.now first sessions.now audited) }
+    ensures none { IfNone result (IfSome locked.old.audited (λ audited. IsReturned opening.now first sessions.now audited → ⊥)) }
+    ensures kept { IfNone result (locked.new.audited ≡ locked.old.audited) }
 
     // A room that is taken out is no longer there. What else is under the lock stays.
-    ensures taken { IfSome result (λ _. desk.new.audited ≡ None) }
-    ensures rest { (desk.new.handed ≡ desk.old.handed) × (desk.new.halted ≡ desk.old.halted) × (desk.new.workers ≡ desk.old.workers) }
+    ensures taken { IfSome result (λ _. locked.new.audited ≡ None) }
+    ensures rest { (locked.new.handed ≡ locked.old.handed) × (locked.new.halted ≡ locked.old.halted) × (locked.new.workers ≡ locked.old.workers) }
 {
-    let Some(audited) = &desk.audited else {
+    let Some(audited) = &locked.audited else {
         return None;
     };
     if is_returned(audited, opening, first, sessions) {
-        desk.audited.take()
+        locked.audited.take()
     } else {
         None
     }

@@ -90,7 +90,7 @@ impl<
         };
 
         // The workers wait for the lock until the room is put in.
-        let mut desk = shared.desk.lock(rt);
+        let mut locked = shared.locked.lock(rt);
         let committer = match spawn_worker(rt, &shared, Duty::Commit, Note::Idle, committer) {
             Ok(committer) => committer,
             Err(fault) => return Err((fault, audited)),
@@ -98,14 +98,14 @@ impl<
         let collector = match spawn_worker(rt, &shared, Duty::Collect, Note::SweepEnd, collector) {
             Ok(collector) => collector,
             Err(fault) => {
-                desk.workers.close();
-                drop(desk);
+                locked.workers.close();
+                drop(locked);
                 committer.join(rt);
                 return Err((fault, audited));
             }
         };
-        desk.lend(audited);
-        drop(desk);
+        locked.lend(audited);
+        drop(locked);
         Ok(Engine {
             alloc,
             shared,
@@ -143,11 +143,11 @@ impl<D: Pmem + Drop, J: Origin, B: Drop> Engine<D, J, B> {
         let Ok(shared) = Arc::try_clone(&self.shared) else {
             return Err(Fault::OutOfMemory);
         };
-        let mut desk = self.shared.desk.lock(rt);
-        if let Err(fault) = desk.hand_out() {
+        let mut locked = self.shared.locked.lock(rt);
+        if let Err(fault) = locked.hand_out() {
             return Err(fault);
         }
-        drop(desk);
+        drop(locked);
         Ok(Session::new(self.alloc, shared, self.published.again()))
     }
 
@@ -197,7 +197,7 @@ impl<D: Pmem + Drop, J: Origin, B: Drop> Engine<D, J, B> {
         ensures back { IfErr result (λ e. (e.1.opening ≡ self.opening) × (e.1.first ≡ self.first) × (e.1.published ≡ self.published) × (e.1.shared ≡ self.shared) × (e.1.readers ≡ self.readers) × (e.2.items ≡ sessions.items)) }
     {
         let count = sessions.len() as u64;
-        if !may_close(&mut self.shared.desk.lock(rt), count) {
+        if !may_close(&mut self.shared.locked.lock(rt), count) {
             return Err((Fault::WrongState, self, sessions));
         }
         self.shared.wake();
@@ -216,8 +216,8 @@ impl<D: Pmem + Drop, J: Origin, B: Drop> Engine<D, J, B> {
         ensures returned { IfSome result (IsReturned self.now.opening self.now.first sessions.now) }
         ensures from { IfSome result (IsFrom D.state J.image) }
     {
-        let mut desk = self.shared.desk.lock(rt);
-        take_room(&mut desk, &self.opening, self.first, sessions)
+        let mut locked = self.shared.locked.lock(rt);
+        take_room(&mut locked, &self.opening, self.first, sessions)
     }
 
     /// The numbers that the lent room was opened with.

@@ -14,12 +14,12 @@
 
 mod agreement;
 mod closing;
-mod desk;
 mod due;
 mod engine;
 mod gate;
 mod halt;
 mod keeping;
+mod locked;
 mod opening;
 mod origin;
 mod phase;

@@ -259,12 +259,12 @@ impl<D: Pmem + Drop, J: Origin, B: Drop> Session<D, J, B> {
         if self.receipts.reserve(1).is_err() {
             return Err(Fault::OutOfMemory);
         }
-        let mut desk = self.shared.room(rt, self.floor);
-        let Some(audited) = &mut desk.audited else {
+        let mut locked = self.shared.room(rt, self.floor);
+        let Some(audited) = &mut locked.audited else {
             unreachable!()
         };
         let (reply, receipt) = audited.step(step);
-        self.shared.notify(&mut desk, &reply);
+        self.shared.notify(&mut locked, &reply);
         let Some(receipt) = receipt else {
             return Err(Fault::OutOfMemory);
         };

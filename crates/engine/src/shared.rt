@@ -1,8 +1,8 @@
 //! A thread asks under the lock before it sleeps, and what it asks for is changed only under the lock. So no call to wake is
 //! missed. The board has a lock of its own, since its writer waits for readers, and no session is to wait for those.
 
-use crate::desk::Desk;
 use crate::halt::{Halt, Why};
+use crate::locked::Locked;
 use crate::origin::Origin;
 use base::Ts;
 use base::step::Reply;
@@ -14,7 +14,7 @@ use std::thread;
 /// What the threads share. The board is under a lock of its own, and no thread holds both.
 #[derive(Drop)]
 pub struct Shared<D: Pmem, J: Origin, B: Drop> {
-    pub desk: Mutex<Desk<D, J>>,
+    pub locked: Mutex<Locked<D, J>>,
     pub board: Mutex<B>,
     // The committer sleeps on it while no tick is due.
     ticks: Condvar,
@@ -39,7 +39,7 @@ impl<D: Pmem + Drop, J: Origin, B: Drop> Shared<D, J, B> {
     /// The board, and no room yet.
     pub fn new(board: B) -> Shared<D, J, B> {
         Shared {
-            desk: Mutex::new(Desk::new()),
+            locked: Mutex::new(Locked::new()),
             board: Mutex::new(board),
             ticks: Condvar::new(),
             visits: Condvar::new(),
@@ -50,26 +50,26 @@ impl<D: Pmem + Drop, J: Origin, B: Drop> Shared<D, J, B> {
 
     /// Takes the lock once the room is there and has made at least this many steps. It is and has, unless the engine was closed
     /// without the session that asks: then this waits forever.
-    pub fn room<R: Wait>(&self, rt: &R, steps: u64) -> MutexGuard<'_, Desk<D, J>>
+    pub fn room<R: Wait>(&self, rt: &R, steps: u64) -> MutexGuard<'_, Locked<D, J>>
         ensures { HasMade steps (mutex_guard_value result).audited }
     {
-        let mut desk = self.desk(rt);
+        let mut locked = self.locked(rt);
         for _ in rt.forever() {
-            if desk.has_made(steps) {
-                return desk;
+            if locked.has_made(steps) {
+                return locked;
             }
-            desk = self.moved.wait(rt, desk);
+            locked = self.moved.wait(rt, locked);
         }
         unreachable!()
     }
 
     // Takes the lock for a session, and wakes the workers that sleep.
-    fn desk<R: Wait>(&self, rt: &R) -> MutexGuard<'_, Desk<D, J>> {
-        let mut desk = self.desk.lock(rt);
-        if desk.workers.wake() {
+    fn locked<R: Wait>(&self, rt: &R) -> MutexGuard<'_, Locked<D, J>> {
+        let mut locked = self.locked.lock(rt);
+        if locked.workers.wake() {
             self.woken.notify_all();
         }
-        desk
+        locked
     }
 
     /// Waits until the room has persisted the timestamp, even if it was long, or its device has failed. It makes no step and
@@ -78,13 +78,13 @@ impl<D: Pmem + Drop, J: Origin, B: Drop> Shared<D, J, B> {
     pub fn wait_for<R: Wait>(&self, rt: &R, timestamp: Ts) -> Result<(), Why>
         ensures { IfErr result (IsWhy J.image) }
     {
-        let mut desk = self.desk(rt);
-        desk.workers.allow_a_try();
+        let mut locked = self.locked(rt);
+        locked.workers.allow_a_try();
         for _ in rt.forever() {
-            if let Some(over) = desk.waited(timestamp) {
+            if let Some(over) = locked.waited(timestamp) {
                 return over;
             }
-            desk = self.moved.wait(rt, desk);
+            locked = self.moved.wait(rt, locked);
         }
         unreachable!()
     }
@@ -93,8 +93,8 @@ impl<D: Pmem + Drop, J: Origin, B: Drop> Shared<D, J, B> {
     pub fn ask<R: Wait>(&self, rt: &R) -> Result<(), Halt>
         ensures { IfErr result (HasHalted J.image) }
     {
-        let desk = self.desk(rt);
-        match desk.halted() {
+        let locked = self.locked(rt);
+        match locked.halted() {
             Some(halt) => Err(halt),
             None => Ok(()),
         }
@@ -102,36 +102,36 @@ impl<D: Pmem + Drop, J: Origin, B: Drop> Shared<D, J, B> {
 
     /// Sleeps until the worker has something to do. Whether it has: it hasn't if the engine is being closed.
     pub fn wait_for_turn<R: Wait>(&self, rt: &R, duty: Duty) -> bool {
-        let mut desk = self.desk.lock(rt);
+        let mut locked = self.locked.lock(rt);
         for _ in rt.forever() {
-            if desk.workers.is_closing || desk.audited.is_none() {
+            if locked.workers.is_closing || locked.audited.is_none() {
                 return false;
             }
-            if desk.workers.is_due(duty) {
+            if locked.workers.is_due(duty) {
                 return true;
             }
-            desk = match duty {
-                Duty::Commit => self.ticks.wait(rt, desk),
-                Duty::Collect => self.visits.wait(rt, desk),
+            locked = match duty {
+                Duty::Commit => self.ticks.wait(rt, locked),
+                Duty::Collect => self.visits.wait(rt, locked),
             };
         }
         unreachable!()
     }
 
     /// Notes the reply to a step, and wakes the threads that have to know.
-    pub fn notify(&self, desk: &mut Desk<D, J>, reply: &Reply)
-        // As for `Desk::note`, and all who have to know are notified.
-        ensures due { MatchOption desk.old.audited (desk.new.workers.due ≡ delivered desk.old.workers.due)
-            (λ audited. (q : State) → Shows D.state audited.room q → desk.new.workers.due ≡ delivered (due_after desk.old.workers.due reply.now (wants_record reply.now q.ruling q.next q.layout.window) (enough_for q.layout.slots))) }
+    pub fn notify(&self, locked: &mut Locked<D, J>, reply: &Reply)
+        // As for `Locked::note`, and all who have to know are notified.
+        ensures due { MatchOption locked.old.audited (locked.new.workers.due ≡ delivered locked.old.workers.due)
+            (λ audited. (q : State) → Shows D.state audited.room q → locked.new.workers.due ≡ delivered (due_after locked.old.workers.due reply.now (wants_record reply.now q.ruling q.next q.layout.window) (enough_for q.layout.slots))) }
 
         // What else is under the lock stays.
-        ensures rest { LeavesRest desk.old.workers desk.new.workers }
-        ensures room { desk.new.audited ≡ desk.old.audited }
-        ensures handed { desk.new.handed ≡ desk.old.handed }
-        ensures halted { desk.new.halted ≡ desk.old.halted }
+        ensures rest { LeavesRest locked.old.workers locked.new.workers }
+        ensures room { locked.new.audited ≡ locked.old.audited }
+        ensures handed { locked.new.handed ≡ locked.old.handed }
+        ensures halted { locked.new.halted ≡ locked.old.halted }
     {
-        desk.note(reply);
-        let news = desk.workers.due.take_news();
+        locked.note(reply);
+        let news = locked.workers.due.take_news();
         if news.committer {
             self.ticks.notify_all();
         }
@@ -145,27 +145,27 @@ impl<D: Pmem + Drop, J: Origin, B: Drop> Shared<D, J, B> {
 
     /// Whether the engine is being closed.
     pub fn is_closing<R: Wait>(&self, rt: &R) -> bool {
-        let desk = self.desk.lock(rt);
-        desk.workers.is_closing || desk.audited.is_none()
+        let locked = self.locked.lock(rt);
+        locked.workers.is_closing || locked.audited.is_none()
     }
 
     /// Lets a worker rest that was refused memory this often in a row. It yields, and after too many refusals it sleeps until a
     /// session takes the lock or the engine is being closed.
     pub fn rest<R: Wait>(&self, rt: &R, duty: Duty, refusals: u64) {
-        let mut desk = self.desk.lock(rt);
-        if !desk.workers.rests(duty, refusals) {
-            drop(desk);
+        let mut locked = self.locked.lock(rt);
+        if !locked.workers.rests(duty, refusals) {
+            drop(locked);
             thread::yield_now();
             return;
         }
-        desk.workers.fall_asleep();
-        drop(self.woken.wait(rt, desk));
+        locked.workers.fall_asleep();
+        drop(self.woken.wait(rt, locked));
     }
 
     /// Counts that the committer was refused memory for what it covered. Too many of these end a wait.
     pub fn count_refusal<R: Wait>(&self, rt: &R) {
-        let mut desk = self.desk.lock(rt);
-        desk.workers.refuse();
+        let mut locked = self.locked.lock(rt);
+        locked.workers.refuse();
         self.moved.notify_all();
     }
 

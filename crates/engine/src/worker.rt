@@ -179,10 +179,10 @@ fn tick<R: Wait, D: Pmem + Drop, J: Origin, B: Drop>(
     ensures made { IfSome result (λ made. IfSome made.1 (λ receipt. (receipt.step ≡ step.now) × (receipt.note ≡ note_of made.0))) }
     ensures turn { ForSome result (IsTurn J.image) }
 {
-    let mut desk = shared.desk.lock(rt);
-    let made = desk.tick(step);
+    let mut locked = shared.locked.lock(rt);
+    let made = locked.tick(step);
     if let Some((reply, _)) = &made {
-        shared.notify(&mut desk, reply);
+        shared.notify(&mut locked, reply);
     }
     made
 }

@@ -1,21 +1,23 @@
 -- What may be found of such a device is an image of an earlier moment with the gates of now.
-use Rattle.std.proofs.Common.{◌≡◌, ◌⊎◌, ℕ, ◌+◌, ◌*◌, ◌%◌, ◌<◌, true, false, ◌&&◌, List, [], ◌==◌, sym, ◌∙◌, ap, subst, arith, nat_lt}
-use Rattle.std.specs.Prelude.{slice_index}
+use Rattle.std.proofs.Common.{◌≡◌, ◌⊎◌, inl, inr, ℕ, Bool, ◌+◌, ◌*◌, ◌%◌, ◌<◌, true, false, ◌&&◌, List, [], ◌∷◌, ◌==◌, refl, sym, ◌∙◌, ap, subst, arith, length, nat_eq, nat_le, nat_lt}
+use Rattle.std.specs.Prelude.{slice_index, map}
 use Rattle.std.proofs.Math.Logic.{∥∥₁_map}
 use Rattle.std.proofs.lemmas.Bool.{and_from, cases_lt, or_left, or_right, eq-eqb, lt-ltb}
+use Rattle.std.proofs.lemmas.List.FromFn.{get_or-map-range_with_len}
 use Rattle.base.specs.Layout.{Layout, place_start}
 use Rattle.base.specs.Commits.{Commit}
 use Rattle.base.specs.Fresh.{fresh_image}
-use Rattle.base.specs.Images.{Image, is_formatted}
+use Rattle.base.specs.Images.{Image, is_formatted, superblock_word}
 use Rattle.base.specs.declared.step.Step.{Step}
 use Rattle.base.specs.declared.step.Reply.{Reply}
-use Rattle.machine.specs.Machine.{State, Cover, closed, covers_at, covers_closing, final, StandsAsOne, StandsUnder, StandsAt, StandsWithin, StandsClosing, StandsClosed}
+use Rattle.machine.specs.Machine.{State, Cover, Run, closed, covers_at, covers_closing, final, StandsAsOne, StandsUnder, StandsAt, StandsWithin, StandsAlong, StandsClosing, StandsClosed}
 use Rattle.machine.proofs.openings.States.{whole-of}
 use Rattle.pmem.specs.Device.{Device, LeftAt, MayLeave, MightHaveLeft, IsOrderly}
 use Rattle.machine.specs.Openings.{OpensAs, StandsOpening}
-use Rattle.pmem.specs.Words.{Survives, Continues, LeavesOnly, image_of}
+use Rattle.pmem.specs.Words.{Survives, Continues, IsAtRest, LeavesOnly, image_of, value_of}
 use Rattle.pmem.specs.declared.device.Pmem as pmem
-use Rattle.pmem.proofs.Images.{continues_refl, grows, left_before, left_now, left_still}
+use Rattle.pmem.proofs.AtRest.{left_at_rest}
+use Rattle.pmem.proofs.Images.{continues_refl, grows, left_before, left_now, left_still, may_leave_now}
 use Rattle.device_invariant.proofs.reads.Images.{leaves-image}
 use Rattle.journal.specs.declared.images.Images.{Ghosts}
 use Rattle.pmem_file.specs.Devices.{state_of}
@@ -24,11 +26,17 @@ use Rattle.pmem_file.specs.Orderly.{orderly_of}
 use Rattle.pmem_file.specs.declared.journaled.JournaledPmem.{JournaledPmem}
 use Rattle.pmem_file.proofs.Named.{names-own}
 use Rattle.room.specs.declared.room.Room.{Room}
-use Rattle.recovery.specs.Fresh.{IsFormatting}
-use Rattle.room.specs.Room.{Shows, StepsTo, device_of}
+use Rattle.recovery.specs.Fresh.{HasFormattedNew, IsFormatting}
+use Rattle.room.specs.Room.{Leads, Shows, StepsTo, device_of}
+use Rattle.room.specs.Runs.{InEach}
+use Rattle.room_logs.specs.Logs.{HasLog}
+use Rattle.session_laws.specs.Images.{StandsInLog}
+use Rattle.session_laws.specs.Logs.{state_after, made, changes}
+use Rattle.session_laws.proofs.Images.{along-log, failed-run}
+use Rattle.session_laws.proofs.Logs.{run-log, silent-go}
 use Rattle.room.proofs.Runs.{run-none}
-use Rattle.file_laws.specs.Found.{IsFound, ComesFrom, RunsSince, covers_within}
-use Rattle.file_laws.proofs.FoundRuns.{found-now, found-within, found-closing, found-closed, comes-opened, comes-formatted}
+use Rattle.file_laws.specs.Found.{IsFound, ComesFrom, OpensFirst, RunsSince, covers_within}
+use Rattle.file_laws.proofs.FoundRuns.{found-now, found-within, found-closing, found-closed, comes-opened, comes-formatted, since-now, since-within, since-closing}
 
 -- the superblock's words, and the first word of each place
 head : (places word : ℕ) → word < 8 → is_gate places word ≡ true
@@ -57,7 +65,7 @@ module _ {I P : Type 0} {H : Ghosts I P} where
     pub left : ∥ MightHaveLeft (state_of device) since image ∥₁
     pub gates : (word : ℕ) → is_gate device.places word ≡ true → word < (state_of device).words → Survives (state_of device) word (slice_index image word)
 
-  orderly : (device : JournaledPmem I P H) → IsOrderly (state_of device)
+  pub orderly : (device : JournaledPmem I P H) → IsOrderly (state_of device)
   orderly device = orderly_of (state_of device) device.words.items device.shown
 
   -- a room comes from the beginning of the device that it was opened on
@@ -140,3 +148,95 @@ module _ {I P : Type 0} {H : Ghosts I P} where
           let places = named-under device (final q states) (closed (final q states)) (stands (image_of (state_of device)) (leaves-image (state_of device) (orderly device))) in
           ∥∥₁_map (found-of device (state_of device) (final q states) since image places (continues_refl (state_of device)) is) (λ here.
           found-closed state_of first last (state_of device) 0 steps replies q states image (orderly device) runs.shows runs.comes runs.runs leaves stands here)
+
+  -- ---- of a log
+
+  module _ {G : pmem.Ghosts (JournaledPmem I P H)} (room : Room (JournaledPmem I P H) G) (found : JournaledPmem I P H) (opened : Device) (log : List Step) (since : ℕ) (image : Image) (only : OpensFirst opened)
+      (has : HasLog state_of opened room log) where
+    -- the run ends in the state that the log leads to, or in that one with a failed device
+    ends-at : (start : State) (states : List State) → Run start (map (λ one. one.0) has.taken) (map (λ one. one.1) has.taken) states
+        → (final start states ≡ state_after start log) ⊎ (final start states ≡ record (state_after start log) { failed = true })
+    ends-at start states run =
+        let leads = run-log start has.taken states run in
+        let same : state_after start log ≡ state_after start (made has.taken) = ap (state_after start) has.log_is ∙ (silent-go start (made has.taken) leads.0).1 in
+        subst (λ (q : State). (final start states ≡ q) ⊎ (final start states ≡ record q { failed = true })) (sym same) leads.1
+
+    in-log : (q end : State) (taken : List (Step × Reply)) (states : List State) → (end ≡ q) ⊎ (end ≡ record q { failed = true }) → Run end (map (λ one. one.0) taken) (map (λ one. one.1) taken) states → StandsAlong end states image
+        → StandsInLog q (changes taken) image
+    in-log q end taken states (inl is) run along = subst (λ (p : State). StandsInLog p (changes taken) image) is (along-log end taken states image run along)
+    in-log q end taken states (inr is) run along =
+        failed-run q taken states image (subst (λ (p : State). Run p (map (λ one. one.0) taken) (map (λ one. one.1) taken) states) is run) (subst (λ (p : State). StandsAlong p states image) is along)
+
+    in-closing : (q end : State) → (end ≡ q) ⊎ (end ≡ record q { failed = true }) → StandsClosing end image → StandsClosing q image
+    in-closing q end (inl is) stands = subst (λ (p : State). StandsClosing p image) is stands
+    in-closing q end (inr is) stands =
+        let (cover, has, under) = subst (λ (p : State). StandsClosing p image) is stands in
+        (cover, has, record { stands = under.stands; ruled = under.ruled; laid_out = under.laid_out })
+
+    pub logged-now : state_of found ≡ device_of state_of room → Found found since image → ∥ InEach (image_of opened) (λ history next start. StandsInLog (state_after start log) [] image) ∥₁
+    logged-now same is = ∥∥₁_map is.left (λ might history drawn next lost stands.
+        let (start, opens, on) = has.run.each history drawn next lost stands in
+        let q = final start on.states in
+        let left = subst (λ (d : Device). MayLeave d (image_of (state_of found))) same (leaves-image (state_of found) (orderly found)) in
+        let places = named-one found q (covers_at q) (on.is.stands (image_of (state_of found)) left) in
+        let here = is-found q.layout found.places (state_of found) (state_of found) since image places (orderly found) (continues_refl (state_of found)) is.gates might in
+        let now = since-now opened history next lost start opens only (device_of state_of room) (map (λ one. one.0) has.taken) (map (λ one. one.1) has.taken) on.states on.run on.images image (subst IsOrderly same (orderly found)) on.is.stands
+        (subst (λ (d : Device). IsFound q.layout d 0 d.clock image) same here) in
+        (start, opens, in-log (state_after start log) q [] [] (ends-at start on.states on.run) tt now))
+
+    pub logged-within : (last : Room (JournaledPmem I P H) G) (step : Step) (reply : Reply) → Leads state_of room last step reply → Continues (device_of state_of room) (state_of found)
+        → Continues (state_of found) (device_of state_of last) → Found found since image → ∥ InEach (image_of opened) (λ history next start. StandsInLog (state_after start log) (changes ((step, reply) ∷ [])) image) ∥₁
+    logged-within last step reply leads before after is = ∥∥₁_map is.left (λ might history drawn next lost stands.
+        let (start, opens, on) = has.run.each history drawn next lost stands in
+        let q = final start on.states in
+        let (q', one) = leads q on.is in
+        let within = one.effect.images.each (image_of (state_of found)) (last-meanwhile found (device_of state_of room) (device_of state_of last) before after) in
+        let places = named-one found q (covers_within q q') within in
+        let here = is-found q.layout found.places (state_of found) (device_of state_of last) since image places (orderly found) after is.gates might in
+        let stood = since-within opened history next lost start opens only (device_of state_of room) (map (λ one. one.0) has.taken) (map (λ one. one.1) has.taken) on.states on.run on.images (device_of state_of last) step reply q'
+        (state_of found).clock image one.stepped one.effect.images before.later after.later here in
+        (start, opens, in-log (state_after start log) q ((step, reply) ∷ []) (q' ∷ []) (ends-at start on.states on.run) (one.stepped, tt) (inl stood)))
+
+    pub logged-closing : (device : Device) → ((q : State) → Shows state_of room q → LeavesOnly (device_of state_of room) device (StandsClosing q)) → Continues (device_of state_of room) (state_of found) → Continues (state_of found) device
+        → Found found since image → ∥ InEach (image_of opened) (λ history next start. StandsClosing (state_after start log) image) ∥₁
+    logged-closing device closes before after is = ∥∥₁_map is.left (λ might history drawn next lost stands.
+        let (start, opens, on) = has.run.each history drawn next lost stands in
+        let q = final start on.states in
+        let leaves = closes q on.is in
+        let places = named-one found q (covers_closing q) (leaves.each (image_of (state_of found)) (last-meanwhile found (device_of state_of room) device before after)) in
+        let here = is-found q.layout found.places (state_of found) device since image places (orderly found) after is.gates might in
+        let stood = since-closing opened history next lost start opens only (device_of state_of room) (map (λ one. one.0) has.taken) (map (λ one. one.1) has.taken) on.states on.run on.images device
+        (state_of found).clock image leaves before.later after.later here in
+        (start, opens, in-closing (state_after start log) q (ends-at start on.states on.run) stood))
+
+-- ---- what is opened first
+
+-- a device at rest at the beginning of its life
+pub first-opened : (device : Device) → IsOrderly device → device.clock ≡ 0 → IsAtRest device → OpensFirst device
+first-opened device orderly zero_is rests image might =
+    let now : might.moment ≡ device.clock = omega (arith, zero_is, might.to) in
+    inr (left_at_rest device rests image (may_leave_now orderly (subst (λ (m : ℕ). LeftAt device m image) now might.left)))
+
+-- one that was formatted since, and before held nothing
+pub first-formatted : (unformatted device : Device) (layout : Layout) → unformatted.clock ≡ 0 → ((image : Image) → MayLeave unformatted image → is_formatted image ≡ false)
+    → LeavesOnly unformatted device (IsFormatting unformatted layout) → image_of device ≡ fresh_image layout → OpensFirst device
+first-formatted unformatted device layout zero_is nothing leaves fresh image might =
+    elim (leaves.each image (record { moment = might.moment; from = omega (arith, zero_is); to = might.to; left = might.left })) [
+      | inl was ↦ inl (nothing image was)
+      | inr (inl no_image) ↦ inl no_image
+      | inr (inr is) ↦ inr (is ∙ sym fresh)
+    ]
+
+-- an image whose first word is 0 isn't formatted
+unformatted : (image : Image) → slice_index image 0 ≡ 0 → is_formatted image ≡ false
+unformatted image is = ap (λ (x : ℕ). nat_le 8 (length image) && nat_eq x superblock_word) is ∙ by (nat_le 8 (length image))
+  where
+    by : (b : Bool) → b && false ≡ false
+    by true = refl
+    by false = refl
+
+-- one that was formatted if nothing was kept in it, and otherwise stayed as it was
+pub first-made : (old new : Device) (layout : Layout) (is_made : Bool) → IsOrderly old → old.clock ≡ 0 → IsAtRest old → HasFormattedNew layout old new is_made → LeavesOnly old new (IsFormatting old layout) → OpensFirst new
+first-made old new layout true orderly zero_is rests (some, zero_word, fresh) leaves =
+    first-formatted old new layout zero_is (λ image left. unformatted image (ap (λ (i : Image). slice_index i 0) (left_at_rest old rests image left) ∙ (get_or-map-range_with_len (value_of old) 0 old.words 0 0 0 some (omega arith) ∙ zero_word))) leaves fresh
+first-made old new layout false orderly zero_is rests (kept, same) leaves = subst OpensFirst (sym same) (first-opened old orderly zero_is rests)

@@ -1,6 +1,6 @@
 -- What is found after any steps, within one, and when it is closed.
 use Rattle.std.proofs.Common.{◌≡◌, ◌⊎◌, inl, inr, ℕ, ◌+◌, ◌<◌, ◌≤◌, false, List, [], ◌∷◌, ◌++◌, sym, ◌∙◌, ap, subst, arith}
-use Rattle.std.specs.Prelude.{Contains}
+use Rattle.std.specs.Prelude.{Contains, None, Some}
 use Rattle.std.proofs.lemmas.Bool.{cases_lt}
 use Rattle.std.proofs.lemmas.List.Elements.{Contains-append_cases, Contains-push}
 use Rattle.base.specs.declared.gap.Gap.{Gap}
@@ -12,20 +12,21 @@ use Rattle.base.specs.Records.{Record}
 use Rattle.base.specs.Images.{Image, is_formatted, ruling}
 use Rattle.base.specs.Stands.{Stands}
 use Rattle.base.specs.Fresh.{fresh_image}
-use Rattle.machine.specs.Machine.{State, Run, final, Cover, present, covers_at, covers_closing, closed, drawn_of, StandsAsOne, StandsUnder, StandsAt, StandsWithin, StandsAlong, StandsClosing, StandsClosed}
+use Rattle.machine.specs.Machine.{State, Hand, Run, Stepped, final, Cover, present, covers_at, covers_closing, closed, drawn_of, StandsAsOne, StandsUnder, StandsAt, StandsWithin, StandsAlong, StandsClosing, StandsClosed}
 use Rattle.machine.specs.Openings.{OpensAs, StandsOpening, opened}
 use Rattle.machine.proofs.openings.GapLists.{one_gap_list}
 use Rattle.pmem.specs.Device.{Device, LeftAt, MayLeave, IsOrderly}
 use Rattle.pmem.specs.Words.{Continues, LeavesOnly, image_of}
 use Rattle.pmem.specs.declared.device.Pmem.{Ghosts}
-use Rattle.pmem.proofs.Images.{left_before, may_leave_now}
+use Rattle.pmem.proofs.Images.{left_before, leaves_trans, leaves_weaken, may_leave_now}
 use Rattle.recovery.specs.Fresh.{IsFormatting}
 use Rattle.room.specs.declared.room.Room.{Room}
 use Rattle.room.specs.Room.{Shows, StepsTo, RunsTo}
-use Rattle.file_laws.specs.Found.{IsNumbered, covers_within, MayRule, IsFound, StandsFor, IsBefore, ComesFrom}
+use Rattle.room.specs.Runs.{StandsSince}
+use Rattle.file_laws.specs.Found.{IsNumbered, covers_within, MayRule, IsFound, StandsFor, IsBefore, ComesFrom, OpensFirst}
 use Rattle.file_laws.proofs.Covers.{has-own, one-of, rules-first, rules-final, rules-last, least-gate, one-cover, closes-above}
 use Rattle.file_laws.proofs.Found.{stands-as}
-use Rattle.room.proofs.Runs.{run-then}
+use Rattle.room.proofs.Runs.{run-then, along-at}
 
 -- ---- what an image means
 
@@ -186,28 +187,26 @@ opened-ruling : (image : Image) (history : List Commit) (lost : List ℕ) (q q' 
 opened-ruling image history lost q q' (gaps, is, e) (gaps', is', e') =
     ap (λ (p : State). p.ruling) e' ∙ ap (λ (g : List Gap). (opened image history lost g).ruling) (one_gap_list (ruling image) gaps' gaps is' is) ∙ sym (ap (λ (p : State). p.ruling) e)
 
+-- what opening leaves is from before the state that the image opens as, or stands for it
+opening-before : (before image : Image) (history : List Commit) (next : ℕ) (lost : List ℕ) (q : State) → OpensAs before history lost q → StandsOpening before history next image → IsBefore q image
+opening-before before image history next lost q opens s = elim s.ruled [
+  | inl before_it ↦ inr (inl (omega (arith, ap (λ (r : Record). r.gate) before_it, opened-gate before history lost q opens)))
+  | inr (q', opens', ruled) ↦ inr (inr (
+    present q,
+    has-own q,
+    record {
+      drawn = [];
+      next = next;
+      stands = subst (λ (h : List Commit). Stands image h [] next) (sym (ap (λ (p : State). p.history) opens.2)) s.stands;
+      ruled = ruled ∙ opened-ruling before history lost q q' opens opens';
+    },
+  ))
+]
+
 -- from its opening
 pub comes-opened : (before now : Device) (history : List Commit) (next : ℕ) (lost : List ℕ) (q : State) → OpensAs (image_of before) history lost q
     → LeavesOnly before now (StandsOpening (image_of before) history next) → ComesFrom now before.clock q
-comes-opened before now history next lost q opens leaves image might = by (leaves.each image might)
-  where
-    same : q.history ≡ history
-    same = ap (λ (p : State). p.history) opens.2
-
-    by : StandsOpening (image_of before) history next image → IsBefore q image
-    by s = elim s.ruled [
-      | inl before_it ↦ inr (inl (omega (arith, ap (λ (r : Record). r.gate) before_it, opened-gate (image_of before) history lost q opens)))
-      | inr (q', opens', ruled) ↦ inr (inr (
-        present q,
-        has-own q,
-        record {
-          drawn = [];
-          next = next;
-          stands = subst (λ (h : List Commit). Stands image h [] next) (sym same) s.stands;
-          ruled = ruled ∙ opened-ruling (image_of before) history lost q q' opens opens';
-        },
-      ))
-    ]
+comes-opened before now history next lost q opens leaves image might = opening-before (image_of before) image history next lost q opens (leaves.each image might)
 
 -- from a format of a device that held nothing, before that opening
 pub comes-formatted : (raw_device before now : Device) (layout : Layout) (history : List Commit) (lost : List ℕ) (q : State) → ((image : Image) → MayLeave raw_device image → is_formatted image ≡ false)
@@ -222,3 +221,83 @@ comes-formatted raw_device before now layout history lost q nothing leaves fresh
     by (inl was) = inl (nothing image was)
     by (inr (inl raw_image)) = inl raw_image
     by (inr (inr is)) = inr (inl (omega (arith, ap (λ (i : Image). (ruling i).gate) (is ∙ sym fresh), opened-gate (image_of before) history lost q opens)))
+
+-- ---- from the opening of a device
+
+-- the image opens with nothing in hand
+opened-numbered : (image : Image) (history : List Commit) (lost : List ℕ) (q : State) → OpensAs image history lost q → IsNumbered q
+opened-numbered image history lost q (gaps, is, e) hand held = absurd (no_hand hand (sym (ap (λ (p : State). p.hand) e) ∙ held))
+  where
+    no_hand : (hand : Hand) → None ≡ Some hand → ⊥
+    no_hand hand none = cc
+
+run-last : (q : State) (steps : List Step) (replies : List Reply) (states : List State) (step : Step) (reply : Reply) (q' : State) → Run q steps replies states → Stepped (final q states) step reply q'
+    → Run q (steps ++ step ∷ []) (replies ++ reply ∷ []) (states ++ q' ∷ [])
+run-last q [] [] [] step reply q' run one = (one, tt)
+run-last q (s1 ∷ steps) (r1 ∷ replies) (q1 ∷ states) step reply q' run one = (run.0, run-last q1 steps replies states step reply q' run.1 one)
+run-last q [] [] (q1 ∷ states) step reply q' run one = absurd run
+run-last q [] (r1 ∷ replies) states step reply q' run one = absurd run
+run-last q (s1 ∷ steps) [] states step reply q' run one = absurd run
+run-last q (s1 ∷ steps) (r1 ∷ replies) [] step reply q' run one = absurd run
+
+along-before : (q : State) (states later : List State) (image : Image) → StandsAlong q states image → StandsAlong q (states ++ later) image
+along-before q [] later image s = along-at q later image s
+along-before q (q1 ∷ states) later image (inl s) = inl s
+along-before q (q1 ∷ states) later image (inr s) = inr (along-before q1 states later image s)
+
+along-after : (q : State) (states later : List State) (image : Image) → StandsAlong (final q states) later image → StandsAlong q (states ++ later) image
+along-after q [] later image s = s
+along-after q (q1 ∷ states) later image s = inr (along-after q1 states later image s)
+
+module _ (before : Device) (history : List Commit) (next : ℕ) (lost : List ℕ) (start : State) (opens : OpensAs (image_of before) history lost start) (only : OpensFirst before) where
+  -- what was left at that moment
+  means-left : (now : Device) (states : List State) (moment : ℕ) (image : Image) → LeavesOnly before now (StandsSince (image_of before) history next start states) → moment ≤ now.clock
+      → LeftAt now moment image → Means start states image
+  means-left now states moment image leaves to left = elim (cases_lt moment before.clock) [
+    | inl early ↦ first (only image (record { moment = moment; from = omega arith; to = omega (arith, early); left = left_before moment leaves.continues (omega (arith, early)) left }))
+    | inr late ↦ since (leaves.each image (record { moment = moment; from = late; to = to; left = left }))
+  ]
+    where
+      first : (is_formatted image ≡ false) ⊎ (image ≡ image_of before) → Means start states image
+      first (inl e) = raw e
+      first (inr same) = older (omega (arith, ap (λ (i : Image). (ruling i).gate) same, opened-gate (image_of before) history lost start opens))
+
+      since : StandsSince (image_of before) history next start states image → Means start states image
+      since (inl opening) = means-before start states image (opening-before (image_of before) image history next lost start opens opening)
+      since (inr run) = means-along start states image run
+
+  module _ (now : Device) (steps : List Step) (replies : List Reply) (states : List State) (run : Run start steps replies states) (leaves : LeavesOnly before now (StandsSince (image_of before) history next start states)) where
+    -- between two steps
+    pub since-now : (image : Image) → IsOrderly now → ((other : Image) → MayLeave now other → StandsAt (final start states) other) → IsFound (final start states).layout now 0 now.clock image → StandsAt (final start states) image
+    since-now image orderly stands found =
+        stands-as (final start states) (covers_at (final start states)) now 0 now.clock image found
+        (λ other left. stands other (may_leave_now orderly left))
+        (means-rules start steps replies states (opened-numbered (image_of before) history lost start opens) run image (covers_at (final start states)) (rules-final start states)
+        (means-left now states found.before image leaves found.to found.left))
+
+    -- within a step
+    pub since-within : (later : Device) (step : Step) (reply : Reply) (q' : State) (moment : ℕ) (image : Image) → Stepped (final start states) step reply q' → LeavesOnly now later (StandsWithin (final start states) q')
+        → now.clock ≤ moment → moment ≤ later.clock → IsFound (final start states).layout later 0 moment image → StandsWithin (final start states) q' image
+    since-within later step reply q' moment image one within from to found =
+        let whole : LeavesOnly before later (StandsSince (image_of before) history next start (states ++ q' ∷ [])) = leaves_trans (leaves_weaken more leaves) (leaves_weaken (λ other s. inr (along-after start states (q' ∷ []) other (inl s))) within) in
+        stands-as (final start states) (covers_within (final start states) q') later 0 moment image found
+        (λ other left. within.each other (record { moment = moment; from = from; to = to; left = left }))
+        (means-rules start (steps ++ step ∷ []) (replies ++ reply ∷ []) (states ++ q' ∷ []) (opened-numbered (image_of before) history lost start opens) (run-last start steps replies states step reply q' run one)
+        image (covers_within (final start states) q') (rules-last start states q')
+        (means-left later (states ++ q' ∷ []) found.before image whole (omega (arith, found.to, to)) found.left))
+      where
+        more : (other : Image) → StandsSince (image_of before) history next start states other → StandsSince (image_of before) history next start (states ++ q' ∷ []) other
+        more other (inl opening) = inl opening
+        more other (inr run) = inr (along-before start states (q' ∷ []) other run)
+
+    -- while it is closed
+    pub since-closing : (later : Device) (moment : ℕ) (image : Image) → LeavesOnly now later (StandsClosing (final start states))
+        → now.clock ≤ moment → moment ≤ later.clock → IsFound (final start states).layout later 0 moment image → StandsClosing (final start states) image
+    since-closing later moment image closes from to found =
+        stands-as (final start states) (covers_closing (final start states)) later 0 moment image found
+        (λ other left. closes.each other (record { moment = moment; from = from; to = to; left = left }))
+        (means-closings start steps replies states (opened-numbered (image_of before) history lost start opens) run image
+        (elim (cases_lt found.before now.clock) [
+          | inl early ↦ means-left now states found.before image leaves (omega (arith, early)) (left_before found.before closes.continues (omega (arith, early)) found.left)
+          | inr late ↦ means-closing start states image (closes.each image (record { moment = found.before; from = late; to = omega (arith, found.to, to); left = found.left }))
+        ]))

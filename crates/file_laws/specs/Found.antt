@@ -9,6 +9,7 @@ use Rattle.base.specs.Images.{Image, is_formatted, ruling}
 use Rattle.base.specs.Stands.{Stands}
 use Rattle.machine.specs.Machine.{State, Hand, Run, final, Cover, present, of_hand, covers_at, closed}
 use Rattle.pmem.specs.Device.{Device, survivors_at, IsAmong, LeftAt, MightHaveLeft}
+use Rattle.pmem.specs.Words.{image_of}
 use Rattle.pmem.specs.declared.device.Pmem.{Ghosts}
 use Rattle.room.specs.declared.room.Room.{Room}
 use Rattle.room.specs.Room.{Shows, RunsTo, device_of}
@@ -80,3 +81,10 @@ pub record RunsSince {D : Type 0} {G : Ghosts D} (state : D → Device) (first l
   pub shows : Shows state first q
   pub comes : ComesFrom (device_of state first) since q
   pub runs : RunsTo state first last steps replies q states
+
+-- ---- from the opening of a device
+
+-- What might have been left of the device up to its opening, since the beginning of its life, isn't formatted or is the image with which it was opened.
+-- Excluded: an older image of another history, which might be found with the gates of now.
+abbrev pub OpensFirst : Device → Type 0
+OpensFirst opened = (image : Image) → MightHaveLeft opened 0 image → (is_formatted image ≡ false) ⊎ (image ≡ image_of opened)

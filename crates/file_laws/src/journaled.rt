@@ -1,4 +1,4 @@
-ghost use Rattle.std.specs.Prelude.{◌≡◌, ◌⊎◌, ℕ, false, List, []};
+ghost use Rattle.std.specs.Prelude.{◌≡◌, ◌⊎◌, ℕ, false, List, [], ◌∷◌};
 ghost use Rattle.base.specs.Commits.{Commit};
 ghost use Rattle.base.specs.Fresh.{fresh_image};
 ghost use Rattle.base.specs.Images.{Image, is_formatted};
@@ -11,8 +11,12 @@ ghost use Rattle.pmem.specs.Device.{Device, MayLeave};
 ghost use Rattle.pmem.specs.Words.{Continues, LeavesOnly, image_of};
 ghost use Rattle.pmem_file.specs.Devices.{MayFind, state_of};
 ghost use Rattle.recovery.specs.Fresh.{IsFormatting};
-ghost use Rattle.file_laws.specs.Found.{RunsSince};
-ghost use Rattle.room.specs.Room.{Shows, StepsTo, device_of};
+ghost use Rattle.file_laws.specs.Found.{OpensFirst, RunsSince};
+ghost use Rattle.room.specs.Room.{Leads, Shows, StepsTo, device_of};
+ghost use Rattle.room.specs.Runs.{InEach};
+ghost use Rattle.room_logs.specs.Logs.{HasLog};
+ghost use Rattle.session_laws.specs.Images.{StandsInLog};
+ghost use Rattle.session_laws.specs.Logs.{changes, state_after};
 
 use pmem_file::{Images, JournaledPmem};
 use room::Room;
@@ -113,6 +117,38 @@ pub fn journaled_images_stand_at_an_opening<I: Images>(
         → Continues (state_of found.now) later
         → MayFind I.may_hold found.now image
         → ∥ IsFormatting (state_of unformatted.now) layout image ⊎ StandsOpening (image_of (state_of device.now)) history next image ∥₁ }
+{
+    found.found_image_was_left();
+}
+
+/// Of a room that has a log since its device was opened: whatever is found of the device, once all has stopped, stands for what the log
+/// leads to. `next` is the room after a further step, and `device` what its close left.
+pub fn journaled_logs_stand<I: Images>(
+    room: &Room<JournaledPmem<I>>,
+    next: &Room<JournaledPmem<I>>,
+    device: &JournaledPmem<I>,
+    found: &JournaledPmem<I>,
+)
+    // Between two steps, and at an instant within the next one, when the device was as `found`. So it has each commit that the log
+    // had covered (`crashes_keep_commits`).
+    ensures now { (opened : Device) (log : List Step) (image : Image)
+        → OpensFirst opened → HasLog state_of opened room.now log
+        → state_of found.now ≡ device_of state_of room.now
+        → MayFind I.may_hold found.now image
+        → ∥ InEach (image_of opened) (λ history first start. StandsInLog (state_after start log) [] image) ∥₁ }
+    ensures within { (opened : Device) (log : List Step) (step : Step) (reply : Reply) (image : Image)
+        → OpensFirst opened → HasLog state_of opened room.now log → Leads state_of room.now next.now step reply
+        → Continues (device_of state_of room.now) (state_of found.now) → Continues (state_of found.now) (device_of state_of next.now)
+        → MayFind I.may_hold found.now image
+        → ∥ InEach (image_of opened) (λ history first start. StandsInLog (state_after start log) (changes ((step, reply) ∷ [])) image) ∥₁ }
+
+    // And while the room is closed.
+    ensures closing { (opened : Device) (log : List Step) (image : Image)
+        → OpensFirst opened → HasLog state_of opened room.now log
+        → ((q : State) → Shows state_of room.now q → LeavesOnly (device_of state_of room.now) (state_of device.now) (StandsClosing q))
+        → Continues (device_of state_of room.now) (state_of found.now) → Continues (state_of found.now) (state_of device.now)
+        → MayFind I.may_hold found.now image
+        → ∥ InEach (image_of opened) (λ history first start. StandsClosing (state_after start log) image) ∥₁ }
 {
     found.found_image_was_left();
 }

@@ -11,7 +11,7 @@ mod law;
 
 pub use journaled::{
     journaled_images_stand, journaled_images_stand_at_a_close,
-    journaled_images_stand_at_an_opening, journaled_rooms_begin,
+    journaled_images_stand_at_an_opening, journaled_logs_stand, journaled_rooms_begin,
 };
 pub use law::{
     each_gate_has_one_cover, found_images_stand, found_images_stand_at_a_close,

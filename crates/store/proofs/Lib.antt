@@ -6,3 +6,4 @@ pub mod RangeReads
 pub mod Finding
 pub mod Works
 pub mod Closings
+pub mod Doing

@@ -5,6 +5,7 @@
 ghost use Rattle.std.specs.Prelude.{◌≡◌, ◌↔◌, None, IfOk, IfErr, IfSome, IfNone, OnOk, IsTrue};
 ghost use Rattle.base.specs.Images.{opening_fault};
 ghost use Rattle.base.specs.Layout.{Layout, opened_layout};
+ghost use Rattle.file_laws.specs.Found.{OpensFirst};
 ghost use Rattle.log_area.specs.Rulings.{IsLaidOut};
 ghost use Rattle.pmem.specs.Device.{restarted};
 ghost use Rattle.pmem.specs.Words.{IsAtRest, image_of};
@@ -47,6 +48,9 @@ pub fn open_file<R: Files<File = File>>(
     // The device is at rest, as `Database::open` needs it, and its image has the layout that was asked for, except that an image
     // of version 1 is opened as 2.
     ensures found { IfOk result (λ device. IsFoundWith geometry (state_of device)) }
+
+    // It has the image that the file had, or one that was just formatted: nothing else was left of it before (`OpensFirst`).
+    ensures first { IfOk result (λ device. OpensFirst (state_of device)) }
 
     // It has the places of its image's layout.
     ensures places { IfOk result (λ device. (found : Layout) × IsLaidOut found (image_of (state_of device)) × (places_of device ≡ found.places)) }
@@ -109,6 +113,7 @@ fn open_formatted<R: Files<File = File>>(
     geometry: Geometry,
 ) -> Result<Device, Refusal>
     ensures ok { IfOk result (λ device. IsAtRest (state_of device)) }
+    ensures first { IfOk result (λ device. OpensFirst (state_of device)) }
     ensures err { (layout : Layout) → IfErr result (ReportsLayout layout) }
     ensures fault { IfErr result (ReportsFault geometry) }
 {

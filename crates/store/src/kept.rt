@@ -3,6 +3,7 @@
 ghost use Rattle.std.specs.Prelude.{◌≡◌, IfErr, OnOk, true};
 ghost use Rattle.std.specs.String.{string_bytes};
 ghost use Rattle.pmem_file.specs.Devices.{state_of};
+ghost use Rattle.file_laws.specs.Found.{OpensFirst};
 ghost use Rattle.store.specs.Files.{IsFoundWith, OpensLayout};
 ghost use Rattle.store.specs.Opening.{IsOpeningError};
 
@@ -21,6 +22,7 @@ use std::thread::Threads;
 /// What an application does with a store whose history is kept.
 pub trait Program {
     ghost use Rattle.std.specs.Prelude.{◌≡◌, true};
+    ghost use Rattle.file_laws.specs.Found.{OpensFirst};
     ghost use Rattle.store.specs.Files.{MayOpen};
 
     type Answer;
@@ -31,9 +33,11 @@ pub trait Program {
         rt: R,
         store: Store<R, J>,
     ) -> Self::Answer
-        // The history is kept, from the opening of this device: it was at rest, and its image has a layout and isn't refused.
+        // The history is kept, from the opening of this device: it was at rest, and its image has a layout and isn't refused. What
+        // a crash might have left of it before isn't formatted, or is that image.
         requires kept { J.kept ≡ true }
-        requires opened { MayOpen J.opened };
+        requires opened { MayOpen J.opened }
+        requires first { OpensFirst J.opened };
 }
 
 /// Opens the file as `Store::open` does, keeps the history from then on, and runs the application with the store.
@@ -78,6 +82,7 @@ fn run_named<
     requires kept { J.kept ≡ true }
     requires name { history ≡ J.book }
     requires opened { state_of device ≡ J.opened }
+    requires first { OpensFirst (state_of device) }
 
     ensures ok { OnOk result (OpensLayout geometry) }
     ensures err { IfErr result (IsOpeningError (string_bytes name) geometry) }

@@ -7,6 +7,8 @@ mod endings;
 #[cfg(test)]
 mod groups;
 #[cfg(test)]
+mod histories;
+#[cfg(test)]
 mod journaled;
 #[cfg(test)]
 mod transactions;

@@ -3,6 +3,7 @@
 
 mod calls;
 mod conflicts;
+mod histories;
 mod images;
 mod openings;
 mod ranges;
@@ -26,6 +27,7 @@ fn main(rt: HostRuntime) -> Result<(), Error> {
     let store = Store::open(rt, rt.alloc(), "calls.img", geometry)?;
     calls::find_all(&rt, &store)?;
     store.close()?;
+    histories::keep_one(&rt)?;
     openings::refuse_each(&rt)?;
     openings::find_each(&rt)?;
     openings::end_numbers(&rt)

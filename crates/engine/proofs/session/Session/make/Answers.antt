@@ -21,7 +21,7 @@ invariant_of-self-2 g c =
     let floor : c.args.self.now.floor ≡ floor_of 0 c.args.self.now.receipts.items = c.args.self.now.floor_is in
     let place : r.place ≡ length c.in-Some.audited.entries.items = kept.place in
     let made : c.args.self.now.floor ≤ length c.in-Some.audited.entries.items =
-    made-here c.args.self.now.floor (mutex_guard_value c.room-desk.result).audited c.deref_mut.result.now.audited c.in-Some.audited c.room-desk.ensures (cc) c.in-Some.is in
+    made-here c.args.self.now.floor (mutex_guard_value c.room-locked.result).audited c.deref_mut.result.now.audited c.in-Some.audited c.room-locked.ensures (cc) c.in-Some.is in
     let low : floor_of 0 c.args.self.now.receipts.items ≤ r.place = omega (arith, place, made, floor) in
     record {
       rising = rw items (rises-append 0 c.args.self.now.receipts.items r c.args.self.now.rising low);
