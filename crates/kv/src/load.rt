@@ -1,22 +1,14 @@
-use crate::failure::Failure;
-use crate::help::{Word, find_word};
-use crate::input::{Line, Lines, text_of};
-use crate::numbers::parse_number;
-use crate::progress::Progress;
-use crate::session::commit;
-use crate::words::{parse_key_and_row, split_line};
+use answering::{Failure, commit};
 use anyhow::anyhow;
-use base::fault::Fault;
 use base::key::Key;
 use base::row::Row;
+use commands::{Lines, LoadLine, MOST_PUTS, read_load_line};
+use printing::Progress;
 use std::alloc::Global;
 use std::io::BufRead;
 use std::rt::Clock;
 use std::sync::Wait;
 use store::{Store, Transaction};
-
-/// The most puts in a transaction.
-pub const MOST_PUTS: u64 = 32;
 
 /// Puts the rows of lines, in transactions.
 #[derive(Drop)]
@@ -61,8 +53,8 @@ impl<'a, R: Eprint + Clock + Wait + Drop> Loader<'a, R> {
             let Some(line) = lines.next_line().map_err(Failure::Input)? else {
                 break;
             };
-            let part = part_of(self.alloc, line)?;
-            self.take(part)?;
+            let line = read_load_line(self.alloc, line)?;
+            self.take(line)?;
         }
         if self.is_begun {
             return Err(Failure::Unfinished);
@@ -70,13 +62,13 @@ impl<'a, R: Eprint + Clock + Wait + Drop> Loader<'a, R> {
         self.keep()
     }
 
-    fn take(&mut self, part: Part) -> Result<(), Failure> {
-        match part {
-            Part::Row(key, row) => self.put(key, row),
-            Part::Begin => self.begin(),
-            Part::Commit => self.commit(),
-            Part::End(rows) => self.end_list(rows),
-            Part::Other => Ok(()),
+    fn take(&mut self, line: LoadLine) -> Result<(), Failure> {
+        match line {
+            LoadLine::Row(key, row) => self.put(key, row),
+            LoadLine::Begin => self.begin(),
+            LoadLine::Commit => self.commit(),
+            LoadLine::End(rows) => self.end_list(rows),
+            LoadLine::Other => Ok(()),
         }
     }
 
@@ -140,56 +132,4 @@ impl<'a, R: Eprint + Clock + Wait + Drop> Loader<'a, R> {
 
 fn refused(reason: &'static str) -> Failure {
     Failure::Words(anyhow!("{reason}"))
-}
-
-// What a line means to a load.
-#[derive(Clone, Copy)]
-enum Part {
-    Row(Key, Row),
-    Begin,
-    Commit,
-    /// The end of a list of this many rows.
-    End(u64),
-    /// Any other line that dump or wbl check prints, or a line without words.
-    Other,
-}
-
-fn part_of(alloc: Global, line: Line<'_>) -> Result<Part, Failure> {
-    let text = text_of(line)?;
-    match split_line(alloc, text) {
-        Ok(words) => parse_part(words.as_slice()),
-        Err(_) => Err(Failure::Fault(Fault::OutOfMemory)),
-    }
-}
-
-fn parse_part(words: &[&str]) -> Result<Part, Failure> {
-    let Some((name, rest)) = words.split_first() else {
-        return Ok(Part::Other);
-    };
-    match (find_word(name), rest) {
-        (Some(Word::Put), [table, key, row]) => parse_put(table, key, row),
-        (Some(Word::Begin), []) => Ok(Part::Begin),
-        (Some(Word::Commit), []) => Ok(Part::Commit),
-        (Some(_), _) => Err(wrong_part()),
-        (None, _) => parse_other(name, rest),
-    }
-}
-
-// A line that begins with a table's number, or with a word that wbl prints.
-fn parse_other(name: &str, rest: &[&str]) -> Result<Part, Failure> {
-    match (name, rest) {
-        ("ready" | "closed", []) | ("sound", _) => Ok(Part::Other),
-        ("end", [rows]) => Ok(Part::End(parse_number("load", "end", rows)?)),
-        (table, [key, row]) => parse_put(table, key, row),
-        _ => Err(wrong_part()),
-    }
-}
-
-fn parse_put(table: &str, key: &str, row: &str) -> Result<Part, Failure> {
-    let (key, row) = parse_key_and_row("load", table, key, row)?;
-    Ok(Part::Row(key, row))
-}
-
-fn wrong_part() -> Failure {
-    Failure::Words(anyhow!("load: expected put TABLE KEY ROW, or TABLE KEY ROW"))
 }

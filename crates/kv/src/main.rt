@@ -2,26 +2,15 @@
 //! printed, a change is durable.
 #![tactic(auto)]
 
+mod all_pages;
 mod answers;
-mod command;
-mod failure;
-mod help;
-mod input;
-mod listing;
 mod load;
-mod numbers;
 mod opening;
-mod options;
-mod pages;
-mod progress;
-mod rows;
-mod session;
 mod shell;
-mod words;
 mod work;
 
-use crate::answers::Terminals;
 use crate::work::{obey_words, report_failed};
+use printing::Terminals;
 use std::alloc::Global;
 use std::io::IsTerminal;
 use std::process::ExitCode;

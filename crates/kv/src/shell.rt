@@ -1,14 +1,10 @@
-use crate::answers::{Manner, Printer};
-use crate::command::{Command, Request};
-use crate::failure::Failure;
-use crate::input::Lines;
-use crate::listing::{Dumped, TableCounts};
+use crate::all_pages::AllPages;
+use crate::answers::Printer;
 use crate::load::Loader;
-use crate::pages::{AllPages, RangePages};
-use crate::progress::Progress;
-use crate::session::{Answer, Listing, Session};
-use crate::words::{may_begin, parse_line};
+use answering::{Answer, Failure, Listing, RangePages, Session};
 use base::fault::Fault;
+use commands::{Command, Lines, Request, may_begin, parse_line};
+use printing::{Dumped, Manner, Output, Progress, TableCounts};
 use std::alloc::Global;
 use std::io;
 use std::io::BufRead;
@@ -77,7 +73,7 @@ pub fn answer_command<'a, R: Input + Print + Eprint + Clock + Wait + Drop>(
 #[derive(Clone, Copy)]
 struct List<'b, 'a, R: Wait + Drop> {
     alloc: Global,
-    printer: &'b Printer<'a, R>,
+    output: &'b Output<'a, R>,
     snapshot: &'b Snapshot<'a, R>,
 }
 
@@ -85,34 +81,34 @@ impl<R: Print + Wait + Drop> List<'_, '_, R> {
     fn rows(&self, pages: RangePages) -> Result<(), Failure> {
         let mut pages = pages;
         let mut rows = pages.next(self.alloc, self.snapshot)?;
-        self.printer.begin_rows().map_err(Failure::Output)?;
+        self.output.begin_rows().map_err(Failure::Output)?;
         let mut count: u64 = 0;
         for _ in 0..u64::MAX {
             if rows.is_empty() {
                 break;
             }
-            let printed = self.printer.print_rows(rows.as_slice());
+            let printed = self.output.print_rows(rows.as_slice());
             printed.map_err(Failure::Output)?;
             count = count.saturating_add(rows.len() as u64);
             rows = pages.next(self.alloc, self.snapshot)?;
         }
-        self.printer.end_rows(count).map_err(Failure::Output)
+        self.output.end_rows(count).map_err(Failure::Output)
     }
 
     fn tables(&self) -> Result<(), Failure> {
         let mut pages = AllPages::new();
         let mut page = pages.next(self.snapshot)?;
-        self.printer.begin_tables().map_err(Failure::Output)?;
+        self.output.begin_tables().map_err(Failure::Output)?;
         let mut counts = TableCounts::new();
         for _ in 0..u64::MAX {
             let Some(rows) = page else {
                 break;
             };
-            let printed = self.printer.count_rows(&mut counts, rows.as_slice());
+            let printed = self.output.count_rows(&mut counts, rows.as_slice());
             printed.map_err(Failure::Output)?;
             page = pages.next(self.snapshot)?;
         }
-        self.printer.end_tables(counts).map_err(Failure::Output)
+        self.output.end_tables(counts).map_err(Failure::Output)
     }
 
     fn dump(&self) -> Result<(), Failure> {
@@ -122,10 +118,10 @@ impl<R: Print + Wait + Drop> List<'_, '_, R> {
             let Some(rows) = pages.next(self.snapshot)? else {
                 break;
             };
-            let printed = self.printer.dump_rows(&mut dumped, rows.as_slice());
+            let printed = self.output.dump_rows(&mut dumped, rows.as_slice());
             printed.map_err(Failure::Output)?;
         }
-        self.printer.end_dump(dumped).map_err(Failure::Output)
+        self.output.end_dump(dumped).map_err(Failure::Output)
     }
 }
 
@@ -194,9 +190,9 @@ impl<'a, R: Print + Eprint + Clock + Wait + Drop> Shell<'a, R> {
             Ok(None) => {}
             Ok(Some(Command::Quit)) => return Ok(false),
             Ok(Some(command)) => self.run(lines, &command)?,
-            Err(failure) => {
+            Err(unreadable) => {
                 let begins = may_begin(self.alloc, line);
-                self.refuse(lines.number(), begins, failure)?;
+                self.refuse(lines.number(), begins, Failure::from(unreadable))?;
             }
         }
         Ok(!self.has_bailed())
@@ -251,7 +247,7 @@ impl<'a, R: Print + Eprint + Clock + Wait + Drop> Shell<'a, R> {
         let reads = self.session.reads()?;
         let list = List {
             alloc: self.alloc,
-            printer: &self.printer,
+            output: &self.printer.output,
             snapshot: reads.snapshot(),
         };
         match listing {
@@ -274,7 +270,7 @@ impl<'a, R: Print + Eprint + Clock + Wait + Drop> Shell<'a, R> {
             return Err(Failure::Open);
         }
         self.flush()?;
-        let progress = Progress::new(self.rt, self.printer.manner.is_watched);
+        let progress = Progress::new(self.rt, self.printer.output.manner.is_watched);
         let mut loader = Loader::new(self.alloc, self.store, progress);
         let loaded = loader.load(lines);
         let kept = loader.end();
@@ -297,7 +293,7 @@ impl<'a, R: Print + Eprint + Clock + Wait + Drop> Shell<'a, R> {
         let failure = failure.in_store(&self.store.layout());
         self.note(&failure);
         self.printer.refuse(&failure).map_err(Failure::Output)?;
-        let is_prompted = self.printer.manner.is_prompted;
+        let is_prompted = self.printer.output.manner.is_prompted;
         let _ = match (is_prompted, line) {
             (true, _) => eprintln!(self.rt; "refused: {failure}"),
             (false, 0) => eprintln!(self.rt; "kv: {failure}"),

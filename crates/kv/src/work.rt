@@ -1,19 +1,18 @@
-use crate::answers::{Manner, Printer, Terminals};
-use crate::command::Command;
-use crate::failure::Failure;
-use crate::help::Word;
 use crate::opening::open_store;
-use crate::options::{Options, command_line, read_options};
 use crate::shell::{Outcome, answer_command, answer_lines};
+use answering::Failure;
 use base::fault::Fault;
 use clap::error::ErrorKind;
+use commands::help::Word;
+use commands::{Command, Options, Unreadable, command_line, read_options};
+use printing::{Manner, Output, Terminals};
 use std::alloc::Global;
 use std::fs::File;
 use std::io;
 use std::rt::{Clock, Files};
 use std::sync::Wait;
 use std::thread::Threads;
-use store::{OpenError, StoreError};
+use store::{OpenError, StoreError, standard_layout};
 
 const DONE: u8 = 0;
 
@@ -46,14 +45,14 @@ pub fn obey_words<
         Ok(matches) => matches,
         Err(error) => return refuse_words(rt, &error),
     };
-    let options = match read_options(&matches) {
+    let options = match read_options(&matches, &standard_layout()) {
         Ok(options) => options,
         Err(error) => return report_bad_words(rt, &error),
     };
     let manner = Manner::of(terminals, options.command.is_none(), options.is_text);
     if let Some(given) = &options.command {
         if let Command::Help(word) = given.command {
-            return explain(rt, alloc, manner, word);
+            return explain(rt, manner, word);
         }
         if given.is_doubtful {
             warn_of_row(rt, words);
@@ -68,7 +67,7 @@ pub fn report_failed(rt: &impl Eprint, error: &io::Error) -> u8 {
     FAILED
 }
 
-fn report_bad_words(rt: &impl Eprint, error: &Failure) -> u8 {
+fn report_bad_words(rt: &impl Eprint, error: &Unreadable) -> u8 {
     let _ = eprintln!(rt; "kv: {error}");
     BAD_WORDS
 }
@@ -93,21 +92,12 @@ fn refuse_words(rt: &(impl Print + Eprint), error: &clap::Error) -> u8 {
 }
 
 // Explains a command, or lists them. Returns the exit status.
-fn explain(rt: &(impl Print + Eprint), alloc: Global, manner: Manner, word: Option<Word>) -> u8 {
-    match print_help(rt, alloc, manner, word) {
+fn explain(rt: &(impl Print + Eprint), manner: Manner, word: Option<Word>) -> u8 {
+    let output = Output { rt, manner };
+    match output.help(word) {
         Ok(()) => DONE,
         Err(error) => report_failed(rt, &error),
     }
-}
-
-fn print_help(
-    rt: &impl Print,
-    alloc: Global,
-    manner: Manner,
-    word: Option<Word>,
-) -> io::Result<()> {
-    let mut printer = Printer::new(alloc, rt, manner)?;
-    printer.help(word)
 }
 
 // Opens the file, runs the command or each line of the input, and closes the file. Returns the exit status.

@@ -98,8 +98,8 @@ fn two_transactions_are_in_one_history(rt: HostRuntime) -> Result<(), Fault> {
     let (first, second, lengths, is_one) = ran?;
     assert!(rt; first == Some(1) && second == Some(2) && is_one);
     // A begin, a put, a draw, a stamp and an end are at least five steps, of which the last four come after the begin.
-    assert!(rt; 1 <= lengths[0] && lengths[0] + 4 <= lengths[1]);
-    assert!(rt; lengths[1] < lengths[2] && lengths[2] + 4 <= lengths[3]);
+    assert!(rt; 1 <= lengths[0] && lengths[0].saturating_add(4) <= lengths[1]);
+    assert!(rt; lengths[1] < lengths[2] && lengths[2].saturating_add(4) <= lengths[3]);
     assert!(rt; lengths[3] <= lengths[4]);
     Ok(())
 }

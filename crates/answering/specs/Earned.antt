@@ -2,12 +2,12 @@
 use Rattle.std.specs.Prelude.{◌≡◌, ◌∷◌, [], ℕ, ⊤, Option, Some, None, Result, Ok, Err}
 use Rattle.database.specs.Committing.{ReportsCommit, ReportsWritten}
 use Rattle.base.specs.declared.fault.Fault.{Fault}
-use Rattle.kv.specs.declared.command.Request.{Request}
-use Rattle.kv.specs.declared.command.Request.TheVariants.{Put, Delete, Commit}
-use Rattle.kv.specs.declared.failure.Failure.{Failure}
-use Rattle.kv.specs.declared.failure.Failure.TheVariants.{InCommit}
-use Rattle.kv.specs.declared.session.Answer.{Answer}
-use Rattle.kv.specs.declared.session.Answer.TheVariants.{Committed, Done}
+use Rattle.commands.specs.declared.command.Request.{Request}
+use Rattle.commands.specs.declared.command.Request.TheVariants.{Put, Delete, Commit}
+use Rattle.answering.specs.declared.failure.Failure.{Failure}
+use Rattle.answering.specs.declared.failure.Failure.TheVariants.{InCommit}
+use Rattle.answering.specs.declared.session.Answer.{Answer}
+use Rattle.answering.specs.declared.session.Answer.TheVariants.{Committed, Done}
 use Rattle.store.specs.declared.error.StoreError.{StoreError}
 
 -- How what a commit returned is passed on: `committed` with its timestamp, `done` if nothing was written, and otherwise a failure, which says

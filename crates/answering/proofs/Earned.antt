@@ -1,10 +1,10 @@
 -- What a commit returned earns `committed`.
 use Rattle.std.proofs.Common.{ℕ, Some, None, sym, subst}
 use Rattle.std.specs.Prelude.{Option, Result, Ok, Err, IfOk}
-use Rattle.kv.specs.declared.session.Answer.{Answer}
-use Rattle.kv.specs.declared.session.Answer.TheVariants.{Committed, Done}
-use Rattle.kv.specs.declared.failure.Failure.{Failure}
-use Rattle.kv.specs.Earned.{IsEarnedBy, PassesOn}
+use Rattle.answering.specs.declared.session.Answer.{Answer}
+use Rattle.answering.specs.declared.session.Answer.TheVariants.{Committed, Done}
+use Rattle.answering.specs.declared.failure.Failure.{Failure}
+use Rattle.answering.specs.Earned.{IsEarnedBy, PassesOn}
 use Rattle.store.specs.declared.error.StoreError.{StoreError}
 
 -- passed on, it is earned

@@ -1,4 +1,4 @@
-use crate::failure::Failure;
+use crate::unreadable::Unreadable;
 use std::alloc::Global;
 use std::io::{BufRead, BufReader, Read};
 use std::{io, str};
@@ -75,12 +75,12 @@ fn decoded(bytes: &[u8]) -> Line<'_> {
 }
 
 /// The text of a line.
-pub fn text_of(line: Line<'_>) -> Result<&str, Failure> {
+pub fn text_of(line: Line<'_>) -> Result<&str, Unreadable> {
     match line {
         Line::Text(text) => Ok(text),
-        Line::NotText(_) => Err(Failure::NotText),
-        Line::TooLong(_) => Err(Failure::LineTooLong(MOST_BYTES)),
-        Line::Cut => Err(Failure::Cut),
+        Line::NotText(_) => Err(Unreadable::NotText),
+        Line::TooLong(_) => Err(Unreadable::LineTooLong(MOST_BYTES)),
+        Line::Cut => Err(Unreadable::Cut),
     }
 }
 

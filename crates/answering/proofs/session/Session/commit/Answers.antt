@@ -1,8 +1,8 @@
 use Rattle.std.proofs.Common.{ℕ}
 use Rattle.std.specs.Prelude.{Option}
 use Rattle.database.specs.Committing.{ReportsCommit}
-use Rattle.kv.proofs.Earned.{earned-weakens}
-use Rattle.kv.proofs.session.Session.commit.Goals as goal
+use Rattle.answering.proofs.Earned.{earned-weakens}
+use Rattle.answering.proofs.session.Session.commit.Goals as goal
 
 pub returns-in-Some-take : goal.returns-in-Some-take
 returns-in-Some-take g c =

@@ -1,9 +1,9 @@
 //! Lists of rows, printed as they are read: none is held for its end.
 
-use crate::answers::Printer;
-use crate::load::MOST_PUTS;
+use crate::output::Output;
 use base::key::Key;
 use base::row::Row;
+use commands::MOST_PUTS;
 use std::io;
 
 /// How many tables were counted, and the rows so far of the one that isn't over.
@@ -50,7 +50,7 @@ impl Dumped {
     }
 }
 
-impl<'a, R: Print> Printer<'a, R> {
+impl<'a, R: Print> Output<'a, R> {
     /// Prints the heading of rows.
     pub fn begin_rows(&self) -> io::Result<()> {
         if self.manner.is_table {

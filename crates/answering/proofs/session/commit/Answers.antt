@@ -1,6 +1,6 @@
 use Rattle.std.proofs.Common.{rules}
-use Rattle.kv.proofs.Earned.{passed-on}
-use Rattle.kv.proofs.session.Session.write.Goals as goal
+use Rattle.answering.proofs.Earned.{passed-on}
+use Rattle.answering.proofs.session.commit.Goals as goal
 
 pub returns : goal.returns
 returns g c = search (rules, passed-on)

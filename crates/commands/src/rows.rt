@@ -1,8 +1,8 @@
-use crate::failure::Failure;
+use crate::unreadable::Unreadable;
 use anyhow::{Error, anyhow, bail};
 use base::row::Row;
 use hex::decode_to_slice;
-use std::{fmt, str};
+use std::fmt;
 
 const LIMITS: &str = "at most 32 are allowed, or 96 in a store that is created with --wide";
 
@@ -12,7 +12,7 @@ pub fn may_be_text(word: &str) -> bool {
 }
 
 /// The row that a word spells: text in quotation marks, two hexadecimal digits for each byte, or `-` for no bytes.
-pub fn parse_row(command: &str, word: &str) -> Result<Row, Failure> {
+pub fn parse_row(command: &str, word: &str) -> Result<Row, Unreadable> {
     match word.strip_prefix('"') {
         Some(text) => Ok(parse_text(command, text)?),
         None if word == "-" => Ok(Row::new(&[])?),
@@ -20,15 +20,15 @@ pub fn parse_row(command: &str, word: &str) -> Result<Row, Failure> {
     }
 }
 
-fn parse_digits(command: &str, word: &str) -> Result<Row, Failure> {
+fn parse_digits(command: &str, word: &str) -> Result<Row, Unreadable> {
     let length = word.len() / 2;
     let mut bytes = [0; Row::LIMIT];
     if length > Row::LIMIT {
-        return Err(Failure::Words(anyhow!("{command}: ROW has {length} bytes: {LIMITS}")));
+        return Err(Unreadable::Words(anyhow!("{command}: ROW has {length} bytes: {LIMITS}")));
     }
     match decode_to_slice(word, &mut bytes[..length]) {
         Ok(()) => Ok(Row::new(&bytes[..length])?),
-        Err(_) => Err(Failure::Row(anyhow!("{command}: ROW {}", Bare(word)))),
+        Err(_) => Err(Unreadable::Row(anyhow!("{command}: ROW {}", Bare(word)))),
     }
 }
 
@@ -117,46 +117,4 @@ impl Bytes {
         let length = self.length.min(Row::LIMIT);
         Ok(Row::new(&self.bytes[..length])?)
     }
-}
-
-/// A row, printed so that `put` can read it.
-#[derive(Clone, Copy)]
-pub struct Shown<'a> {
-    pub row: &'a Row,
-    /// Print text, if the row is readable text, and otherwise digits.
-    pub as_text: bool,
-}
-
-impl fmt::Display for Shown<'_> {
-    fn fmt<W: fmt::Write>(&self, f: &mut fmt::Formatter<W>) -> fmt::Result {
-        match text_of(self.row) {
-            Some(text) if self.as_text => write_text(f, text),
-            _ => write!(f, "{}", self.row),
-        }
-    }
-}
-
-// The row as text, if it has any characters, and no control characters except line feeds.
-fn text_of(row: &Row) -> Option<&str> {
-    match str::from_utf8(row.as_bytes()) {
-        Ok(text) if !text.is_empty() && text.chars().all(is_shown) => Some(text),
-        _ => None,
-    }
-}
-
-fn is_shown(character: char) -> bool {
-    character == '\n' || !character.is_control()
-}
-
-fn write_text<W: fmt::Write>(f: &mut fmt::Formatter<W>, text: &str) -> fmt::Result {
-    f.write_char('"')?;
-    for character in text.chars() {
-        match character {
-            '\n' => f.write_str("\\n")?,
-            '"' => f.write_str("\\\"")?,
-            '\\' => f.write_str("\\\\")?,
-            _ => f.write_char(character)?,
-        }
-    }
-    f.write_char('"')
 }

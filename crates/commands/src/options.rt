@@ -1,13 +1,12 @@
 use crate::command::{Command, Request};
-use crate::failure::Failure;
 use crate::rows::may_be_text;
+use crate::unreadable::Unreadable;
 use crate::words::parse_words;
 use anyhow::anyhow;
 use base::fault::Fault;
 use base::geometry::Geometry;
 use clap::{Arg, ArgAction, ArgMatches, value_parser};
 use std::alloc::{AllocError, Global};
-use store::standard_layout;
 
 /// What the words of the command line ask for.
 #[derive(Clone, Copy)]
@@ -107,6 +106,14 @@ fn with_layout<'a>(
     alloc: Global,
     command: clap::Command<'a>,
 ) -> Result<clap::Command<'a>, AllocError> {
+    with_width(alloc, with_numbers(alloc, command)?)
+}
+
+// The options that have a number: of slots, of places, and of timestamps.
+fn with_numbers<'a>(
+    alloc: Global,
+    command: clap::Command<'a>,
+) -> Result<clap::Command<'a>, AllocError> {
     let slots = number(alloc, "slots")
         .value_parser(value_parser!(u64).range(1..=16_777_216))
         .help(
@@ -118,6 +125,14 @@ fn with_layout<'a>(
     let window = number(alloc, "window")
         .value_parser(value_parser!(u64).range(4..=1_024))
         .help("number of timestamps that a new store reserves at a time, 4 to 1024 (default 1024)");
+    command.arg(slots)?.arg(places)?.arg(window)
+}
+
+// The options that say how long a row may be.
+fn with_width<'a>(
+    alloc: Global,
+    command: clap::Command<'a>,
+) -> Result<clap::Command<'a>, AllocError> {
     let wide = flag(
         alloc,
         "wide",
@@ -130,12 +145,7 @@ fn with_layout<'a>(
         .help(
             "creates a store of version 4, as for more than 65536 slots, with slots of 1 line, or of 2 for rows of up to 96 bytes",
         );
-    command
-        .arg(slots)?
-        .arg(places)?
-        .arg(window)?
-        .arg(wide)?
-        .arg(lines)
+    command.arg(wide)?.arg(lines)
 }
 
 fn flag<'a>(alloc: Global, name: &'a str, help: &'a str) -> Arg<'a> {
@@ -149,12 +159,15 @@ fn number<'a>(alloc: Global, name: &'a str) -> Arg<'a> {
     Arg::new(alloc, name).long(name).value_name("N")
 }
 
-/// What the words of the command line ask for.
-pub fn read_options<'a>(matches: &ArgMatches<'a>) -> Result<Options<'a>, Failure> {
+/// What the words of the command line ask for. What no option sets comes from the standard layout.
+pub fn read_options<'a>(
+    matches: &ArgMatches<'a>,
+    standard: &Geometry,
+) -> Result<Options<'a>, Unreadable> {
     let Some(file) = matches.get_str("FILE") else {
-        return Err(Failure::Words(anyhow!("no file is named")));
+        return Err(Unreadable::Words(anyhow!("no file is named")));
     };
-    let layout = read_layout(matches)?;
+    let layout = read_layout(matches, standard)?;
     let command = read_command(matches.get_strs("COMMAND").unwrap_or(&[]))?;
     Ok(Options {
         file,
@@ -165,16 +178,16 @@ pub fn read_options<'a>(matches: &ArgMatches<'a>) -> Result<Options<'a>, Failure
     })
 }
 
-// What no option sets comes from the standard layout.
-fn read_layout(matches: &ArgMatches<'_>) -> Result<Layout, Failure> {
-    let standard = standard_layout();
+fn read_layout(matches: &ArgMatches<'_>, standard: &Geometry) -> Result<Layout, Unreadable> {
     let slots = matches.get_one::<u64>("slots");
     let places = matches.get_one::<u64>("places");
     let window = matches.get_one::<u64>("window");
     let lines = matches.get_one::<u64>("lines");
     let is_wide = matches.get_flag("wide");
     if is_wide && lines.is_some() {
-        return Err(Failure::Words(anyhow!("--wide and --lines are two ways to ask for a width")));
+        return Err(Unreadable::Words(anyhow!(
+            "--wide and --lines are two ways to ask for a width"
+        )));
     }
     let geometry = geometry_of(
         lines,
@@ -212,13 +225,13 @@ fn geometry_of(
 }
 
 // The command after the file's name, if there is one.
-fn read_command(words: &[&str]) -> Result<Option<Given>, Failure> {
+fn read_command(words: &[&str]) -> Result<Option<Given>, Unreadable> {
     if words.is_empty() {
         return Ok(None);
     }
     let command = parse_words(words)?;
     match command.why_not_alone() {
-        Some(reason) => Err(Failure::Words(anyhow!("{reason}"))),
+        Some(reason) => Err(Unreadable::Words(anyhow!("{reason}"))),
         None => Ok(Some(Given {
             command,
             is_doubtful: is_doubtful(&command, words),

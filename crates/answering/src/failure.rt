@@ -5,6 +5,7 @@ use anyhow;
 use base::fault::Fault;
 use base::geometry::Geometry;
 use base::row::Row;
+use commands::Unreadable;
 use std::io;
 use store::{OpenError, StoreError};
 use thiserror::Error;
@@ -12,17 +13,13 @@ use thiserror::Error;
 /// Why a line isn't run, or why the store can't be used to the end.
 #[derive(Debug, Drop, Error)]
 pub enum Failure {
-    /// The first word of the line isn't the name of a command.
     #[error("{0}")]
-    Unknown(anyhow::Error),
-    /// The command doesn't take these words.
+    Unreadable(#[from] Unreadable),
+    /// The line can be read, but not here.
     #[error("{0}")]
-    Words(#[from] anyhow::Error),
-    /// The row is neither in hexadecimal digits nor text.
-    #[error("{0}: bytes are two hexadecimal digits each, and text needs quotation marks, which a shell takes away: '\"text\"'")]
-    Row(anyhow::Error),
+    Words(anyhow::Error),
     #[error("{0}")]
-    Fault(#[from] Fault),
+    Fault(Fault),
     #[error("no slot is free, and an update needs one too: delete a row, or copy all rows into a store with more slots, as help shows")]
     Full,
     /// No slot is free, and no store has more of them.
@@ -43,12 +40,6 @@ pub enum Failure {
     Broken(u64),
     #[error("nothing was committed, because line {0} was refused")]
     NotCommitted(u64),
-    #[error("the line is not valid UTF-8")]
-    NotText,
-    #[error("the line is longer than {0} bytes")]
-    LineTooLong(usize),
-    #[error("the input ended within this line: without its line feed, part of it may be missing")]
-    Cut,
     #[error("load: the input ended between begin and commit: nothing of that transaction is kept")]
     Unfinished,
 
@@ -111,7 +102,7 @@ impl Failure {
     /// The name by which programs recognize why a line is refused: for a fault of the store its own name.
     pub fn name(&self) -> &'static str {
         match self {
-            Failure::Unknown(_) => "UnknownCommand",
+            Failure::Unreadable(unreadable) => unreadable.name(),
             Failure::Fault(fault) => fault.name(),
             Failure::Full | Failure::LargestFull => "SlotsOut",
             Failure::TooLong(_) | Failure::TooLongForAll(_) => "TooLong",
@@ -120,9 +111,6 @@ impl Failure {
             Failure::NotOpen => "NoTransaction",
             Failure::Broken(_) => "TransactionBroken",
             Failure::NotCommitted(_) => "NotCommitted",
-            Failure::NotText => "NotText",
-            Failure::LineTooLong(_) => "LineTooLong",
-            Failure::Cut => "LineCut",
             Failure::Unfinished => "Unfinished",
             _ => "BadWords",
         }
@@ -138,18 +126,15 @@ impl Failure {
 
     /// Whether it leaves a transaction as it was, so that a person may type another line.
     pub fn is_harmless(&self) -> bool {
-        matches!(
-            self,
-            Failure::Unknown(_)
-                | Failure::Words(_)
-                | Failure::Row(_)
-                | Failure::NotText
-                | Failure::LineTooLong(_)
-                | Failure::Open
-                | Failure::TooLong(_)
-                | Failure::TooLongForAll(_)
-                | Failure::TooManyKeys
-        )
+        match self {
+            Failure::Unreadable(unreadable) => unreadable.is_harmless(),
+            Failure::Words(_)
+            | Failure::Open
+            | Failure::TooLong(_)
+            | Failure::TooLongForAll(_)
+            | Failure::TooManyKeys => true,
+            _ => false,
+        }
     }
 
     /// The same in a store of this layout: one of the most slots can't be copied into a larger one.

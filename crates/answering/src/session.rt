@@ -1,15 +1,15 @@
 ghost use Rattle.std.specs.Prelude.{◌≡◌, ◌∷◌, [], ℕ, List, Option, IfOk};
 ghost use Rattle.database.specs.Committing.{ReportsCommit, ReportsWritten};
-ghost use Rattle.kv.specs.Earned.{Commits, IsEarnedBy, PassesOn};
-ghost use Rattle.kv.specs.declared.session.Answer.TheVariants.{Begun, Aborted, Row as RowRead, Count as Counted, Status as StatusRead};
+ghost use Rattle.answering.specs.Earned.{Commits, IsEarnedBy, PassesOn};
+ghost use Rattle.answering.specs.declared.session.Answer.TheVariants.{Begun, Aborted, Row as RowRead, Count as Counted, Status as StatusRead};
 ghost use Rattle.store.specs.declared.status.Status.{Status as StatusValue};
 
-use crate::command::Request;
 use crate::failure::Failure;
 use crate::pages::{RangePages, count_rows};
 use base::Ts;
 use base::key::Key;
 use base::row::Row;
+use commands::Request;
 use std::alloc::Global;
 use std::ops::Deref;
 use std::sync::Wait;

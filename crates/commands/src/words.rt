@@ -1,9 +1,9 @@
 use crate::command::{Command, Range, Request};
-use crate::failure::Failure;
 use crate::help::{Word, find_word, topic_of};
 use crate::input::{Line, first_word, text_of};
 use crate::numbers::{parse_key, parse_number, parse_table};
 use crate::rows::parse_row;
+use crate::unreadable::Unreadable;
 use anyhow::{Error, anyhow, bail};
 use base::fault::Fault;
 use base::key::Key;
@@ -28,10 +28,10 @@ pub fn split_line<'a>(alloc: Global, line: &'a str) -> Result<Vec<&'a str>, Allo
 }
 
 /// The command that a line spells, or `None` for a line without words.
-pub fn parse_line(alloc: Global, line: Line<'_>) -> Result<Option<Command>, Failure> {
+pub fn parse_line(alloc: Global, line: Line<'_>) -> Result<Option<Command>, Unreadable> {
     let text = text_of(line)?;
     let Ok(words) = split_line(alloc, text) else {
-        return Err(Failure::Fault(Fault::OutOfMemory));
+        return Err(Unreadable::Fault(Fault::OutOfMemory));
     };
     if words.is_empty() {
         return Ok(None);
@@ -53,13 +53,13 @@ fn is_near_begin(alloc: Global, word: &str) -> Result<bool, AllocError> {
 }
 
 /// The command that these words spell.
-pub fn parse_words(words: &[&str]) -> Result<Command, Failure> {
+pub fn parse_words(words: &[&str]) -> Result<Command, Unreadable> {
     let Some((name, arguments)) = words.split_first() else {
-        return Err(Failure::Words(anyhow!("no command: help lists the commands")));
+        return Err(Unreadable::Words(anyhow!("no command: help lists the commands")));
     };
     match find_word(name) {
         Some(word) => parse_command(word, arguments),
-        None => Err(Failure::Unknown(unknown_word(name))),
+        None => Err(Unreadable::Unknown(unknown_word(name))),
     }
 }
 
@@ -80,7 +80,7 @@ fn unknown_word(name: &str) -> Error {
     }
 }
 
-fn parse_command(word: Word, arguments: &[&str]) -> Result<Command, Failure> {
+fn parse_command(word: Word, arguments: &[&str]) -> Result<Command, Unreadable> {
     match (word, arguments) {
         (Word::Load, []) => Ok(Command::Load),
         (Word::Quit, []) => Ok(Command::Quit),
@@ -108,7 +108,7 @@ fn parse_timing(word: &str) -> Result<Command, Error> {
     }
 }
 
-fn parse_request(word: Word, arguments: &[&str]) -> Result<Request, Failure> {
+fn parse_request(word: Word, arguments: &[&str]) -> Result<Request, Unreadable> {
     match (word, arguments) {
         (Word::Put, [table, key, row]) => parse_put(table, key, row),
         (Word::Del, [table, key]) => Ok(parse_delete(table, key)?),
@@ -116,11 +116,11 @@ fn parse_request(word: Word, arguments: &[&str]) -> Result<Request, Failure> {
         (Word::Scan, _) => Ok(Request::Scan(parse_scan(arguments)?)),
         (Word::Count, [table]) => Ok(parse_count(table)?),
         (_, []) => Ok(parse_word(word)?),
-        _ => Err(Failure::Words(wrong_words(word))),
+        _ => Err(Unreadable::Words(wrong_words(word))),
     }
 }
 
-fn parse_put(table: &str, key: &str, row: &str) -> Result<Request, Failure> {
+fn parse_put(table: &str, key: &str, row: &str) -> Result<Request, Unreadable> {
     let (key, row) = parse_key_and_row("put", table, key, row)?;
     Ok(Request::Put { key, row })
 }
@@ -131,7 +131,7 @@ pub fn parse_key_and_row(
     table: &str,
     key: &str,
     row: &str,
-) -> Result<(Key, Row), Failure> {
+) -> Result<(Key, Row), Unreadable> {
     let key = parse_key(command, table, key)?;
     let row = parse_row(command, row)?;
     Ok((key, row))
