@@ -34,16 +34,15 @@ pub fn read_key<D: Pmem>(device: &D, geometry: Geometry, slot: u64) -> Option<Ke
     held_key(&words_from(device, geometry, slot, 2), geometry)
 }
 
-// The last values of a slot's words from `first` on. A slot of one line has eight.
-#[tactic(auto, unfolding(base::specs::Layout::most_slots))]
+// The last values of a slot's words from `first` on. A slot has eight in each line.
 #[inline(always)]
-fn words_from<D: Pmem>(device: &D, geometry: Geometry, slot: u64, first: usize) -> [u64; 16]
+fn words_from<D: Pmem>(device: &D, geometry: Geometry, slot: u64, first: usize) -> [u64; 64]
     requires slot { slot < geometry.slots }
     requires device { (D.state device.now).words ≡ total_words geometry }
     ensures { (w : ℕ) → first ≤ w → w < slot_words geometry.version → slice_index result w ≡ slot_at geometry slot (value_of (D.state device.now)) w }
 {
     let start = geometry.slot_start(slot);
-    let mut words = [0; 16];
+    let mut words = [0; 64];
     for w in first..geometry.slot_words() as usize {
         words[w] = device.load(start + w);
     }

@@ -29,10 +29,10 @@ impl Slot {
     ghost use Rattle.std.specs.Prelude.{slice_index, IfSome, IfNone};
     ghost use Rattle.version_slot.specs.Words.{IsSlot};
 
-    /// What these words hold, of which a slot of one line has the first eight. They hold nothing if the row's length,
-    /// an unused bit, a byte past the row's end or the previous slot isn't as it should be.
+    /// What these words hold, of which a slot of one line has the first eight, and so on. They hold nothing if the row's length,
+    /// a byte that counts past the row's end or the previous slot isn't as it should be.
     #[inline(always)]
-    pub fn from_words(words: &[u64; 16], geometry: Geometry) -> Option<Slot>
+    pub fn from_words(words: &[u64; 64], geometry: Geometry) -> Option<Slot>
         // The slot that has these words. None exactly if there is none.
         ensures some { IfSome result (IsSlot geometry (slice_index words.now)) }
         ensures none { IfNone result ((slot : Slot) → ¬ IsSlot geometry (slice_index words.now) slot) }
@@ -42,7 +42,8 @@ impl Slot {
         }
         let header = words[3];
         let length = (header >> 16) % 65_536;
-        let bytes = row_bytes(words);
+        let count = geometry.used_words(length as usize);
+        let bytes = row_bytes(words, count);
         Some(Slot {
             begin: words[0],
             end: words[1],
@@ -60,7 +61,7 @@ impl Slot {
 
 // Whether these words from the third on hold a version.
 #[inline(always)]
-fn is_well_formed(words: &[u64; 16], geometry: Geometry) -> bool
+fn is_well_formed(words: &[u64; 64], geometry: Geometry) -> bool
     ensures { IsTrue result ↔ IsWellFormed geometry (slice_index words.now) }
 {
     let length = (words[3] >> 16) % 65_536;
@@ -68,11 +69,11 @@ fn is_well_formed(words: &[u64; 16], geometry: Geometry) -> bool
     if length > geometry.row_limit() as u64 || link > geometry.slots() {
         return false;
     }
-    is_padded(words, length as usize, geometry.slot_words() as usize)
+    is_padded(words, length as usize, geometry.used_words(length as usize))
 }
 
 // The key of the version that these words from the third on hold.
-pub(crate) fn held_key(words: &[u64; 16], geometry: Geometry) -> Option<Key>
+pub(crate) fn held_key(words: &[u64; 64], geometry: Geometry) -> Option<Key>
     ensures some { IfSome result (λ key. (version : VersionHeld) × IsVersion geometry (slice_index words.now) version × (version.key ≡ key)) }
     ensures none { IfNone result ((version : VersionHeld) → ¬ IsVersion geometry (slice_index words.now) version) }
 {
@@ -108,13 +109,13 @@ impl Version {
 
     // Puts the words of a slot of `count` words that is filled with this version, from the second on, into their places.
     #[inline(always)]
-    pub(crate) fn put_words(&self, count: usize, words: &mut [u64; 16])
-        requires count { (4 ≤ count) × (count ≤ 16) }
+    pub(crate) fn put_words(&self, count: usize, words: &mut [u64; 64])
+        requires count { (4 ≤ count) × (count ≤ 64) }
         requires link { link_number self.now.previous < 2 ^ 32 }
 
-        // These places get the words of a slot that is filled with the version, from the second word on. There are still 16
+        // These places get the words of a slot that is filled with the version, from the second word on. There are still 64
         // places.
-        ensures size { length words.new ≡ 16 }
+        ensures size { length words.new ≡ 64 }
         ensures words { (w : ℕ) → 1 ≤ w → w < count → slice_index words.new w ≡ filled_word self.now w }
 
         // The table and the bytes are within their ranges.

@@ -3,6 +3,7 @@ use Rattle.std.proofs.Common.{◌≡◌, ℕ, ◌+◌, ◌<◌, ◌≤◌, not, 
 use Rattle.std.specs.Prelude.{slice_index, List}
 use Rattle.base.specs.declared.key.Key.{Key}
 use Rattle.base.specs.Commits.{after}
+use Rattle.base.proofs.Layouts.{line-words}
 use Rattle.base.specs.Layout.{slot_words, slot_start, total_words}
 use Rattle.base.specs.Records.{Record}
 use Rattle.base.specs.Images.{Image, IsRuledBy, layout_of, begin_of, end_of, is_live, Shown}
@@ -41,7 +42,7 @@ module _ (o : Origin) (q : State) (device : Device) (snapshot : Seen) (begun : �
   survives slot w lt low = grind (arith, image_word)
 
   some-words : 2 ≤ slot_words q.layout.version
-  some-words = grind (arith)
+  some-words = omega (arith, line-words q.layout.version)
 
   -- the words of the slots are below the next timestamp
   below : (slot w : ℕ) → EachSurvivor device (word_of q.layout slot w) (λ x. x < q.next) → slot < q.layout.slots → w < slot_words q.layout.version → slice_index image (word_of q.layout slot w) < q.next

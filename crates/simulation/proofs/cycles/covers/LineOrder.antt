@@ -10,6 +10,7 @@ use Rattle.base.specs.Commits.{Commit, writes_key}
 use Rattle.base.specs.Layout.{Layout, slot_start, total_words, version_lines}
 use Rattle.machine.specs.Machine.{State, Version}
 use Rattle.base.specs.Records.{are_rising}
+use Rattle.base.proofs.Layouts.{slot_whole, some_lines}
 use Rattle.base.proofs.Lists.{any-same, any-never, any-or, rising-rest}
 use Rattle.state_invariant.proofs.Lists.{rising-above, rising-with, all-weaken}
 use Rattle.device_invariant.specs.Log.{Line, line_at, line_number, lines_at, is_last_on, is_own, is_ended}
@@ -56,12 +57,37 @@ start a slot = slot_start a slot / 8
 start-rises : (a : Layout) (s n : ℕ) → start a s ≤ start a (s + n)
 start-rises a s n = grind arith
 
+-- the lines of a slot from one on
+parts-between : (a : Layout) (slot from n : ℕ) → IsBetween (start a slot + from) (start a slot + from + n) (map (line_number a) (flat_map (λ part. line_at slot part ∷ []) (range_with_len from n)))
+parts-between a slot from zero = between-none _ _
+parts-between a slot from (suc n) =
+    let high : start a slot + (from + 1) + n ≡ start a slot + from + suc n = omega arith in
+    let next : start a slot + (from + 1) ≡ start a slot + from + 1 = omega arith in
+    between-append (start a slot + from) (start a slot + (from + 1)) (start a slot + from + suc n) (start a slot + from ∷ [])
+    (map (line_number a) (flat_map (λ part. line_at slot part ∷ []) (range_with_len (from + 1) n))) (omega arith) (omega arith)
+    (between-one (start a slot + from) (start a slot + (from + 1)) (start a slot + from) (omega arith) (omega (arith, next)))
+    (subst (λ (end : ℕ). IsBetween (start a slot + (from + 1)) end (map (line_number a) (flat_map (λ part. line_at slot part ∷ []) (range_with_len (from + 1) n)))) high (parts-between a slot (from + 1) n))
+
 module _ (q : State) (commits : List Commit) where
   abbrev numbers_at : ℕ → List ℕ
   numbers_at slot = map (line_number q.layout) (lines_at q commits slot)
 
   slot-between : (slot : ℕ) → IsBetween (start q.layout slot) (start q.layout (slot + 1)) (numbers_at slot)
-  slot-between slot = grind (arith, between-two, between-one, between-none)
+  slot-between slot = by (is_own commits (q.held slot)) (is_ended q commits (q.held slot))
+    where
+      next : start q.layout (slot + 1) ≡ start q.layout slot + version_lines q.layout
+      next = omega (arith, slot_whole q.layout slot, slot_whole q.layout (slot + 1))
+
+      by : (own ended : Bool)
+          → IsBetween (start q.layout slot) (start q.layout (slot + 1)) (map (line_number q.layout) (cond own (flat_map (λ part. line_at slot part ∷ []) (range_with_len 0 (version_lines q.layout))) (cond ended (line_at slot 0 ∷ []) [])))
+      by true ended =
+          let from : start q.layout slot + 0 ≡ start q.layout slot = omega arith in
+          let to : start q.layout slot + 0 + version_lines q.layout ≡ start q.layout (slot + 1) = omega (arith, next) in
+          subst (λ (low : ℕ). IsBetween low (start q.layout (slot + 1)) (map (line_number q.layout) (flat_map (λ part. line_at slot part ∷ []) (range_with_len 0 (version_lines q.layout))))) from
+          (subst (λ (high : ℕ). IsBetween (start q.layout slot + 0) high (map (line_number q.layout) (flat_map (λ part. line_at slot part ∷ []) (range_with_len 0 (version_lines q.layout))))) to
+          (parts-between q.layout slot 0 (version_lines q.layout)))
+      by false true = between-one (start q.layout slot) (start q.layout (slot + 1)) (line_number q.layout (line_at slot 0)) (omega arith) (omega (arith, next, (some_lines q.layout.version).0))
+      by false false = between-none (start q.layout slot) (start q.layout (slot + 1))
 
   slots-between : (from n : ℕ) → IsBetween (start q.layout from) (start q.layout (from + n)) (map (line_number q.layout) (flat_map (lines_at q commits) (range_with_len from n)))
   slots-between from zero = between-none _ _
