@@ -1,6 +1,6 @@
 -- An image of the first version opens as one of the second, which has the same words except for the version.
 use Rattle.std.proofs.Common.{◌≡◌, ◌≢◌, ◌⊎◌, inl, inr, ℕ, zero, suc, ◌+◌, ◌*◌, ◌%◌, ◌^◌, ◌≤◌, max, Bool, true, cond, not, ◌&&◌, ◌||◌, nat_eq, nat_le, nat_lt, List, [], ◌∷◌, length, map, fold, refl, sym, ◌∙◌, ap, subst, arith}
-use Rattle.std.specs.Prelude.{◌/◌, Some, None, is_some, slice_index, slice_range, take, flat_map}
+use Rattle.std.specs.Prelude.{◌/◌, Some, None, is_some, slice_index, slice_range, take, drop, flat_map}
 use Rattle.std.specs.List.{list_all, range_with_len}
 use Rattle.std.specs.Option.{option_map}
 use Rattle.std.specs.Int.{to_le_bytes, w64}
