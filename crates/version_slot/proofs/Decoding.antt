@@ -106,7 +106,7 @@ module _ (layout : Layout) (words : ℕ → ℕ) (bytes : List ℕ) (n : ℕ) (s
     row_small : (i : ℕ) → get_or v.row i 0 < 2 ^ 8
     row_small i = elim (cases_lt i (8 * (count - 4))) [
       | inl within ↦ subst (λ (x : ℕ). x < 2 ^ 8) (sym (row_is i within)) (small i)
-      | inr past ↦ subst (λ (x : ℕ). x < 2 ^ 8) (sym (get_or_past v.row i 0 (omega (arith, row_size)))) (lit< tt)
+      | inr past ↦ subst (λ (x : ℕ). x < 2 ^ 8) (sym (get_or_past v.row i 0 (omega (arith, row_size, past, used-hold layout.version n short)))) (lit< tt)
     ]
 
     pub holds : IsVersion layout words v

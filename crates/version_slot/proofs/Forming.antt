@@ -1,6 +1,6 @@
 -- Words that are well formed, and the version that they hold.
-use Rattle.std.proofs.Common.{◌≡◌, ℕ, ◌+◌, ◌/◌, ◌%◌, ◌^◌, ◌<◌, ◌≤◌, List, map, length, get_or, take, refl, sym, ◌∙◌, arith}
-use Rattle.std.specs.Prelude.{Option, IfSome, IfNone}
+use Rattle.std.proofs.Common.{◌≡◌, ℕ, ◌+◌, ◌-◌, ◌*◌, ◌/◌, ◌%◌, ◌^◌, ◌<◌, ◌≤◌, List, map, length, get_or, take, refl, sym, ◌∙◌, subst, arith}
+use Rattle.std.specs.Prelude.{Option, Some, None, IfSome, IfNone}
 use Rattle.std.specs.List.{range_with_len}
 use Rattle.std.proofs.lemmas.List.{get_or-drop, get_or_past, length-drop}
 use Rattle.std.proofs.lemmas.List.FromFn.{get_or-map-range_with_len, length-map-range_with_len}
@@ -79,14 +79,18 @@ module _ (layout : Layout) (xs ys : ℕ → ℕ) where
 
 module _ (layout : Layout) (xs ys : ℕ → ℕ) (same : (w : ℕ) → w < slot_words layout.version → xs w ≡ ys w) where
   pub some-slot : (o : Option Slot) → IfSome o (IsSlot layout xs) → IfSome o (IsSlot layout ys)
-  some-slot a is = grind (arith, slot-same)
+  some-slot (Some s) is = slot-same layout xs ys same s is
+  some-slot None is = is
 
   pub none-slot : (o : Option Slot) → IfNone o ((s : Slot) → ¬ IsSlot layout xs s) → IfNone o ((s : Slot) → ¬ IsSlot layout ys s)
-  none-slot a none = grind (arith, slot-same)
+  none-slot (Some s) none = none
+  none-slot None none = λ s is. none s (slot-same layout ys xs (λ w lt. sym (same w lt)) s is)
 
 module _ (layout : Layout) (xs ys : ℕ → ℕ) (same : (w : ℕ) → 2 ≤ w → w < slot_words layout.version → xs w ≡ ys w) where
   pub some-key : (o : Option Key) → IfSome o (λ key. (v : Version) × IsVersion layout xs v × (v.key ≡ key)) → IfSome o (λ key. (v : Version) × IsVersion layout ys v × (v.key ≡ key))
-  some-key a is = grind (arith, version-same)
+  some-key (Some key) is = (is.0, version-same layout xs ys same is.0 is.1, is.2)
+  some-key None is = is
 
   pub none-key : (o : Option Key) → IfNone o ((v : Version) → ¬ IsVersion layout xs v) → IfNone o ((v : Version) → ¬ IsVersion layout ys v)
-  none-key a none = grind (arith, version-same)
+  none-key (Some key) none = none
+  none-key None none = λ v is. none v (version-same layout ys xs (λ w low high. sym (same w low high)) v is)
