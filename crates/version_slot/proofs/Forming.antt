@@ -1,16 +1,16 @@
 -- Words that are well formed, and the version that they hold.
-use Rattle.std.proofs.Common.{◌≡◌, ℕ, ◌+◌, ◌-◌, ◌*◌, ◌/◌, ◌%◌, ◌^◌, ◌<◌, ◌≤◌, List, map, length, get_or, take, refl, sym, ◌∙◌, subst, arith}
+use Rattle.std.proofs.Common.{◌≡◌, ℕ, ◌+◌, ◌-◌, ◌*◌, ◌/◌, ◌^◌, ◌<◌, ◌≤◌, List, map, length, get_or, take, refl, sym, ◌∙◌, subst, arith}
 use Rattle.std.specs.Prelude.{Option, Some, None, IfSome, IfNone}
 use Rattle.std.specs.List.{range_with_len}
 use Rattle.std.proofs.lemmas.List.{get_or-drop, get_or_past, length-drop}
 use Rattle.std.proofs.lemmas.List.FromFn.{get_or-map-range_with_len, length-map-range_with_len}
-use Rattle.base.specs.Layout.{Layout, row_limit, slot_words, used_words}
+use Rattle.base.specs.Layout.{Layout, slot_words, used_words}
 use Rattle.base.proofs.Layouts.{few-words, line-words, row-fills, used-words}
 use Rattle.base.specs.declared.key.Key.{Key}
 use Rattle.version_slot.specs.declared.words.Version.{Version}
 use Rattle.version_slot.specs.declared.words.Slot.{Slot}
 use Rattle.version_slot.specs.Words.{slot_byte, key_in, length_in, IsVersion, IsSlot, IsWellFormed}
-use Rattle.version_slot.proofs.Decoding.{words_3, byte_is, length_is, link_is, bytes_small, holds}
+use Rattle.version_slot.proofs.Decoding.{byte_is, length_is, link_is, bytes_small, holds}
 use Rattle.version_slot.proofs.ImageSlots.{previous_in, link-previous_in}
 
 module _ (layout : Layout) (words : ℕ → ℕ) where
