@@ -159,7 +159,10 @@ module _ (q : State) (commits : List Commit) (old new : Device) (is : new ≡ fe
 
       by_own : (slot : ℕ) → slot < q.layout.slots → is_ended q commits (q.held slot) ≡ true → (b : Bool) → is_own commits (q.held slot) ≡ b → IsSettled new (word_of q.layout slot 1)
       by_own slot lt ended true own = whole slot 1 lt (omega (arith, line-words q.layout.version)) own
-      by_own slot lt ended false own = grind (arith, here slot lt)
+      by_own slot lt ended false own =
+          let lines = subst (λ (b : Bool). AreReady q.layout old (cond b (flat_map (λ part. line_at slot part ∷ []) (range_with_len 0 (version_lines q.layout))) (cond (is_ended q commits (q.held slot)) (line_at slot 0 ∷ []) []))) own (here slot lt) in
+          let first = subst (λ (b : Bool). AreReady q.layout old (cond b (line_at slot 0 ∷ []) [])) ended lines in
+          settles slot 1 (line_at slot 0) lt (omega (arith, line-words q.layout.version)) refl (omega arith) (omega arith) first.0
 
 -- all lines are flushed, and now they persist
 pub holds-lines : (q : State) (hand : Hand) (old new : Device) → q.hand ≡ Some hand → hand.ticks ≡ lines_of q hand.commits + 1 → length (lines_in q hand.commits) ≡ lines_of q hand.commits

@@ -131,9 +131,22 @@ module _ (q : State) (line : ℕ) where
   abbrev first_of : ℕ → List Line
   first_of slot = line_at slot 0 ∷ []
 
+  -- the first is one of all
+  first-among : (slot n : ℕ) → 1 ≤ n → among (first_of slot) ≡ true → among (flat_map (λ part. line_at slot part ∷ []) (range_with_len 0 n)) ≡ true
+  first-among slot zero some is = absurd (omega (arith, some))
+  first-among slot (suc n) some is = or_left (nat_eq (line_number q.layout (line_at slot 0)) line) _ (sym (or-false (nat_eq (line_number q.layout (line_at slot 0)) line)) ∙ is)
+
+  absorb : (a b : Bool) → (b ≡ true → a ≡ true) → a ≡ (a || b)
+  absorb true b within = refl
+  absorb false true within = within refl
+  absorb false false within = refl
+
   -- either all its lines are touched, or the first alone
   by-kind : (slot : ℕ) (own ended : Bool) → among (cond own (all_of slot) (cond ended (first_of slot) [])) ≡ ((own && among (all_of slot)) || (ended && among (first_of slot)))
-  by-kind slot a b = grind (arith)
+  by-kind slot true true = absorb (among (all_of slot)) (among (first_of slot)) (first-among slot (version_lines q.layout) (some_lines q.layout.version).0)
+  by-kind slot true false = sym (or-false (among (all_of slot)))
+  by-kind slot false true = refl
+  by-kind slot false false = refl
 
   own-any : (commits : List Commit) (v : Option Version) → is_own commits v ≡ list_any (λ c. is_own (c ∷ []) v) commits
   own-any commits a = grind (arith, any-never commits)
