@@ -12,7 +12,7 @@ use Rattle.machine.specs.Machine.{State, Version}
 use Rattle.base.specs.Records.{are_rising}
 use Rattle.base.proofs.Layouts.{slot_whole, some_lines}
 use Rattle.base.proofs.Lists.{any-same, any-never, any-or, rising-rest}
-use Rattle.state_invariant.proofs.Lists.{rising-above, rising-with, all-weaken}
+use Rattle.state_invariant.proofs.Lists.{rising-above, all-weaken}
 use Rattle.device_invariant.specs.Log.{Line, line_at, line_number, lines_at, is_last_on, is_own, is_ended}
 use Rattle.simulation.specs.cycles.Batches.{line_numbers, is_line_of}
 use Rattle.simulation.specs.cycles.Laws.{LinesRise}
@@ -42,9 +42,6 @@ between-none low high = record { rising = refl; from = refl; to = refl }
 between-one : (low high x : ℕ) → low ≤ x → x < high → IsBetween low high (x ∷ [])
 between-one low high x le lt = record { rising = refl; from = and_from (nat_le low x) true (le-leb low x le) refl; to = and_from (nat_lt x high) true (lt-ltb x high lt) refl }
 
-between-two : (low high x y : ℕ) → low ≤ x → x < y → y < high → IsBetween low high (x ∷ y ∷ [])
-between-two low high x y le less lt = grind (arith, rising-with, and_from, lt-ltb, le-leb)
-
 -- ---- the lines of slots
 
 map-append : (f : Line → ℕ) (xs ys : List Line) → map f (xs ++ ys) ≡ map f xs ++ map f ys
@@ -63,7 +60,7 @@ parts-between a slot from zero = between-none _ _
 parts-between a slot from (suc n) =
     let high : start a slot + (from + 1) + n ≡ start a slot + from + suc n = omega arith in
     let next : start a slot + (from + 1) ≡ start a slot + from + 1 = omega arith in
-    between-append (start a slot + from) (start a slot + (from + 1)) (start a slot + from + suc n) (start a slot + from ∷ [])
+    between-append (start a slot + from) (start a slot + (from + 1)) (start a slot + from + suc n) ((start a slot + from) ∷ [])
     (map (line_number a) (flat_map (λ part. line_at slot part ∷ []) (range_with_len (from + 1) n))) (omega arith) (omega arith)
     (between-one (start a slot + from) (start a slot + (from + 1)) (start a slot + from) (omega arith) (omega (arith, next)))
     (subst (λ (end : ℕ). IsBetween (start a slot + (from + 1)) end (map (line_number a) (flat_map (λ part. line_at slot part ∷ []) (range_with_len (from + 1) n)))) high (parts-between a slot (from + 1) n))

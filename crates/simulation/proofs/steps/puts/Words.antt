@@ -100,7 +100,11 @@ whole-image a image laid size = omega (arith, size, ap total_words laid)
 
 pub filled-spells : (a : Layout) (slot : ℕ) (v : Content) (device : Device) → Fits a v → slot < a.slots → Spells a (value_of (after (fill_operations a slot v) device)) slot v.key v.row
 filled-spells a slot v device fits lt = record {
-  read = λ image laid size words. grind (arith, filled-version a slot v device fits image laid words, key_is image slot, row_is_of image slot, well_formed image slot);
+  read = λ image laid size words.
+      let inside : slot < (layout_of image).slots = within-image a slot image lt laid in
+      let whole : total_words (layout_of image) ≤ length image = whole-image a image laid size in
+      let is = filled-version a slot v device fits image laid words in
+      record { at = key_is image slot inside whole v is; is = row_is_of image slot inside whole v is; fits = well_formed image slot inside whole v is };
 }
 
 -- and so is its link
