@@ -1,5 +1,5 @@
 -- What is read of a slot of a device.
-use Rattle.std.proofs.Common.{◌≡◌, ℕ, ◌+◌, ◌<◌, get_or, ◌∙◌, ap, arith}
+use Rattle.std.proofs.Common.{◌≡◌, ℕ, ◌+◌, ◌%◌, ◌^◌, ◌<◌, get_or, ◌∙◌, ap, arith}
 use Rattle.base.specs.Layout.{Layout, slot_start, slot_words, total_words}
 use Rattle.base.specs.Images.{layout_of, slot_word, key_of}
 use Rattle.base.proofs.Layouts.{line-words, slot_within}
@@ -17,4 +17,4 @@ module _ (device : Device) (a : Layout) (slot : ℕ) (size : device.words ≡ to
 
   -- the key in a slot's words is the image's
   pub key-read : key_of (image_of device) slot ≡ key_in (slot_at a slot (value_of device))
-  key-read = grind (arith, word-same, line-words)
+  key-read = λ i. record { table = word-same 3 (omega (arith, line-words a.version)) i % 2 ^ 16; key = word-same 2 (omega (arith, line-words a.version)) i }
