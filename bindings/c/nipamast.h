@@ -4,7 +4,8 @@
  * wasn't acknowledged is kept whole or not at all. A transaction sees one instant (snapshot isolation). If two write the same key, the
  * first to commit wins; the other gets NIPAMAST_CONFLICT and begins again.
  *
- * A row is 0 to 32 bytes, or up to 96 in a store that was made wide. Its key is a table (0 to 65535) and a number of 64 bits.
+ * A row is 0 to 32 bytes, or up to 96 in a store that was made wide, or with two lines. Its key is a table (0 to 65535) and a
+ * number of 64 bits.
  *
  * Handles. A `nipamast_store *`, `nipamast_txn *` or `nipamast_rows *` is a name and not an address: nothing is read or written
  * there. A handle that is null, closed, of another kind or made up returns NIPAMAST_MISUSE and does no harm. A handle isn't used
@@ -95,13 +96,14 @@ enum {
  * NIPAMAST_EXISTING. */
 typedef struct nipamast_options {
     uint32_t size;       /* sizeof(nipamast_options): later versions may add fields */
-    uint32_t slots;      /* rows that it holds, old versions included: 1 to 65536; 0 opens the store that is there, as it is laid out */
+    uint32_t slots;      /* rows that it holds, old versions included: 1 to 65536, or to 16777216 with `lines`; 0 opens the store that is
+                            there, as it is laid out */
     uint16_t places;     /* places for records of its log: 2 to 64 */
     uint16_t window;     /* how many commits may be drawn ahead: 4 to 1024 */
     uint8_t wide;        /* 1: rows of up to 96 bytes; 0: of up to 32 */
     uint8_t channels;    /* transactions that may be open at once, and calls without one: 1 to 62. As many commits share a sync at most */
     uint8_t calls;       /* NIPAMAST_BY_THREAD or NIPAMAST_BY_STACK */
-    uint8_t reserved;    /* 0 */
+    uint8_t lines;       /* 1: rows of up to 32 bytes, and 2: of up to 96, in a store of version 4; 0: as `wide` says, else `wide` is 0 */
 } nipamast_options;
 
 /* The standard layout: the file then has 4 MB. */

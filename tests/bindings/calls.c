@@ -161,6 +161,15 @@ static void rows_have_their_lengths(void) {
     OK(nipamast_stat(s, &status));
     EXPECT(status.row_limit == 96 && status.slots == 64 && status.rows == 1 && status.free == 63 && status.versions == 1 && status.persisted == 1);
     OK(nipamast_close(s));
+    o.wide = 0;
+    o.lines = 2;
+    o.slots = 65600;
+    unlink(path);
+    OK(nipamast_open(path, &o, &s));
+    OK(put_one(s, 1, row, 96));
+    OK(nipamast_stat(s, &status));
+    EXPECT(status.row_limit == 96 && status.slots == 65600);
+    OK(nipamast_close(s));
 }
 
 static void many_writes_are_kept_together_or_not_at_all(void) {
@@ -442,7 +451,8 @@ static void null_pointers_and_wrong_numbers_are_refused(void) {
     bad = o; bad.channels = 63; MISUSED(nipamast_open(path, &bad, &other));
     bad = o; bad.wide = 2; MISUSED(nipamast_open(path, &bad, &other));
     bad = o; bad.calls = 2; MISUSED(nipamast_open(path, &bad, &other));
-    bad = o; bad.reserved = 1; MISUSED(nipamast_open(path, &bad, &other));
+    bad = o; bad.lines = 3; MISUSED(nipamast_open(path, &bad, &other));
+    bad = o; bad.lines = 2; bad.wide = 1; MISUSED(nipamast_open(path, &bad, &other));
     for (int i = 0; i < 4; i++) {
         bad = o;
         if (i == 0) bad.slots = 65537;

@@ -173,6 +173,11 @@ class Tests(unittest.TestCase):
             store[1, 1] = bytes(96)
         with nipamast.open(str(self.path)) as store:
             self.assertEqual((store[1, 1], store.status().row_limit), (bytes(96), 96))
+        self.path.unlink()
+        with self.open(slots=65_600, lines=2) as store:
+            store[1, 1] = bytes(96)
+        with nipamast.open(str(self.path)) as store:
+            self.assertEqual((store[1, 1], store.status()[:2]), (bytes(96), (96, 65600)))
 
     def test_the_command(self):
         def command(*words):

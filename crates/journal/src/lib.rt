@@ -1,8 +1,8 @@
 //! A journal in a file, behind an image: its entries, how a torn one is distinguished from a whole one, and what the file
 //! stands for at each instant.
 //!
-//! A keep of an image is one append to the journal. If the journal has no room for it, three writes and two waits come before
-//! that.
+//! A keep of an image is one append to the journal. If the journal has no room for it, the lines of its entries are written in
+//! place before that, which takes two waits more.
 #![tactic(auto)]
 
 mod appending;

@@ -1,5 +1,5 @@
 -- The bytes of heads, requests and replies.
-use Rattle.std.specs.Prelude.{◌≡◌, ◌≢◌, ◌⊎◌, ◌<◌, ◌≤◌, ◌^◌, ℕ, List, [], ◌∷◌, ◌++◌, length, flat_map, Bool, true, false, Option, Some, None}
+use Rattle.std.specs.Prelude.{◌≡◌, ◌≢◌, ◌⊎◌, ◌<◌, ◌≤◌, ◌^◌, ℕ, List, [], ◌++◌, length, flat_map, Bool, true, false, Option, Some, None}
 use Rattle.std.specs.Io.KnownBytes.{Appends, Consumes, IsAtEnd}
 use Rattle.std.specs.String.{string_bytes}
 use Rattle.base.specs.declared.key.Key.{Key}
@@ -7,7 +7,6 @@ use Rattle.byteorder.specs.Endian.{little_bytes}
 use Rattle.requests.specs.declared.answer.Answer.{Answer}
 use Rattle.requests.specs.declared.answer.Answer.TheVariants as answer
 use Rattle.requests.specs.declared.head.Head.{Head}
-use Rattle.requests.specs.declared.request.KeyRange.{KeyRange}
 use Rattle.requests.specs.declared.request.Received.{Received}
 use Rattle.requests.specs.declared.request.Received.TheVariants as received
 use Rattle.requests.specs.declared.request.Request.{Request}
