@@ -4,7 +4,7 @@ ghost use Rattle.pmem.specs.Device.{Device, stored, fenced, failed, MightHaveLef
 ghost use Rattle.journal.specs.Kept.{HoldsOnly};
 ghost use Rattle.pmem_file.specs.Shown.{IsShown};
 ghost use Rattle.pmem_file.specs.Mirrored.{IsMirrored};
-ghost use Rattle.pmem_file.specs.Journaled.{HoldsGate, IsSince, NamesPlaces, is_gate, is_gate_line, is_gate_flushed, places_named};
+ghost use Rattle.pmem_file.specs.Journaled.{HoldsGate, IsSince, NamesPlaces, is_gate, is_gate_line, is_gate_flushed, places_named, with_flushed};
 ghost use Rattle.pmem_file.specs.Traces.{device_of};
 
 use crate::changed::ChangedLines;
@@ -26,8 +26,8 @@ use sync_ahead::SyncAhead;
 pub struct JournaledPmem<I: Images> {
     words: Vec<u64>,
 
-    // There is room for each line once, and for a line more of each actor, from the opening on. An engine asks for no more: its
-    // committer flushes a line once in a cycle, and all others fence each line at once.
+    // Flushed lines of gates. There is room for each such line once, and for a line more of each actor, from the opening on. An
+    // engine asks for no more: its committer flushes a line once in a cycle, and all others fence each line at once.
     flushed: Vec<Flushed>,
 
     // The lines of which words were stored since an image was written. There is room for each from the opening on.
@@ -55,7 +55,7 @@ pub struct JournaledPmem<I: Images> {
     ghost marked: { (length words.items ≤ 8 * changed.count) × (changed.places ≡ places) },
     ghost named: { NamesPlaces places words.items },
     ghost shown: { IsShown (device_of trace) words.items },
-    ghost mirrored: { IsMirrored (device_of trace) words.items flushed.items (HoldsGate places (I.may_hold images)) },
+    ghost mirrored: { IsMirrored (is_gate places) (device_of trace) words.items flushed.items (HoldsGate places (I.may_hold images)) },
     ghost since: { IsSince (device_of trace) (device_of kept.value).clock (I.may_hold images) },
     ghost gates: { is_gate_stored ≡ false → HoldsOnly (HoldsGate places (I.may_hold images)) (length words.items) words.items },
     ghost since_written: { failed ≡ false → IsSince (device_of trace) (device_of written.value).clock (I.shows images) },
@@ -91,7 +91,8 @@ impl<I: Images> JournaledPmem<I> {
     {
         let named = places_named(&words, places);
         let lines = words.len() / 8;
-        let Ok(flushed) = Vec::with_capacity(alloc, lines.saturating_add(MOST_ACTORS)) else {
+        let gates = named.saturating_add(1);
+        let Ok(flushed) = Vec::with_capacity(alloc, gates.saturating_add(MOST_ACTORS)) else {
             return Err(images);
         };
         let Ok(changed) = ChangedLines::new(alloc, lines.saturating_add(1), named) else {
@@ -432,6 +433,19 @@ fn note_gate(stored: &mut bool, unwritten: &mut bool, places: usize, word: usize
     }
 }
 
+// Notes what an actor flushed, and returns whether there is memory for that. Only a line with a gate decides what a fence does; a
+// collector flushes the line of each slot before it fences.
+#[inline(always)]
+fn note_flushed(flushed: &mut Vec<Flushed>, places: usize, one: Flushed) -> bool
+    ensures noted { result ≡ true → flushed.new.items ≡ with_flushed places one flushed.old.items }
+    ensures refused { result ≡ false → flushed.new.items ≡ flushed.old.items }
+{
+    if is_gate_line(places, one.line) {
+        return flushed.push(one).is_ok();
+    }
+    true
+}
+
 // Did the actor flush a line with a gate, and hasn't fenced it yet?
 fn is_gate_flushed(places: usize, flushed: &[Flushed], actor: u8) -> bool
     ensures { result ≡ is_gate_flushed places flushed.now actor }
@@ -479,13 +493,11 @@ impl<I: Images> Pmem for JournaledPmem<I> {
     // It fails only if there is no memory.
     fn flush(&mut self, actor: Actor, line: usize) -> Result<(), Fault> {
         let actor = actor.number;
-        match self.flushed.push(Flushed { actor, line }) {
-            Ok(()) => {
-                self.trace.note(Operation::Flush { actor, line });
-                Ok(())
-            }
-            Err(_) => Err(self.refuse()),
+        if !note_flushed(&mut self.flushed, self.places, Flushed { actor, line }) {
+            return Err(self.refuse());
         }
+        self.trace.note(Operation::Flush { actor, line });
+        Ok(())
     }
 
     // Most fences are made while no gate is stored, and order only. One fails only where an image wasn't kept.
