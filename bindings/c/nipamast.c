@@ -30,8 +30,8 @@
 #endif
 
 /* The numbers of docs/FORMATS.md. */
-enum { BEGIN = 1, GET, PUT, DELETE, COMMIT, ABORT, FIRST, LAST, STATUS, OPEN_EXISTING, OPEN_NARROW, OPEN_WIDE };
-enum { HEAD = 16, ROW = 96, NUMBERS = 7, LONGEST_PATH = 4096 };
+enum { BEGIN = 1, GET, PUT, DELETE, COMMIT, ABORT, FIRST, LAST, STATUS, OPEN_EXISTING, OPEN_NARROW, OPEN_WIDE, OPEN_LARGE };
+enum { HEAD = 16, ROW = 480, NUMBERS = 7, LONGEST_PATH = 4096 };
 
 /* How many stores may be open, how many channels each has at most with the one of number 0, and how many cursors there are. */
 enum { STORES = 64, CHANNELS = 63, CURSORS = 1024 };
@@ -631,7 +631,8 @@ size_t nipamast_errmsg(char *text, size_t size) {
 /* --- opening and closing --------------------------------------------------------------------------------------------------------- */
 
 static int are_options(const nipamast_options *o) {
-    return o->size == sizeof *o && o->channels >= 1 && o->channels < CHANNELS && o->wide <= 1 && !o->reserved
+    return o->size == sizeof *o && o->channels >= 1 && o->channels < CHANNELS && o->wide <= 1
+        && o->lines <= 8 && !(o->wide && o->lines)
         && (o->calls == NIPAMAST_BY_THREAD || (o->calls == NIPAMAST_BY_STACK && HAS_STACKS));
 }
 
@@ -712,12 +713,14 @@ static int are_served(struct store *s, int refused_before) {
 
 /* The first frame of channel 0. */
 static int ask_to_open(struct channel *control, const char *path, size_t length, const nipamast_options *o) {
-    uint8_t numbers[16];
+    uint8_t numbers[24];
     struct reply r;
-    int code = !o->slots ? OPEN_EXISTING : o->wide ? OPEN_WIDE : OPEN_NARROW;
-    size_t size = o->slots ? sizeof numbers : 0;
-    put_number(numbers, o->places, 8);
-    put_number(numbers + 8, o->window, 8);
+    int code = !o->slots ? OPEN_EXISTING : o->lines ? OPEN_LARGE : o->wide ? OPEN_WIDE : OPEN_NARROW;
+    size_t size = 0, numbered = code == OPEN_LARGE ? 8 : 0;
+    put_number(numbers, o->lines, 8);
+    put_number(numbers + numbered, o->places, 8);
+    put_number(numbers + numbered + 8, o->window, 8);
+    if (o->slots) size = numbered + 16;
     await_not(&control->turn, PROGRAM, 0);
     begin_batch(control);
     ask(control, code, o->channels, o->slots, numbers, size);

@@ -173,6 +173,13 @@ class Tests(unittest.TestCase):
             store[1, 1] = bytes(96)
         with nipamast.open(str(self.path)) as store:
             self.assertEqual((store[1, 1], store.status().row_limit), (bytes(96), 96))
+        self.path.unlink()
+        with self.open(slots=64, lines=8) as store:
+            store[1, 1] = bytes(480)
+            with self.assertRaises(nipamast.RowTooLong):
+                store[1, 2] = bytes(481)
+        with nipamast.open(str(self.path)) as store:
+            self.assertEqual((store[1, 1], store.status().row_limit), (bytes(480), 480))
 
     def test_the_command(self):
         def command(*words):

@@ -9,7 +9,8 @@
         for key, row in store.scan(1):
             print(key, row)
 
-A row is bytes, up to 32 of them (up to 96 in a store that was made wide). Its key is a table (0 to 65535) and a number of 64 bits.
+A row is bytes, up to 32 of them (up to 96 in a store that was made wide, and up to 480 in one that was made with 8 lines). Its key is
+a table (0 to 65535) and a number of 64 bits.
 When a commit has returned, its rows are in the file, whatever stops afterwards. A transaction sees one instant. If two write the same
 key, the first to commit wins; the other raises `Conflict`, and `Store.transact` begins it again.
 
@@ -39,13 +40,13 @@ GREATEST_KEY = 2**64 - 1
 
 _lib = ctypes.CDLL(os.environ.get("NIPAMAST_LIBRARY") or os.path.join(os.path.dirname(__file__), "libnipamast.so"))
 
-_LONGEST_ROW = 96
+_LONGEST_ROW = 480
 
 
 class _Options(ctypes.Structure):
     _fields_ = [
         ("size", c_uint32), ("slots", c_uint32), ("places", c_uint16), ("window", c_uint16), ("wide", c_uint8), ("channels", c_uint8),
-        ("calls", c_uint8), ("reserved", c_uint8),
+        ("calls", c_uint8), ("lines", c_uint8),
     ]
 
 
@@ -467,18 +468,22 @@ class Store:
 
 
 def open(
-    path: Path, *, slots: Optional[int] = None, wide: bool = False, places: int = 2, window: int = 1024, channels: int = 32,
-    create: bool = True, by_stack: bool = False,
+    path: Path, *, slots: Optional[int] = None, wide: bool = False, lines: int = 0, places: int = 2, window: int = 1024,
+    channels: int = 32, create: bool = True, by_stack: bool = False,
 ) -> Store:
     """Opens the store in this file.
 
     Without `slots` it is opened with the layout that it has. If the file is missing or empty, a store of 65,536 rows of up to 32 bytes is
     made there, unless `create` is false. With `slots`, and the numbers that go with it, the store has to have this layout, or is made.
+    With `lines`, 1 to 8, it is a large one: of up to 16,777,216 slots, and rows of up to 64 * lines - 32 bytes.
 
     `channels` is how many transactions may be open at once, 1 to 62: as many commits share a sync at most. `by_stack` makes calls far
     faster, as nipamast.h explains.
     """
-    numbers = (("slots", 1 if slots is None else slots, 65_536), ("places", places, 64), ("window", window, 1_024), ("channels", channels, 62))
+    numbers = (
+        ("slots", 1 if slots is None else slots, 16_777_216 if lines else 65_536), ("lines", lines or 1, 8), ("places", places, 64),
+        ("window", window, 1_024), ("channels", channels, 62),
+    )
     for what, number, most in numbers:
         if not 1 <= number <= most:
             raise ValueError(f"{what} is 1 to {most}, not {number}")
@@ -494,6 +499,6 @@ def open(
         if code not in (10, 16) or not create:
             _must(code)
             return Store(handle)
-    asked.slots, asked.places, asked.window, asked.wide = slots or 65_536, places, window, wide
+    asked.slots, asked.places, asked.window, asked.wide, asked.lines = slots or 65_536, places, window, wide, lines
     _must(_open(name, byref(asked), byref(handle)))
     return Store(handle)

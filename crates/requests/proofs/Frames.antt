@@ -6,7 +6,7 @@ use Rattle.std.proofs.KnownBytes.{Consumes-trans}
 use Rattle.requests.specs.declared.head.Head.{Head}
 use Rattle.requests.specs.declared.request.Received.{Received}
 use Rattle.requests.specs.declared.request.Received.TheVariants.{Request, Other, End}
-use Rattle.requests.specs.Frames.{head_bytes, request_bytes, request_head, request_payload, IsHead, Receives, ReceivesAfter}
+use Rattle.requests.specs.Frames.{head_bytes, request_bytes, request_head, IsHead, Receives, ReceivesAfter}
 
 pub receives-frame : (head : Head) (old mid new : Option (List ℕ)) (received : Received) → IsHead head → Consumes old mid (head_bytes head) → ReceivesAfter head mid new received
     → Receives old new received

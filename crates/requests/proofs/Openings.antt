@@ -1,5 +1,5 @@
 -- The parts of a request to open a store.
-use Rattle.std.proofs.Common.{◌≡◌, ℕ, ◌+◌, List, ◌++◌, length, drop, Some, None, inl, inr, refl, sym, ap, ◌∙◌, subst, arith}
+use Rattle.std.proofs.Common.{◌≡◌, ℕ, List, ◌++◌, length, drop, Some, None, inl, inr, refl, sym, ap, ◌∙◌, subst, arith}
 use Rattle.std.specs.Prelude.{Option, Result, Ok, Err, IfOk, IsUtf8}
 use Rattle.std.specs.String.{string_bytes}
 use Rattle.std.specs.Io.KnownBytes.{Consumes}
@@ -9,15 +9,14 @@ use Rattle.std.proofs.lemmas.Str.{IsUtf8-string_bytes}
 use Rattle.byteorder.specs.Endian.{little_bytes}
 use Rattle.requests.specs.declared.head.Head.{Head}
 use Rattle.requests.specs.declared.opening.AskedLayout.{AskedLayout}
-use Rattle.requests.specs.declared.opening.AskedLayout.TheVariants.{Existing, Narrow, Wide}
+use Rattle.requests.specs.declared.opening.AskedLayout.TheVariants.{Existing, Narrow, Wide, Large}
 use Rattle.requests.specs.declared.opening.Opening.{Opening}
 use Rattle.requests.specs.Frames.{head_bytes, IsHead}
-use Rattle.requests.specs.Openings.{asked_bytes, asked_head, opening_bytes, opening_head, opening_payload, IsOpeningOf, ReceivesName, ReceivesOpening}
+use Rattle.requests.specs.Openings.{asked_bytes, asked_head, opening_bytes, opening_head, IsOpeningOf, ReceivesName, ReceivesOpening}
 
 -- behind the numbers of one layout and of another there is the same name
-same-behind : (a b c d name other : List ℕ) → length (a ++ b) ≡ 16 → length (c ++ d) ≡ 16 → (a ++ b) ++ name ≡ (c ++ d) ++ other → name ≡ other
-same-behind a b c d name other one two same =
-    sym (drop_at (a ++ b) name 16 one) ∙ ap (drop 16) same ∙ drop_at (c ++ d) other 16 two
+same-behind : (size : ℕ) (one two name other : List ℕ) → length one ≡ size → length two ≡ size → one ++ name ≡ two ++ other → name ≡ other
+same-behind size one two name other first second same = sym (drop_at one name size first) ∙ ap (drop size) same ∙ drop_at two other size second
 
 -- a head and a payload make one layout before one name
 pub same-name : (head : Head) (one two : AskedLayout) (name other : List ℕ) → asked_head one (length name) head.table ≡ head → asked_head two (length other) head.table ≡ head
@@ -25,19 +24,28 @@ pub same-name : (head : Head) (one two : AskedLayout) (name other : List ℕ) �
 same-name head Existing Existing name other first second same = same
 same-name head Existing (Narrow n) name other first second same = absurd (omega (arith, ap (λ (h : Head). h.code) (first ∙ sym second)))
 same-name head Existing (Wide n) name other first second same = absurd (omega (arith, ap (λ (h : Head). h.code) (first ∙ sym second)))
+same-name head Existing (Large l n) name other first second same = absurd (omega (arith, ap (λ (h : Head). h.code) (first ∙ sym second)))
 same-name head (Narrow m) Existing name other first second same = absurd (omega (arith, ap (λ (h : Head). h.code) (first ∙ sym second)))
 same-name head (Narrow m) (Narrow n) name other first second same =
-    same-behind (little_bytes 8 m.places) (little_bytes 8 m.window) (little_bytes 8 n.places) (little_bytes 8 n.window) name other refl refl same
+    same-behind 16 (little_bytes 8 m.places ++ little_bytes 8 m.window) (little_bytes 8 n.places ++ little_bytes 8 n.window) name other refl refl same
 same-name head (Narrow m) (Wide n) name other first second same = absurd (omega (arith, ap (λ (h : Head). h.code) (first ∙ sym second)))
+same-name head (Narrow m) (Large l n) name other first second same = absurd (omega (arith, ap (λ (h : Head). h.code) (first ∙ sym second)))
 same-name head (Wide m) Existing name other first second same = absurd (omega (arith, ap (λ (h : Head). h.code) (first ∙ sym second)))
 same-name head (Wide m) (Narrow n) name other first second same = absurd (omega (arith, ap (λ (h : Head). h.code) (first ∙ sym second)))
 same-name head (Wide m) (Wide n) name other first second same =
-    same-behind (little_bytes 8 m.places) (little_bytes 8 m.window) (little_bytes 8 n.places) (little_bytes 8 n.window) name other refl refl same
+    same-behind 16 (little_bytes 8 m.places ++ little_bytes 8 m.window) (little_bytes 8 n.places ++ little_bytes 8 n.window) name other refl refl same
+same-name head (Wide m) (Large l n) name other first second same = absurd (omega (arith, ap (λ (h : Head). h.code) (first ∙ sym second)))
+same-name head (Large k m) Existing name other first second same = absurd (omega (arith, ap (λ (h : Head). h.code) (first ∙ sym second)))
+same-name head (Large k m) (Narrow n) name other first second same = absurd (omega (arith, ap (λ (h : Head). h.code) (first ∙ sym second)))
+same-name head (Large k m) (Wide n) name other first second same = absurd (omega (arith, ap (λ (h : Head). h.code) (first ∙ sym second)))
+same-name head (Large k m) (Large l n) name other first second same =
+    same-behind 24 (little_bytes 8 k ++ (little_bytes 8 m.places ++ little_bytes 8 m.window)) (little_bytes 8 l ++ (little_bytes 8 n.places ++ little_bytes 8 n.window)) name other refl refl same
 
 table-of : (layout : AskedLayout) (size channels : ℕ) → (asked_head layout size channels).table ≡ channels
 table-of Existing size channels = refl
 table-of (Narrow n) size channels = refl
 table-of (Wide n) size channels = refl
+table-of (Large lines n) size channels = refl
 
 -- if the name isn't text, the frame isn't that of a request
 pub no-text : (head : Head) (payload : List ℕ) (layout : AskedLayout) (name : List ℕ) → asked_head layout (length name) head.table ≡ head → asked_bytes layout ++ name ≡ payload

@@ -1,5 +1,5 @@
 -- The bytes of heads, requests and replies.
-use Rattle.std.specs.Prelude.{◌≡◌, ◌≢◌, ◌⊎◌, ◌<◌, ◌≤◌, ◌^◌, ℕ, List, [], ◌∷◌, ◌++◌, length, flat_map, Bool, true, false, Option, Some, None}
+use Rattle.std.specs.Prelude.{◌≡◌, ◌≢◌, ◌⊎◌, ◌<◌, ◌≤◌, ◌^◌, ℕ, List, [], ◌++◌, length, flat_map, Bool, true, false, Option, Some, None}
 use Rattle.std.specs.Io.KnownBytes.{Appends, Consumes, IsAtEnd}
 use Rattle.std.specs.String.{string_bytes}
 use Rattle.base.specs.declared.key.Key.{Key}
@@ -7,7 +7,6 @@ use Rattle.byteorder.specs.Endian.{little_bytes}
 use Rattle.requests.specs.declared.answer.Answer.{Answer}
 use Rattle.requests.specs.declared.answer.Answer.TheVariants as answer
 use Rattle.requests.specs.declared.head.Head.{Head}
-use Rattle.requests.specs.declared.request.KeyRange.{KeyRange}
 use Rattle.requests.specs.declared.request.Received.{Received}
 use Rattle.requests.specs.declared.request.Received.TheVariants as received
 use Rattle.requests.specs.declared.request.Request.{Request}
@@ -86,13 +85,13 @@ IsPlainRequest code None = (code ≢ 1) × (code ≢ 5) × (code ≢ 6) × (code
 abbrev pub ReceivesAfter : Head → Option (List ℕ) → Option (List ℕ) → Received → Type 0
 ReceivesAfter head old new (received.Request request) = (payload : List ℕ) × Consumes old new payload × (length payload ≡ head.length) × IsRequestOf head payload (Some request)
 ReceivesAfter head old new received.Other = (payload : List ℕ) × Consumes old new payload × (length payload ≡ head.length) × IsRequestOf head payload None
-ReceivesAfter head old new received.End = (rest : List ℕ) × Consumes old new rest × (length rest < head.length) × (head.length ≤ 96) × IsAtEnd new
+ReceivesAfter head old new received.End = (rest : List ℕ) × Consumes old new rest × (length rest < head.length) × (head.length ≤ 480) × IsAtEnd new
 
 -- what was taken off the input: the frame of a request, one that isn't a request's, or less than a frame
 abbrev pub Receives : Option (List ℕ) → Option (List ℕ) → Received → Type 0
 Receives old new (received.Request request) = Consumes old new (request_bytes request)
 Receives old new received.Other = (frame : List ℕ) × Consumes old new frame × IsOtherFrame frame
-Receives old new received.End = (rest : List ℕ) × Consumes old new rest × IsCutOff 96 rest × IsAtEnd new
+Receives old new received.End = (rest : List ℕ) × Consumes old new rest × IsCutOff 480 rest × IsAtEnd new
 
 -- ---- replies
 

@@ -15,12 +15,14 @@ abbrev pub asked_head : AskedLayout → ℕ → ℕ → Head
 asked_head layout.Existing size channels = record { length = size; code = 10; table = channels; number = 0 }
 asked_head (layout.Narrow numbers) size channels = record { length = 16 + size; code = 11; table = channels; number = numbers.slots }
 asked_head (layout.Wide numbers) size channels = record { length = 16 + size; code = 12; table = channels; number = numbers.slots }
+asked_head (layout.Large lines numbers) size channels = record { length = 24 + size; code = 13; table = channels; number = numbers.slots }
 
 -- what comes before the name
 abbrev pub asked_bytes : AskedLayout → List ℕ
 asked_bytes layout.Existing = []
 asked_bytes (layout.Narrow numbers) = little_bytes 8 numbers.places ++ little_bytes 8 numbers.window
 asked_bytes (layout.Wide numbers) = little_bytes 8 numbers.places ++ little_bytes 8 numbers.window
+asked_bytes (layout.Large lines numbers) = little_bytes 8 lines ++ (little_bytes 8 numbers.places ++ little_bytes 8 numbers.window)
 
 -- the head of the request
 abbrev pub opening_head : Opening → Head
@@ -33,6 +35,11 @@ opening_payload opening = asked_bytes opening.layout ++ string_bytes opening.nam
 -- the frame of the request
 abbrev pub opening_bytes : Opening → List ℕ
 opening_bytes opening = head_bytes (opening_head opening) ++ opening_payload opening
+
+-- the payload is the number of a slot's lines, and then the rest; or it is shorter than that number
+abbrev pub IsLinesOf : List ℕ → Option (ℕ × List ℕ) → Type 0
+IsLinesOf payload (Some split) = little_bytes 8 split.0 ++ split.1 ≡ payload
+IsLinesOf payload None = length payload < 8
 
 -- the payload is the numbers of a layout, and then a name; or it is shorter than these numbers
 abbrev pub IsNumbersOf : Head → List ℕ → Option (Numbers × List ℕ) → Type 0
@@ -54,7 +61,7 @@ abbrev pub ReceivesName : Head → Option (List ℕ) → Option (List ℕ) → O
 ReceivesName head old new (Some opening) = (payload : List ℕ) × Consumes old new payload × (length payload ≡ head.length) × IsOpeningOf head payload (Some opening)
 ReceivesName head old new None =
     ((payload : List ℕ) × Consumes old new payload × (length payload ≡ head.length) × IsOpeningOf head payload None)
-    ⊎ ((rest : List ℕ) × Consumes old new rest × (length rest < head.length) × (head.length ≤ 4112) × IsAtEnd new)
+    ⊎ ((rest : List ℕ) × Consumes old new rest × (length rest < head.length) × (head.length ≤ 4120) × IsAtEnd new)
 
 -- a whole frame that isn't that of a request to open a store
 abbrev pub IsNoOpening : List ℕ → Type 0
@@ -64,4 +71,4 @@ IsNoOpening frame = (head : Head) × (payload : List ℕ) × IsHead head × (fra
 abbrev pub ReceivesOpening : Option (List ℕ) → Option (List ℕ) → Option Opening → Type 0
 ReceivesOpening old new (Some opening) = Consumes old new (opening_bytes opening)
 ReceivesOpening old new None =
-    ((frame : List ℕ) × Consumes old new frame × IsNoOpening frame) ⊎ ((rest : List ℕ) × Consumes old new rest × IsCutOff 4112 rest × IsAtEnd new)
+    ((frame : List ℕ) × Consumes old new frame × IsNoOpening frame) ⊎ ((rest : List ℕ) × Consumes old new rest × IsCutOff 4120 rest × IsAtEnd new)

@@ -1,5 +1,5 @@
 ghost use Rattle.std.specs.Prelude.{◌≡◌, ◌≤◌, length, option_map, IfOk};
-ghost use Rattle.requests.specs.Openings.{IsNumbersOf, IsOpeningOf, IsSplitOf, ReceivesName, ReceivesOpening};
+ghost use Rattle.requests.specs.Openings.{IsLinesOf, IsNumbersOf, IsOpeningOf, IsSplitOf, ReceivesName, ReceivesOpening};
 
 use crate::head::{Head, fill};
 use byteorder::{ByteOrder, LittleEndian};
@@ -13,7 +13,12 @@ const NARROW: u16 = 11;
 
 const WIDE: u16 = 12;
 
-// How many bytes the numbers of a layout have before the name.
+const LARGE: u16 = 13;
+
+// How many bytes the number of lines has before the other numbers of a layout.
+const LINES: usize = 8;
+
+// How many bytes the places and the window have before the name.
 const NUMBERS: usize = 16;
 
 /// The numbers of a layout that is asked for.
@@ -33,6 +38,8 @@ pub enum AskedLayout {
     Narrow(Numbers),
     /// With these numbers, and rows of up to 96 bytes.
     Wide(Numbers),
+    /// Of version 4, with slots of this many lines.
+    Large(u64, Numbers),
 }
 
 /// What the first frame of channel 0 asks: to open the store in the file of this name, and to serve this many channels.
@@ -67,7 +74,7 @@ fn receive_name<R: Read>(alloc: Global, input: &mut R, head: &Head) -> io::Resul
     ensures { IfOk result (ReceivesName head.now (R.remaining input.old) (R.remaining input.new)) }
 {
     let length = head.length as usize;
-    if length > NUMBERS + Opening::LONGEST_NAME {
+    if length > LINES + NUMBERS + Opening::LONGEST_NAME {
         return Err(io::Error::from(ErrorKind::InvalidData));
     }
     let mut payload = Vec::new(alloc);
@@ -111,8 +118,21 @@ fn layout_and_name<'a>(head: &Head, payload: &'a [u8]) -> Option<(AskedLayout, &
             let (numbers, name) = numbers_and_name(head, payload)?;
             Some((AskedLayout::Wide(numbers), name))
         }
+        LARGE => {
+            let (lines, rest) = lines_and_rest(payload)?;
+            let (numbers, name) = numbers_and_name(head, rest)?;
+            Some((AskedLayout::Large(lines, numbers), name))
+        }
         _ => None,
     }
+}
+
+// How many lines a slot is to have, and the bytes behind that.
+fn lines_and_rest<'a>(payload: &'a [u8]) -> Option<(u64, &'a [u8])>
+    ensures { IsLinesOf payload.now (option_map (λ split. (split.0, split.1.now)) result) }
+{
+    let (lines, rest) = payload.split_at_checked(LINES)?;
+    Some((LittleEndian::read_u64(lines), rest))
 }
 
 // The numbers of a layout, and the bytes of the name.

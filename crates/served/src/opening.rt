@@ -51,6 +51,12 @@ fn open_store<R: Files<File = File> + Threads + Wait + Copy + Drop + Send + Sync
         AskedLayout::Existing => return Store::open_existing(*rt, alloc, name),
         AskedLayout::Narrow(asked) => Geometry::new(asked.slots, asked.places, asked.window)?,
         AskedLayout::Wide(asked) => Geometry::wide(asked.slots, asked.places, asked.window)?,
+        AskedLayout::Large(lines, asked) => Geometry::large(
+            lines,
+            asked.slots,
+            asked.places,
+            asked.window,
+        )?,
     };
     Store::open(*rt, alloc, name, geometry)
 }

@@ -4,6 +4,7 @@ use base::fault::Fault;
 use base::key::Key;
 use base::row::Row;
 use pmem::Pmem;
+use version_slot::Slot;
 
 impl Sessions {
     ghost use Rattle.base.specs.declared.step.SessionStep.TheVariants.{Get};
@@ -25,13 +26,13 @@ impl Sessions {
             Some(write) => Ok(write.row),
             None => {
                 let geometry = self.numbers.geometry;
-                let mut row = Row::new(&[]).unwrap();
+                let mut held = Slot::empty();
                 let snapshot = active.snapshot;
                 match self
                     .index
-                    .walk_into(device, geometry, key, snapshot, &mut row)
+                    .walk_into(device, geometry, key, snapshot, &mut held)
                 {
-                    Some(_) => Ok(Some(row)),
+                    Some(_) => Ok(Some(held.version.row)),
                     None => Ok(None),
                 }
             }

@@ -1,4 +1,3 @@
-use Rattle.std.proofs.Common.{rules}
 use Rattle.requests.proofs.Openings.{no-text}
 use Rattle.requests.proofs.opening.opening_of.Goals as goal
 

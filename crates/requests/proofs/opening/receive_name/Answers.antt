@@ -1,8 +1,7 @@
-use Rattle.std.proofs.Common.{◌≡◌, List, length, take_all, Bool, true, rules, sym, ◌∙◌, subst}
+use Rattle.std.proofs.Common.{◌≡◌, length, take_all, Bool, true, rules, sym, ◌∙◌, subst}
 use Rattle.std.proofs.lemmas.List.{take-append-le}
 use Rattle.std.specs.Io.KnownBytes.{Consumes}
 use Rattle.requests.specs.Frames.{Fills}
-use Rattle.requests.specs.Openings.{IsOpeningOf}
 use Rattle.requests.proofs.Openings.{receives-whole}
 use Rattle.requests.proofs.opening.receive_name.Goals as goal
 

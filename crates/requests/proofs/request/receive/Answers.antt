@@ -1,4 +1,4 @@
-use Rattle.std.proofs.Common.{◌≡◌, List, Bool, true, rules, subst, sym}
+use Rattle.std.proofs.Common.{◌≡◌, Bool, true, rules, subst, sym}
 use Rattle.std.specs.Io.KnownBytes.{Consumes}
 use Rattle.requests.specs.Frames.{Fills}
 use Rattle.requests.proofs.Frames.{receives-frame-ok}
