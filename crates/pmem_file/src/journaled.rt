@@ -148,8 +148,7 @@ impl<I: Images> JournaledPmem<I> {
     }
 
     // A store that may be the first to its line since an image was written, or of a gate. It is refused if there is no memory, and if
-    // a formatted image would name other places. One of the value that the word has changes no line. Returns whether it was made: a
-    // result would need a place in memory at each store.
+    // a formatted image would name other places. Returns whether it was made: a result would need a place in memory at each store.
     #[cold]
     #[inline(never)]
     fn store_first(&mut self, word: usize, value: u64) -> bool
@@ -439,6 +438,9 @@ fn note_gate(stored: &mut bool, unwritten: &mut bool, places: usize, word: usize
 fn note_flushed(flushed: &mut Vec<Flushed>, places: usize, one: Flushed) -> bool
     ensures noted { result ≡ true → flushed.new.items ≡ with_flushed places one flushed.old.items }
     ensures refused { result ≡ false → flushed.new.items ≡ flushed.old.items }
+
+    // Only a line with a gate may be refused.
+    ensures plain { is_gate_line places one.line ≡ false → result ≡ true }
 {
     if is_gate_line(places, one.line) {
         return flushed.push(one).is_ok();
@@ -480,6 +482,11 @@ impl<I: Images> Pmem for JournaledPmem<I> {
     fn store(&mut self, word: usize, value: u64) -> Result<(), Fault> {
         if self.changed.has_plain(word / 8) {
             self.words[word] = value;
+            self.trace.note(Operation::Store { word, value });
+            return Ok(());
+        }
+        if self.words[word] == value {
+            // It changes no line, and no gate. Most words of a record are 0 as before.
             self.trace.note(Operation::Store { word, value });
             return Ok(());
         }
