@@ -10,6 +10,8 @@ use crate::database::Report;
 use base::Ts;
 use base::fault::Fault;
 use base::geometry::Geometry;
+use base::key::Key;
+use base::row::Row;
 use base::step::Step;
 use history::{Front, Log, Origin};
 use pmem::Pmem;
@@ -75,7 +77,7 @@ impl<D: Pmem + Drop, J: Origin> OpenedRoom<D, J> {
     {
         let returned = self.room.advance();
         self.ended = ended_by(&returned, self.ended);
-        note(&mut self.log, &returned, &Step::Commit);
+        note_tick(&mut self.log, &returned);
         returned
     }
 
@@ -88,7 +90,7 @@ impl<D: Pmem + Drop, J: Origin> OpenedRoom<D, J> {
         ensures log { LogsQuiet self.old.log self.new.log }
     {
         let returned = self.room.collect();
-        note(&mut self.log, &returned, &Step::Collect);
+        note_visit(&mut self.log, &returned);
         returned
     }
 
@@ -174,7 +176,7 @@ impl<D: Pmem + Drop, J: Origin> OpenedRoom<D, J> {
 
 ghost use Rattle.std.specs.Prelude.{◌≡◌, ◌≢◌, ◌⊎◌, ◌∷◌, [], Some, Err, is_ok, replicate};
 ghost use Rattle.base.specs.declared.fault.Fault.TheVariants.{OutOfMemory};
-ghost use Rattle.base.specs.declared.step.Step.TheVariants.{Collect};
+ghost use Rattle.base.specs.declared.step.Step.TheVariants.{Commit, Collect, Put};
 ghost use Rattle.database.specs.Histories.{Logs, made_if};
 
 /// Adds a step to the history if it was made, and if one is kept.
@@ -184,6 +186,43 @@ pub fn note<J: Origin, T>(log: &mut Option<Log<J>>, returned: &Result<T, Fault>,
 {
     if returned.is_ok() {
         add(log, step);
+    }
+}
+
+// Adds a tick, likewise. Most steps are ticks, and a step has room for a row: it is made only if a history is kept.
+#[inline(always)]
+fn note_tick<J: Origin>(log: &mut Option<Log<J>>, returned: &Result<Tick, Fault>)
+    ensures { Logs (made_if (is_ok returned.now) Commit) log.old log.new }
+{
+    if log.is_some() {
+        note(log, returned, &Step::Commit);
+    }
+}
+
+// Adds a visit of the collector, likewise.
+#[inline(always)]
+fn note_visit<J: Origin>(log: &mut Option<Log<J>>, returned: &Result<Visit, Fault>)
+    ensures { Logs (made_if (is_ok returned.now) Collect) log.old log.new }
+{
+    if log.is_some() {
+        note(log, returned, &Step::Collect);
+    }
+}
+
+/// Adds a put, likewise.
+#[inline(always)]
+pub fn note_put<J: Origin>(
+    log: &mut Option<Log<J>>,
+    returned: &Result<(), Fault>,
+    session: u8,
+    key: Key,
+    row: &Row,
+)
+    ensures { Logs (made_if (is_ok returned.now) (Put session key row.now)) log.old log.new }
+{
+    if log.is_some() {
+        let row = *row;
+        note(log, returned, &Step::Put { session, key, row });
     }
 }
 

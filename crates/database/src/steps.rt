@@ -10,7 +10,7 @@ ghost use Rattle.database.specs.Replies.{began_of, row_of, rows_of, done_of, dra
 ghost use Rattle.database.specs.Obeys.{Obeys, RepeatsTimes};
 ghost use Rattle.database.specs.Histories.{Logs, LogsQuiet, made_if, DrewNext, TookFree};
 
-use crate::opened::{OpenedRoom, note};
+use crate::opened::{OpenedRoom, note, note_put};
 use base::Ts;
 use base::fault::Fault;
 use base::key::Key;
@@ -73,7 +73,7 @@ pub fn put<D: Pmem + Drop, J: Origin>(
     ensures log { Logs (made_if (is_ok result) (Put session key row)) room.old.log room.new.log }
 {
     let returned = room.room.put(session, key, row);
-    note(&mut room.log, &returned, &Step::Put { session, key, row });
+    note_put(&mut room.log, &returned, session, key, &row);
     returned
 }
 
