@@ -31,7 +31,7 @@
 
 /* The numbers of docs/FORMATS.md. */
 enum { BEGIN = 1, GET, PUT, DELETE, COMMIT, ABORT, FIRST, LAST, STATUS, OPEN_EXISTING, OPEN_NARROW, OPEN_WIDE, OPEN_LARGE };
-enum { HEAD = 16, ROW = 96, NUMBERS = 7, LONGEST_PATH = 4096 };
+enum { HEAD = 16, ROW = 480, NUMBERS = 7, LONGEST_PATH = 4096 };
 
 /* How many stores may be open, how many channels each has at most with the one of number 0, and how many cursors there are. */
 enum { STORES = 64, CHANNELS = 63, CURSORS = 1024 };
@@ -632,7 +632,7 @@ size_t nipamast_errmsg(char *text, size_t size) {
 
 static int are_options(const nipamast_options *o) {
     return o->size == sizeof *o && o->channels >= 1 && o->channels < CHANNELS && o->wide <= 1
-        && o->lines <= 2 && !(o->wide && o->lines)
+        && o->lines <= 8 && !(o->wide && o->lines)
         && (o->calls == NIPAMAST_BY_THREAD || (o->calls == NIPAMAST_BY_STACK && HAS_STACKS));
 }
 

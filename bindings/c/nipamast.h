@@ -4,8 +4,8 @@
  * wasn't acknowledged is kept whole or not at all. A transaction sees one instant (snapshot isolation). If two write the same key, the
  * first to commit wins; the other gets NIPAMAST_CONFLICT and begins again.
  *
- * A row is 0 to 32 bytes, or up to 96 in a store that was made wide, or with two lines. Its key is a table (0 to 65535) and a
- * number of 64 bits.
+ * A row is 0 to 32 bytes, or up to 96 in a store that was made wide, and up to 480 in one that was made with 8 lines. Its key is a
+ * table (0 to 65535) and a number of 64 bits.
  *
  * Handles. A `nipamast_store *`, `nipamast_txn *` or `nipamast_rows *` is a name and not an address: nothing is read or written
  * there. A handle that is null, closed, of another kind or made up returns NIPAMAST_MISUSE and does no harm. A handle isn't used
@@ -103,7 +103,7 @@ typedef struct nipamast_options {
     uint8_t wide;        /* 1: rows of up to 96 bytes; 0: of up to 32 */
     uint8_t channels;    /* transactions that may be open at once, and calls without one: 1 to 62. As many commits share a sync at most */
     uint8_t calls;       /* NIPAMAST_BY_THREAD or NIPAMAST_BY_STACK */
-    uint8_t lines;       /* 1: rows of up to 32 bytes, and 2: of up to 96, in a store of version 4; 0: as `wide` says, else `wide` is 0 */
+    uint8_t lines;       /* 0: as `wide` says; 1 to 8, with `wide` 0: rows of up to 64 * lines - 32 bytes, in a store of version 4 */
 } nipamast_options;
 
 /* The standard layout: the file then has 4 MB. */
@@ -189,7 +189,7 @@ NIPAMAST_API int nipamast_transact(nipamast_store *store, unsigned tries, nipama
 
 typedef struct nipamast_status {
     uint32_t size;            /* set by the caller to sizeof(nipamast_status) */
-    uint32_t row_limit;       /* 32 or 96 */
+    uint32_t row_limit;       /* 32, and 64 more for each further line of a slot */
     uint64_t slots, free;     /* slots in all, and those that hold no version */
     uint64_t rows, versions;  /* rows that are committed, and versions in the file */
     uint64_t persisted, left; /* the newest timestamp that is durable, and how many commits may still be made */

@@ -125,8 +125,8 @@ static void a_transaction_sees_its_writes_and_one_instant(void) {
 }
 
 static void rows_have_their_lengths(void) {
-    char row[97], found[96];
-    size_t length = 96;
+    char row[481], found[480];
+    size_t length = 480;
     memset(row, 'r', sizeof row);
     nipamast_store *s = fresh(64, 2);
     nipamast_txn *t;
@@ -134,7 +134,7 @@ static void rows_have_their_lengths(void) {
     OK(put_one(s, 2, "", 0));
     IS(put_one(s, 3, row, 33), NIPAMAST_ROW_TOO_LONG);
     EXPECT(text_has("32"));
-    IS(put_one(s, 3, row, 97), NIPAMAST_ROW_TOO_LONG);
+    IS(put_one(s, 3, row, 481), NIPAMAST_ROW_TOO_LONG);
     EXPECT(text_has("too long"));
     OK(nipamast_begin(s, &t));
     IS(nipamast_put(t, 1, 3, row, 33), NIPAMAST_ROW_TOO_LONG);
@@ -162,13 +162,17 @@ static void rows_have_their_lengths(void) {
     EXPECT(status.row_limit == 96 && status.slots == 64 && status.rows == 1 && status.free == 63 && status.versions == 1 && status.persisted == 1);
     OK(nipamast_close(s));
     o.wide = 0;
-    o.lines = 2;
+    o.lines = 8;
     o.slots = 65600;
     unlink(path);
     OK(nipamast_open(path, &o, &s));
-    OK(put_one(s, 1, row, 96));
+    OK(put_one(s, 1, row, 480));
+    IS(put_one(s, 1, row, 481), NIPAMAST_ROW_TOO_LONG);
+    length = 480;
+    OK(nipamast_read(s, 1, 1, found, &length));
+    EXPECT(length == 480 && !memcmp(row, found, 480));
     OK(nipamast_stat(s, &status));
-    EXPECT(status.row_limit == 96 && status.slots == 65600);
+    EXPECT(status.row_limit == 480 && status.slots == 65600);
     OK(nipamast_close(s));
 }
 
@@ -196,7 +200,7 @@ static void many_writes_are_kept_together_or_not_at_all(void) {
 
 static void a_row_is_written_or_deleted_by_one_call(void) {
     nipamast_store *s = fresh(64, 2);
-    char row[97] = { 0 };
+    char row[481] = { 0 };
     uint64_t at = 0;
     OK(nipamast_write_row(s, 1, 5, "row", 3, &at));
     EXPECT(at == 1 && has(s, 5, "row"));
@@ -205,7 +209,7 @@ static void a_row_is_written_or_deleted_by_one_call(void) {
     IS(nipamast_write_row(s, 1, 5, row, 33, &at), NIPAMAST_ROW_TOO_LONG);
     EXPECT(!at && has(s, 5, "row"));
     at = 7;
-    IS(nipamast_write_row(s, 1, 5, row, 97, &at), NIPAMAST_ROW_TOO_LONG);
+    IS(nipamast_write_row(s, 1, 5, row, 481, &at), NIPAMAST_ROW_TOO_LONG);
     IS(nipamast_write_row(s, 1, 5, row, (size_t)1 << 32, &at), NIPAMAST_ROW_TOO_LONG);
     EXPECT(at == 7 && has(s, 5, "row"));
     OK(nipamast_write_row(s, 1, 5, NULL, 0, &at));
@@ -451,7 +455,7 @@ static void null_pointers_and_wrong_numbers_are_refused(void) {
     bad = o; bad.channels = 63; MISUSED(nipamast_open(path, &bad, &other));
     bad = o; bad.wide = 2; MISUSED(nipamast_open(path, &bad, &other));
     bad = o; bad.calls = 2; MISUSED(nipamast_open(path, &bad, &other));
-    bad = o; bad.lines = 3; MISUSED(nipamast_open(path, &bad, &other));
+    bad = o; bad.lines = 9; MISUSED(nipamast_open(path, &bad, &other));
     bad = o; bad.lines = 2; bad.wide = 1; MISUSED(nipamast_open(path, &bad, &other));
     for (int i = 0; i < 4; i++) {
         bad = o;

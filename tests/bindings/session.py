@@ -33,7 +33,7 @@ def span(greatest, limit):
     return struct.pack("<QQ", greatest, limit)
 
 
-TOO_LONG = b"the row has more than 32 bytes: shorten it (a store of `Geometry::wide` takes up to 96)"
+TOO_LONG = b"the row has more than 32 bytes: shorten it (a store of `Geometry::large` with 8 lines takes up to 480)"
 # Two rows, so 14 slots are free; commit 1 persists, the next timestamp is 2, and 2 * 64 are kept back of 2 ** 62.
 NUMBERS = (32, 16, 14, 2, 2, 1, 2**62 - (2 + 2 * 64))
 

@@ -174,10 +174,12 @@ class Tests(unittest.TestCase):
         with nipamast.open(str(self.path)) as store:
             self.assertEqual((store[1, 1], store.status().row_limit), (bytes(96), 96))
         self.path.unlink()
-        with self.open(slots=65_600, lines=2) as store:
-            store[1, 1] = bytes(96)
+        with self.open(slots=65_600, lines=8) as store:
+            store[1, 1] = bytes(480)
+            with self.assertRaises(nipamast.RowTooLong):
+                store[1, 2] = bytes(481)
         with nipamast.open(str(self.path)) as store:
-            self.assertEqual((store[1, 1], store.status()[:2]), (bytes(96), (96, 65600)))
+            self.assertEqual((store[1, 1], store.status()[:2]), (bytes(480), (480, 65600)))
 
     def test_the_command(self):
         def command(*words):

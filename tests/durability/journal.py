@@ -14,9 +14,9 @@ def bytes_of(words):
 
 
 def image_bytes(held):
-    """How many bytes the image has, by its superblock: a line, four for each place, and one or two for each slot."""
+    """How many bytes the image has, by its superblock: a line, four for each place, and those of each slot."""
     version, slots, places = struct.unpack_from("<3Q", held, 8)
-    return LINE * (1 + 4 * places + slots * (1 if version in (1, 2, 260) else 2))
+    return LINE * (1 + 4 * places + slots * (version >> 8 or (2 if version == 3 else 1)))
 
 
 def tail_of(held):

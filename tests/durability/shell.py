@@ -255,7 +255,7 @@ def words(kv, folder):
         ('put 1 1 "a\\x"', "put: ROW has an unknown escape"), ("scan", "scan: expected scan TABLE"), ("scan 1 2 3 4", "scan: expected scan TABLE"), ("count", "count: expected count TABLE"),
         ("tables 1", "tables takes no other words"), ("scan 1 --limit x", 'scan: --limit "x" is not a number'), ("put x 1 00", 'put: TABLE "x" is not a number'), ("scan 1 --limit", "scan: expected scan TABLE"),
         ("get 1 18446744073709551616", "get: KEY 18446744073709551616 is greater than 18446744073709551615"), ("del 65536 1", "del: TABLE 65536 is greater than 65535"),
-        ("put 1 1 abc", "put: ROW abc: bytes are two hexadecimal digits each"), ("put 1 1 " + "00" * 97, "put: ROW has 97 bytes: at most 32 are allowed, or 96"),
+        ("put 1 1 abc", "put: ROW abc: bytes are two hexadecimal digits each"), ("put 1 1 " + "00" * 481, "put: ROW has 481 bytes: at most 32 are allowed, or up to 480"),
         ("put 1 1 " + "00" * 33, "a row of this store has at most 32 bytes"), ("help foo", 'help: unknown command "foo"'), ("timing", "timing: expected timing on|off"), ("check", "wbl check FILE"), ("set 1 1 00", 'unknown command "set"'), ("end 3", "end is not a command"),
     ):
         ended = kv_on(kv, file, wrong + "\n")
@@ -270,7 +270,7 @@ def words(kv, folder):
     want(kv_on(kv, larger, "dump\n").output.splitlines()[1:-2] == dumped, "the copy dumps the same")
     ended = kv_on(kv, larger, "put 1 1 " + "ab" * 96 + "\nget 1 1\n")
     want(ended.returncode == 0 and "row " + "ab" * 96 in ended.output, "a wide row", ended)
-    for bad in (["--slots", "0"], ["--slots", "16777217"], ["--lines", "3"], ["--wide", "--lines", "2"], ["--slots"], ["--slots", "x"], ["--places", "1"]):
+    for bad in (["--slots", "0"], ["--slots", "16777217"], ["--lines", "9"], ["--wide", "--lines", "2"], ["--slots"], ["--slots", "x"], ["--places", "1"]):
         ended = subprocess.run([kv, os.path.join(folder, "none.img"), *bad], input=b"", capture_output=True, timeout=20, check=False)
         want(ended.returncode == 2 and not os.path.exists(os.path.join(folder, "none.img")), f"{bad}: {ended.returncode}, {ended.stderr}")
     return "each kind of line answers; what is dumped makes the same store; wrong options make none"

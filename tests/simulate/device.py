@@ -6,7 +6,7 @@ WORDS_OF_A_RECORD = 32
 MOST_GAPS, MOST_LONGS = 8, 12
 LIMIT = 2 ** 62
 # Of each version of the format, by word 1 of the superblock, how many lines a slot has and how many slots an image may have.
-VERSIONS = {1: (1, 65_536), 2: (1, 65_536), 3: (2, 65_536), 260: (1, 16_777_216), 516: (2, 16_777_216)}
+VERSIONS = {1: (1, 65_536), 2: (1, 65_536), 3: (2, 65_536), **{4 + 256 * lines: (lines, 16_777_216) for lines in range(1, 9)}}
 
 FAULTS = {
     "TooLong": 1, "BadGeometry": 2, "Device": 3, "NotFormatted": 4, "Damaged": 5, "Version": 6, "GapsFull": 7, "SlotsOut": 8, "NoSession": 9,
@@ -75,7 +75,7 @@ class Geometry:
     def __init__(self, slots, places, window, version=2):
         self.slots, self.places, self.window, self.version = slots, places, window, version
         self.lines_of_slot, self.most_slots = VERSIONS[version]
-        self.most_bytes = 96 if self.lines_of_slot == 2 else 32
+        self.most_bytes = 64 * self.lines_of_slot - 32
 
     def slot_line(self, slot):
         return 1 + 4 * self.places + self.lines_of_slot * slot
@@ -175,9 +175,12 @@ def ruling_record(geometry, words):
 def live_row(geometry, words):
     """Returns the key and the row of the words of a live slot, or None where it is bad."""
     bits = words[3]
-    length, link = bits >> 16 & 0xFF, bits >> 32
-    row = b"".join(word.to_bytes(8, "little") for word in words[4:])
-    if length > geometry.most_bytes or bits >> 24 & 0xFF or link > geometry.slots or any(row[length:]):
+    # In versions 1 to 3 a length has eight bits, and the eight above them are 0: as one number it isn't too great exactly then.
+    length, link = bits >> 16 & 0xFFFF, bits >> 32
+    # In version 4 the words that count end with the row.
+    counted = 4 + (length + 7) // 8 if geometry.version > 3 else len(words)
+    row = b"".join(word.to_bytes(8, "little") for word in words[4:counted])
+    if length > geometry.most_bytes or link > geometry.slots or any(row[length:]):
         return None
     return (bits & 0xFFFF, words[2]), row[:length]
 

@@ -171,7 +171,7 @@ class Room:
         return "\n".join([*(f"{table} {key} {row_text(row)}" for (table, key), row in found), f"end {len(found)}"])
 
     def put(self, number, table, key, row):
-        if len(row) > 96:
+        if len(row) > 480:
             raise Refused("TooLong")
         session = self.session(number, "Active")
         if len(row) > self.geometry.most_bytes:

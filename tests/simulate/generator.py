@@ -22,7 +22,7 @@ MOODS = {
 }
 STATES = {"stamp": ("Drawn",), "poll": ("Drawn", "Stamped", "Covered"), "end": ("Covered",)}
 OPENING = 39
-LONGEST_ROWS = ["-", "ab" * 32, "cd" * 33, "01" * 96, "ef" * 97]
+LONGEST_ROWS = ["-", "ab" * 32, "cd" * 33, "01" * 96, "ef" * 97, "23" * 224, "45" * 480, "67" * 481]
 
 
 class Author:

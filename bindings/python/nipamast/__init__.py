@@ -9,7 +9,7 @@
         for key, row in store.scan(1):
             print(key, row)
 
-A row is bytes, up to 32 of them (up to 96 in a store that was made wide, or with two lines). Its key is
+A row is bytes, up to 32 of them (up to 96 in a store that was made wide, and up to 480 in one that was made with 8 lines). Its key is
 a table (0 to 65535) and a number of 64 bits.
 When a commit has returned, its rows are in the file, whatever stops afterwards. A transaction sees one instant. If two write the same
 key, the first to commit wins; the other raises `Conflict`, and `Store.transact` begins it again.
@@ -40,7 +40,7 @@ GREATEST_KEY = 2**64 - 1
 
 _lib = ctypes.CDLL(os.environ.get("NIPAMAST_LIBRARY") or os.path.join(os.path.dirname(__file__), "libnipamast.so"))
 
-_LONGEST_ROW = 96
+_LONGEST_ROW = 480
 
 
 class _Options(ctypes.Structure):
@@ -475,13 +475,13 @@ def open(
 
     Without `slots` it is opened with the layout that it has. If the file is missing or empty, a store of 65,536 rows of up to 32 bytes is
     made there, unless `create` is false. With `slots`, and the numbers that go with it, the store has to have this layout, or is made.
-    With `lines`, it is a large one, of up to 16,777,216 slots: 1 is for rows of up to 32 bytes, 2 for rows of up to 96.
+    With `lines`, 1 to 8, it is a large one: of up to 16,777,216 slots, and rows of up to 64 * lines - 32 bytes.
 
     `channels` is how many transactions may be open at once, 1 to 62: as many commits share a sync at most. `by_stack` makes calls far
     faster, as nipamast.h explains.
     """
     numbers = (
-        ("slots", 1 if slots is None else slots, 16_777_216 if lines else 65_536), ("lines", lines or 1, 2), ("places", places, 64),
+        ("slots", 1 if slots is None else slots, 16_777_216 if lines else 65_536), ("lines", lines or 1, 8), ("places", places, 64),
         ("window", window, 1_024), ("channels", channels, 62),
     )
     for what, number, most in numbers:

@@ -25,7 +25,7 @@ pub enum Failure {
     /// No slot is free, and no store has more of them.
     #[error("no slot is free, and an update needs one too: delete a row")]
     LargestFull,
-    #[error("the row is too long: a row of this store has at most {0} bytes (96 in a store that is created with --wide)")]
+    #[error("the row is too long: a row of this store has at most {0} bytes (up to 480 in a store that is created with --lines 8)")]
     TooLong(usize),
     /// The row is too long, and no store takes longer ones.
     #[error("the row is too long: a row of this store has at most {0} bytes")]

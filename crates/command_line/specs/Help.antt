@@ -46,7 +46,7 @@ app_with name rules = record { top = subcommand_shape name rules; subs = [] }
 abbrev pub format_shape : Shape
 format_shape = subcommand_shape (codes "format") (name_rule (codes "FILE") ∷ number_rule (codes "slots") (codes "1024") 1 16777216
     ∷ number_rule (codes "places") (codes "4") 2 64 ∷ number_rule (codes "window") (codes "64") 4 1024
-    ∷ flag_rule (codes "wide") ∷ choice_rule (codes "lines") 1 2 ∷ [])
+    ∷ flag_rule (codes "wide") ∷ choice_rule (codes "lines") 1 8 ∷ [])
 
 -- `run`
 abbrev pub run_shape : Shape

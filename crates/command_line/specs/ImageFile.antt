@@ -5,7 +5,7 @@ use Rattle.byteorder.specs.Endian.{little_bytes, little_number}
 
 -- a multiple of 8, and no longer than the longest image
 abbrev pub is_image_length : ℕ → Bool
-is_image_length bytes = bytes % 8 == 0 && nat_le bytes 2147500096
+is_image_length bytes = bytes % 8 == 0 && nat_le bytes 8589951040
 
 -- the words in order, 8 bytes each, the lowest byte first
 abbrev pub bytes_of_words : List ℕ → List ℕ

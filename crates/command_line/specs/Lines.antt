@@ -79,7 +79,7 @@ spelled_key_step name session table key =
 
 -- a put of this row. One that is longer than any row may be makes no step
 abbrev pub put_of : ℕ → Key → List ℕ → Command
-put_of session key row = if nat_le (length row) 96 then Step (Put session key row) else LongRow
+put_of session key row = if nat_le (length row) 480 then Step (Put session key row) else LongRow
 
 -- `put` of a session, a table, a key and a row
 abbrev pub put_command : Text → Text → Text → Text → Text → Option Command

@@ -7,7 +7,7 @@ use byteorder::{ByteOrder, LittleEndian};
 use std::alloc::{AllocError, Global};
 
 /// The bytes of the longest image.
-pub const MOST_FILE_BYTES: usize = 2_147_500_096;
+pub const MOST_FILE_BYTES: usize = 8_589_951_040;
 
 const WORD_BYTES: usize = 8;
 
@@ -16,7 +16,7 @@ pub fn words_of_file(alloc: Global, file: &[u8]) -> Result<Vec<u64>, Fault>
     ensures ok { IfOk result (λ words. HoldsWords file.now words.items) }
     ensures length { IfOk result (λ _. is_image_length (length file.now) ≡ true) }
 
-    // BadGeometry exactly if the length isn't a multiple of 8 or is over 2,147,500,096, and otherwise OutOfMemory.
+    // BadGeometry exactly if the length isn't a multiple of 8 or is over 8,589,951,040, and otherwise OutOfMemory.
     ensures fault { IfErr result (λ fault. (fault ≡ OutOfMemory) ⊎ (fault ≡ BadGeometry)) }
     ensures geometry { result ≡ Err BadGeometry ↔ (is_image_length (length file.now) ≡ false) }
 {

@@ -276,14 +276,16 @@ fn wide_option<'a>(alloc: Global) -> Arg<'a>
 }
 
 fn lines_option<'a>(alloc: Global) -> Arg<'a>
-    ensures rule { rule_of result ≡ choice_rule (codes "lines") 1 2 }
+    ensures rule { rule_of result ≡ choice_rule (codes "lines") 1 8 }
     ensures global { result.global ≡ false }
 {
     Arg::new(alloc, "lines")
         .long("lines")
         .value_name("W")
-        .value_parser(ValueParser::unsigned(1, 2))
-        .help("An image of version 4, with slots of 1 line, or of 2 for rows of up to 96 bytes")
+        .value_parser(ValueParser::unsigned(1, 8))
+        .help(
+            "An image of version 4, with slots of 1 line for rows of up to 32 bytes, and 64 more for each further line",
+        )
 }
 
 fn number_option<'a>(

@@ -48,7 +48,7 @@ impl Layout {
         self.slots.unwrap_or(found.slots()) == found.slots()
             && self.places.unwrap_or(found.places()) == found.places()
             && self.window.unwrap_or(found.window()) == found.window()
-            && (found.is_wide() || !self.is_wide)
+            && (2 <= found.slot_lines() || !self.is_wide)
             && (self.lines.is_none() || found.version() == self.geometry.version())
     }
 }
@@ -141,9 +141,9 @@ fn with_width<'a>(
     let lines = Arg::new(alloc, "lines")
         .long("lines")
         .value_name("W")
-        .value_parser(value_parser!(u64).range(1..=2))
+        .value_parser(value_parser!(u64).range(1..=8))
         .help(
-            "creates a store of version 4, as for more than 65536 slots, with slots of 1 line, or of 2 for rows of up to 96 bytes",
+            "creates a store of version 4, as for more than 65536 slots, with slots of 1 line, for rows of up to 32 bytes, and 64 more bytes for each further line, up to 8",
         );
     command.arg(wide)?.arg(lines)
 }

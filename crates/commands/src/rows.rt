@@ -4,7 +4,7 @@ use base::row::Row;
 use hex::decode_to_slice;
 use std::fmt;
 
-const LIMITS: &str = "at most 32 are allowed, or 96 in a store that is created with --wide";
+const LIMITS: &str = "at most 32 are allowed, or up to 480 in a store that is created with --lines";
 
 /// Whether a row in hexadecimal digits may have been meant as a word, like `beef`: it has only letters, and more than two.
 pub fn may_be_text(word: &str) -> bool {

@@ -20,9 +20,9 @@ use room::{Tick, Visit};
 use std::sync::{MutexGuard, Wait};
 use sync_ahead::SyncAhead;
 
-// A turn of the committer takes no more ticks than this, which is more than any cycle has: 62 commits of 32 keys each, in slots of two
+// A turn of the committer takes no more ticks than this, which is more than any cycle has: 62 commits of 32 keys each, in slots of eight
 // lines.
-const TICKS: u64 = 8_192;
+const TICKS: u64 = 32_768;
 
 // A turn of the collector makes a fourth of a round's visits, within these limits, besides those that change nothing. So a few turns end a
 // round, however many threads wait for the lock, and sessions get in between.

@@ -3,7 +3,7 @@ use Rattle.std.proofs.Common.{◌≡◌, ℕ, ◌≤◌, not, List, [], ◌∷�
 use Rattle.std.specs.Prelude.{Option, IsTrue, nat_le}
 use Rattle.std.specs.List.{list_any}
 use Rattle.std.proofs.lemmas.Bool.{leb-true}
-use Rattle.std.proofs.lemmas.List.{take_all, length-map, length-take-le}
+use Rattle.std.proofs.lemmas.List.{length-map, length-take-le}
 use Rattle.std.proofs.lemmas.Simd.{map-map}
 use Rattle.base.specs.declared.key.Key.{Key}
 use Rattle.base.specs.Keys.{is_rising}
@@ -16,9 +16,9 @@ use Rattle.txn.specs.DrawnCommits.{plain_drawn}
 use Rattle.txn.specs.WriteSets.{IsRising, plain_writes}
 use Rattle.txn.proofs.Passed.{few-filtered}
 
--- rows that are pushed one after the other are by rising key, as the writes are
-pub rising-plain : (writes : List Write) (n : ℕ) (rows : Writes) → rows ≡ plain_writes (take n writes) → length writes ≤ n → IsRising writes → IsTrue (is_rising (map (λ (w : Key × Option (List ℕ)). w.0) rows))
-rising-plain writes n rows is whole rising = grind (arith, take_all, map-map)
+-- what writes leave is by rising key, as they are
+pub rising-plain : (writes : List Write) (rows : Writes) → rows ≡ plain_writes writes → IsRising writes → IsTrue (is_rising (map (λ (w : Key × Option (List ℕ)). w.0) rows))
+rising-plain writes rows is rising = grind (arith, map-map)
 
 -- no commit is chosen exactly if none passes
 pub none-chosen : (reach : ℕ) (ds : List DrawnCommit) → is_nil (chosen reach (map plain_drawn ds)) ≡ not (list_any (λ d. is_chosen reach (plain_drawn d)) ds)

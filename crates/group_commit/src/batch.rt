@@ -1,22 +1,25 @@
-ghost use Rattle.std.specs.Prelude.{◌≡◌, ◌+◌, ◌-◌, ◌*◌, ◌^◌, ◌<◌, ◌≤◌, ◌&&◌, ◌||◌, not, nat_eq, nat_lt, map, IsTrue, IfOk, ℕ, length};
+ghost use Rattle.std.specs.Prelude.{◌≡◌, ◌+◌, ◌-◌, ◌*◌, ◌^◌, ◌<◌, ◌≤◌, ◌&&◌, ◌||◌, ◌++◌, ◌∷◌, [], not, nat_eq, nat_lt, map, IsTrue, IfOk, OnOk, ℕ, length, vec_capacity};
 ghost use Rattle.std.specs.List.{list_any};
 ghost use Rattle.base.specs.Records.{is_committed};
 ghost use Rattle.dirty_table.specs.Touches.{has};
 ghost use Rattle.base.specs.Layout.{most_longs};
 ghost use Rattle.base.specs.Choosing.{reach, is_chosen, chosen, standing_gaps, target_of, closing_record, batch_of, is_idle};
 ghost use Rattle.txn.specs.DrawnCommits.{are_numbered, plain_drawn};
+ghost use Rattle.txn.specs.WriteSets.{plain_writes};
 
 use base::batch::{Batch, Commit};
 use base::gap::Gaps;
 use base::geometry::Geometry;
+use base::key::Key;
 use base::longs::Longs;
+use base::row::Row;
 use base::{NUMBER_LIMIT, Ts};
 use dirty_table::SessionSet;
 use log_area::Record;
 use smallvec::SmallVec;
 use snapshot::Numbers;
 use std::alloc::{AllocError, Global};
-use txn::{DrawnCommit, DrawnCommits};
+use txn::{DrawnCommit, DrawnCommits, Write};
 
 /// Whether the committer has nothing to do: exactly if the next record covers no drawn commit and isn't due for another reason.
 /// It is due if half a window of timestamps isn't reserved, or if there is a swept gap.
@@ -125,23 +128,48 @@ fn commits_of(alloc: Global, reach: Ts, drawn: &[DrawnCommit]) -> Result<Vec<Com
     let mut commits = Vec::with_capacity(alloc, drawn.len())?;
     for commit in drawn {
         if is_chosen(reach, commit) {
-            commits.push_reserved(commit_of(alloc, commit)?);
+            add_commit(alloc, &mut commits, commit)?;
         }
     }
     Ok(commits)
 }
 
-// The commit of a transaction that writes this.
+// Adds the commit of a transaction that writes this; there is room for it. Most write one row. A row is large to pass on, so a single
+// one is put where it stays.
 #[inline(always)]
-fn commit_of(alloc: Global, drawn: &DrawnCommit) -> Result<Commit, AllocError>
-    ensures { IfOk result (λ commit. commit ≡ (plain_drawn drawn.now).commit) }
+fn add_commit(
+    alloc: Global,
+    commits: &mut Vec<Commit>,
+    drawn: &DrawnCommit,
+) -> Result<(), AllocError>
+    requires { length commits.old.items < vec_capacity commits.old }
+    ensures ok { OnOk result (commits.new.items ≡ commits.old.items ++ (plain_drawn drawn.now).commit ∷ []) }
+    ensures capacity { vec_capacity commits.new ≡ vec_capacity commits.old }
 {
-    let writes = drawn.writes.as_slice();
+    let timestamp = drawn.timestamp;
+    match drawn.writes.as_slice() {
+        [one] => {
+            let rows = SmallVec::from_buf(alloc, [(one.key, one.row)]);
+            commits.push_reserved(Commit::new(timestamp, rows));
+        }
+        writes => {
+            let rows = rows_of(alloc, writes)?;
+            commits.push_reserved(Commit::new(timestamp, rows));
+        }
+    }
+    Ok(())
+}
+
+// What these writes leave under their keys.
+#[inline(always)]
+fn rows_of(alloc: Global, writes: &[Write]) -> Result<SmallVec<(Key, Option<Row>), 1>, AllocError>
+    ensures { IfOk result (λ rows. rows.items ≡ plain_writes writes.now) }
+{
     let mut rows = SmallVec::with_capacity(alloc, writes.len())?;
     for write in writes {
         rows.push_reserved((write.key, write.row));
     }
-    Ok(Commit::new(drawn.timestamp, rows))
+    Ok(rows)
 }
 
 /// The sessions that drew these commits.

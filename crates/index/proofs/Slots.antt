@@ -1,12 +1,11 @@
 -- What a slot of a device holds in its image.
 use Rattle.std.proofs.Common.{◌≡◌, ℕ, ◌+◌, ◌^◌, ◌<◌, ◌≤◌, false, length, get_or, refl, sym, ◌∙◌, ap, subst, arith}
-use Rattle.std.proofs.Math.Nat.{mul-le-mul_left}
 use Rattle.std.proofs.lemmas.Bool.{cases_lt}
 use Rattle.std.proofs.lemmas.List.{get_or_past}
 use Rattle.std.proofs.lemmas.List.FromFn.{length-map-range_with_len, get_or-map-range_with_len}
-use Rattle.base.specs.Layout.{Layout, slot_start, slot_words, total_words}
+use Rattle.base.specs.Layout.{Layout, slot_start, slot_words, total_words, used_words}
 use Rattle.base.specs.Images.{layout_of, slot_word, begin_of, end_of, is_misfit}
-use Rattle.base.proofs.Layouts.{line-words}
+use Rattle.base.proofs.Layouts.{line-words, slot_within, used-words}
 use Rattle.pmem.specs.Device.{Device, IsOrderly}
 use Rattle.pmem.specs.Words.{value_of, image_of}
 use Rattle.version_slot.specs.declared.words.Slot.{Slot}
@@ -27,7 +26,7 @@ module _ (device : Device) (a : Layout) (slot : ℕ) (size : device.words ≡ to
   word-at word lt = get_or-map-range_with_len (value_of device) 0 device.words word word 0 lt (omega arith)
 
   in-slot : (w : ℕ) → w < slot_words a.version → slot_start a slot + w < device.words
-  in-slot w lt = grind (arith, mul-le-mul_left)
+  in-slot w lt = omega (arith, slot_within a slot h, lt, size)
 
   word-same : (w : ℕ) → w < slot_words a.version → slot_word (image_of device) slot w ≡ slot_at a slot (value_of device) w
   word-same w lt = ap (λ (l : Layout). get_or (image_of device) (slot_start l slot + w) 0) laid ∙ word-at (slot_start a slot + w) (in-slot w lt)
@@ -39,7 +38,10 @@ module _ (device : Device) (a : Layout) (slot : ℕ) (size : device.words ≡ to
   whole = omega (arith, length-image, size, ap total_words laid)
 
   held : (s : Slot) → IsSlot a (slot_at a slot (value_of device)) s → IsVersion (layout_of (image_of device)) (slot_word (image_of device) slot) s.version
-  held s is = grind (arith, same-width, word-same) steps 800000
+  held s is = subst (λ (l : Layout). IsVersion l (slot_word (image_of device) slot) s.version) (sym laid) (record {
+    each = λ w low high. word-same w (omega (arith, high, (used-words a.version (length s.version.row)).1)) ∙ is.version.each w low high;
+    fits = is.version.fits;
+  })
 
   fits-words : IsOrderly device → (w : ℕ) → get_or (image_of device) w 0 < 2 ^ 64
   fits-words orderly w = grind (arith, cases_lt, word-at, get_or_past, length-image) steps 800000
@@ -54,7 +56,9 @@ module _ (device : Device) (a : Layout) (slot : ℕ) (size : device.words ≡ to
         begin = refl;
         end = refl;
         version = record {
-          each = λ w low high. sym (word-same w high) ∙ version.each w low (omega (arith, high, same-width));
+          each = λ w low high.
+              sym (word-same w (omega (arith, high, (used-words a.version (length (version_of image slot).row)).1)))
+              ∙ version.each w low (subst (λ (l : Layout). w < used_words l.version (length (version_of image slot).row)) (sym laid) high);
           fits = subst (λ (l : Layout). Fits l (version_of image slot)) laid version.fits;
         };
       })

@@ -19,7 +19,7 @@ use base::row::Row;
 use base::{SlotNo, Ts};
 use pmem::Pmem;
 use snapshot::Snapshot;
-use version_slot::{Slot, read};
+use version_slot::{Slot, read_into};
 
 /// A version that a snapshot sees: its slot, and its row.
 #[derive(Clone, Copy, Debug, PartialEq, Eq)]
@@ -54,7 +54,7 @@ impl Index {
         follow(device, geometry, snapshot, self.hinted(key).newest, key)
     }
 
-    /// The slot of the version that `walk` finds. Its row goes into the place for one, since a row is large to pass on.
+    /// The slot of the version that `walk` finds. What the slot holds goes into the place for it, since a row is large to pass on.
     #[inline(always)]
     pub fn walk_into<D: Pmem>(
         &self,
@@ -62,16 +62,16 @@ impl Index {
         geometry: Geometry,
         key: Key,
         snapshot: &Snapshot,
-        row: &mut Row,
+        held: &mut Slot,
     ) -> Option<SlotNo>
         requires device { (D.state device.now).words ≡ total_words geometry }
 
-        // The same row, put where the caller has room for one, and its slot.
+        // The same row, in the place that the caller has for it, and its slot.
         ensures slot { IfSome result (λ slot. slot < geometry.slots) }
-        ensures some { IfSome result (λ slot. (counts : ℕ → Bool) → CountsAs counts snapshot.now geometry (image_of (D.state device.now)) → HasSeen counts (image_of (D.state device.now)) slot key row.new) }
+        ensures some { IfSome result (λ slot. (counts : ℕ → Bool) → CountsAs counts snapshot.now geometry (image_of (D.state device.now)) → HasSeen counts (image_of (D.state device.now)) slot key held.new.version.row) }
         ensures none { IfNone result ((counts : ℕ → Bool) → CountsAs counts snapshot.now geometry (image_of (D.state device.now)) → IsLinked snapshot.now (image_of (D.state device.now)) key (entry_at self.now key).newest → (slot : ℕ) (row : List ℕ) → ¬ HasSeen counts (image_of (D.state device.now)) slot key row) }
         ensures tables { (counts : ℕ → Bool) (tables : Tables) → CountsAs counts snapshot.now geometry (image_of (D.state device.now)) → IsLinked snapshot.now (image_of (D.state device.now)) key (entry_at self.now key).newest
-            → ShowsTables counts geometry (image_of (D.state device.now)) tables → option_map (λ slot. row.new) result ≡ tables key }
+            → ShowsTables counts geometry (image_of (D.state device.now)) tables → option_map (λ slot. held.new.version.row) result ≡ tables key }
     {
         reach(
             device,
@@ -79,7 +79,7 @@ impl Index {
             snapshot,
             self.hinted(key).newest,
             key,
-            row,
+            held,
         )
     }
 }
@@ -120,7 +120,7 @@ fn next_at(held: &Slot, snapshot: &Snapshot, key: Key, bound: Ts) -> Next
     }
 }
 
-// The same, of a slot of the device. The row that its words hold goes into the place for one: a row is large to pass on.
+// The same, of a slot of the device. What its words hold goes into the place for it.
 #[inline(always)]
 fn look<D: Pmem>(
     device: &D,
@@ -129,31 +129,20 @@ fn look<D: Pmem>(
     key: Key,
     slot: SlotNo,
     bound: Ts,
-    row: &mut Row,
+    held: &mut Slot,
 ) -> Next
     requires device { (D.state device.now).words ≡ total_words geometry }
     ensures within { result ≡ Next.Seen → slot < geometry.slots }
     ensures falls { (begin : ℕ) (previous : Option ℕ) → result ≡ Earlier begin previous → begin < bound }
-    ensures looks { layout_of (image_of (D.state device.now)) ≡ geometry → Looks snapshot.now (image_of (D.state device.now)) key bound slot row.new result }
+    ensures looks { layout_of (image_of (D.state device.now)) ≡ geometry → Looks snapshot.now (image_of (D.state device.now)) key bound slot held.new.version.row result }
 {
     if slot >= geometry.slots() {
         return Next::Over;
     }
-    match read(device, geometry, slot) {
-        Some(held) => {
-            put_row(row, &held);
-            next_at(&held, snapshot, key, bound)
-        }
-        None => Next::Over,
+    if !read_into(device, geometry, slot, held) {
+        return Next::Over;
     }
-}
-
-// Puts the row of the version into its place.
-#[inline(always)]
-fn put_row(row: &mut Row, held: &Slot)
-    ensures { row.new ≡ held.now.version.row }
-{
-    *row = held.version.row;
+    next_at(held, snapshot, key, bound)
 }
 
 // The version of the key that the snapshot sees, by links from this slot on.
@@ -172,14 +161,17 @@ pub(crate) fn follow<D: Pmem>(
     ensures tables { (counts : ℕ → Bool) (tables : Tables) → CountsAs counts snapshot.now geometry (image_of (D.state device.now)) → IsLinked snapshot.now (image_of (D.state device.now)) key newest
         → ShowsTables counts geometry (image_of (D.state device.now)) tables → option_map (λ found. found.row) result ≡ tables key }
 {
-    let mut row = Row::new(&[]).unwrap();
-    match reach(device, geometry, snapshot, newest, key, &mut row) {
-        Some(slot) => Some(Found { slot, row }),
+    let mut held = Slot::empty();
+    match reach(device, geometry, snapshot, newest, key, &mut held) {
+        Some(slot) => Some(Found {
+            slot,
+            row: held.version.row,
+        }),
         None => None,
     }
 }
 
-// The slot of the version that `follow` finds. Its row goes into the place for one.
+// The slot of the version that `follow` finds. What it holds goes into the place for it.
 #[inline(always)]
 fn reach<D: Pmem>(
     device: &D,
@@ -187,19 +179,19 @@ fn reach<D: Pmem>(
     snapshot: &Snapshot,
     newest: Option<SlotNo>,
     key: Key,
-    row: &mut Row,
+    held: &mut Slot,
 ) -> Option<SlotNo>
     requires device { (D.state device.now).words ≡ total_words geometry }
     ensures slot { IfSome result (λ slot. slot < geometry.slots) }
-    ensures some { IfSome result (λ slot. (counts : ℕ → Bool) → CountsAs counts snapshot.now geometry (image_of (D.state device.now)) → HasSeen counts (image_of (D.state device.now)) slot key row.new) }
+    ensures some { IfSome result (λ slot. (counts : ℕ → Bool) → CountsAs counts snapshot.now geometry (image_of (D.state device.now)) → HasSeen counts (image_of (D.state device.now)) slot key held.new.version.row) }
     ensures none { IfNone result ((counts : ℕ → Bool) → CountsAs counts snapshot.now geometry (image_of (D.state device.now)) → IsLinked snapshot.now (image_of (D.state device.now)) key newest → (slot : ℕ) (row : List ℕ) → ¬ HasSeen counts (image_of (D.state device.now)) slot key row) }
     ensures tables { (counts : ℕ → Bool) (tables : Tables) → CountsAs counts snapshot.now geometry (image_of (D.state device.now)) → IsLinked snapshot.now (image_of (D.state device.now)) key newest
-        → ShowsTables counts geometry (image_of (D.state device.now)) tables → option_map (λ slot. row.new) result ≡ tables key }
+        → ShowsTables counts geometry (image_of (D.state device.now)) tables → option_map (λ slot. held.new.version.row) result ≡ tables key }
 {
     let mut at = newest;
     let mut bound = u64::MAX;
     while let Some(slot) = at {
-        match look(device, geometry, snapshot, key, slot, bound, row) {
+        match look(device, geometry, snapshot, key, slot, bound, held) {
             Next::Seen => return Some(slot),
             Next::Over => return None,
             Next::Earlier { begin, previous } => {

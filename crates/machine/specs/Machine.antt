@@ -343,7 +343,7 @@ operates q Collect = is_sweeping q
 operates q _ = false
 
 -- The most device operations that a step makes. A put stores each word of its slot, and flushes and
--- fences the first one: 10 with slots of one line, 18 with two
+-- fences the first one: 10 with slots of one line, and eight more for each further line
 abbrev pub most_operations : State → Step → ℕ
 most_operations q (Put n key row) = slot_words q.layout.version + 2
 most_operations q (Stamp n) = 2

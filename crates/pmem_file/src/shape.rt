@@ -21,8 +21,8 @@ use std::fs::File;
 use std::io;
 use std::io::Read;
 
-// The longest file that is read: an image of 2,147,500,096 bytes, and a journal that an entry of all its lines fits into.
-const MOST_BYTES: u64 = 4_563_437_952;
+// The longest file that is read: an image of 8,589,951,040 bytes, and a journal that an entry of all its lines fits into.
+const MOST_BYTES: u64 = 18_253_646_208;
 
 // The part of a file that is read at once.
 const PART_BYTES: u64 = 65_536;
@@ -117,8 +117,7 @@ fn room_needed(geometry: Geometry) -> usize
 fn is_large(geometry: Geometry) -> bool
     ensures { result ≡ is_large geometry.version }
 {
-    let version = geometry.version();
-    version == Geometry::LARGE_VERSION || version == Geometry::LARGE_WIDE_VERSION
+    Geometry::is_large_version(geometry.version())
 }
 
 // For an entry of all lines: a word that begins it, and of each line its number and its words.

@@ -26,7 +26,7 @@ pub record NamesAll (words : List ℕ) : Type 0 where
 pub record HasJournal (file : List ℕ) : Type 0 where
   pub words : List ℕ
   pub holds : HoldsWords file words
-  pub fits : length file ≤ 4563437952
+  pub fits : length file ≤ 18253646208
   pub some : IsJournaled words
   pub not_alone : ¬ NamesAll words
 

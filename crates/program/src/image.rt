@@ -12,7 +12,7 @@ use std::alloc::Global;
 use std::io;
 
 /// The bytes of the longest file of an image: one with a journal after it that has room for an entry of all its lines.
-pub const MOST_BYTES: usize = 4_563_437_952;
+pub const MOST_BYTES: usize = 18_253_646_208;
 
 const WORD_BYTES: usize = 8;
 

@@ -85,13 +85,13 @@ IsPlainRequest code None = (code ≢ 1) × (code ≢ 5) × (code ≢ 6) × (code
 abbrev pub ReceivesAfter : Head → Option (List ℕ) → Option (List ℕ) → Received → Type 0
 ReceivesAfter head old new (received.Request request) = (payload : List ℕ) × Consumes old new payload × (length payload ≡ head.length) × IsRequestOf head payload (Some request)
 ReceivesAfter head old new received.Other = (payload : List ℕ) × Consumes old new payload × (length payload ≡ head.length) × IsRequestOf head payload None
-ReceivesAfter head old new received.End = (rest : List ℕ) × Consumes old new rest × (length rest < head.length) × (head.length ≤ 96) × IsAtEnd new
+ReceivesAfter head old new received.End = (rest : List ℕ) × Consumes old new rest × (length rest < head.length) × (head.length ≤ 480) × IsAtEnd new
 
 -- what was taken off the input: the frame of a request, one that isn't a request's, or less than a frame
 abbrev pub Receives : Option (List ℕ) → Option (List ℕ) → Received → Type 0
 Receives old new (received.Request request) = Consumes old new (request_bytes request)
 Receives old new received.Other = (frame : List ℕ) × Consumes old new frame × IsOtherFrame frame
-Receives old new received.End = (rest : List ℕ) × Consumes old new rest × IsCutOff 96 rest × IsAtEnd new
+Receives old new received.End = (rest : List ℕ) × Consumes old new rest × IsCutOff 480 rest × IsAtEnd new
 
 -- ---- replies
 

@@ -102,7 +102,7 @@ fn receive_payload<R: Read>(input: &mut R, head: Head) -> io::Result<Received>
 // The request of a frame with this head, if it is one.
 fn request_of(head: &Head, payload: &[u8]) -> Option<Request>
     requires length { length payload.now ≡ head.now.length }
-    requires limit { length payload.now ≤ 96 }
+    requires limit { length payload.now ≤ 480 }
     ensures { IsRequestOf head.now payload.now result }
 {
     match head.code {
@@ -116,7 +116,7 @@ fn request_of(head: &Head, payload: &[u8]) -> Option<Request>
 // The put of a row.
 fn put_request(head: &Head, payload: &[u8]) -> Option<Request>
     requires length { length payload.now ≡ head.now.length }
-    requires limit { length payload.now ≤ 96 }
+    requires limit { length payload.now ≤ 480 }
     requires code { head.now.code ≡ 3 }
     ensures { IsRequestOf head.now payload.now result }
 {

@@ -27,7 +27,7 @@ converses-more input mid left output told sent from after next e before is came 
 
 -- the input has ended, and nothing more was sent
 pub converses-ended : (input mid left output told sent : Option (List ℕ)) (after : Option ℕ) (rest : List ℕ) → Converses input mid output told None after
-    → Consumes mid left rest → IsCutOff 96 rest → IsAtEnd left → Appends told sent [] → ServesAll input left output sent
+    → Consumes mid left rest → IsCutOff 480 rest → IsAtEnd left → Appends told sent [] → ServesAll input left output sent
 converses-ended input mid left output told sent after rest before came short ended nothing =
     let bytes = flat_map (λ (x : Exchange). x.went) before.exchanges in record {
       before = mid;

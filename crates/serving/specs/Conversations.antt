@@ -57,13 +57,13 @@ pub record ServesAll (input left output sent : Option (List ℕ)) : Type 0 where
   pub converses : Converses input before output sent None after
   pub rest : List ℕ
   pub came : Consumes before left rest
-  pub short : IsCutOff 96 rest
+  pub short : IsCutOff 480 rest
   pub ended : IsAtEnd left
 
 -- one exchange was made; or the input has ended, in less than a frame, and nothing was sent
 abbrev pub Exchanges : Option (List ℕ) → Option (List ℕ) → Option (List ℕ) → Option (List ℕ) → Option ℕ → Option ℕ → Progress → Type 0
 Exchanges input left output sent prior after progress.Answered = (e : Exchange) × IsExchange prior e × Consumes input left e.came × Appends output sent e.went × (after ≡ e.after)
-Exchanges input left output sent prior after progress.Ended = (rest : List ℕ) × Consumes input left rest × IsCutOff 96 rest × IsAtEnd left × Appends output sent [] × (after ≡ prior)
+Exchanges input left output sent prior after progress.Ended = (rest : List ℕ) × Consumes input left rest × IsCutOff 480 rest × IsAtEnd left × Appends output sent [] × (after ≡ prior)
 
 -- the reply was sent
 abbrev pub Replies : Option (List ℕ) → Option (List ℕ) → Answer → Progress → Type 0

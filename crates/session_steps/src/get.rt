@@ -4,6 +4,7 @@ use base::fault::Fault;
 use base::key::Key;
 use base::row::Row;
 use pmem::Pmem;
+use version_slot::Slot;
 
 impl Sessions {
     ghost use Rattle.base.specs.declared.step.SessionStep.TheVariants.{Get};
@@ -22,19 +23,21 @@ impl Sessions {
             Err(fault) => return Err(fault),
         };
         match active.writes.find(key) {
-            Some(write) => Ok(write.row),
-            None => {
-                let geometry = self.numbers.geometry;
-                let mut row = Row::new(&[]).unwrap();
-                let snapshot = active.snapshot;
-                match self
-                    .index
-                    .walk_into(device, geometry, key, snapshot, &mut row)
-                {
-                    Some(_) => Ok(Some(row)),
-                    None => Ok(None),
-                }
-            }
+            Some(write) => return Ok(write.row),
+            None => {}
         }
+        let geometry = self.numbers.geometry;
+        let snapshot = active.snapshot;
+
+        // In one place, and returned from there: a row is large to pass on.
+        let mut held = Slot::empty();
+        match self
+            .index
+            .walk_into(device, geometry, key, snapshot, &mut held)
+        {
+            Some(_) => {}
+            None => return Ok(None),
+        }
+        Ok(Some(held.version.row))
     }
 }

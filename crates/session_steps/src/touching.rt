@@ -45,7 +45,6 @@ pub fn draw_writes(
 }
 
 // Touches all lines of the version in the slot, if there is one.
-#[tactic(auto, unfolding(base::specs::Layout::most_slots))]
 fn touch_own(dirty: &mut DirtyTable, session: u8, geometry: Geometry, slot: Option<SlotNo>)
     requires fits { IsTrue (fits_slot geometry.slots slot) }
     requires session { session < 64 }

@@ -76,8 +76,8 @@ pub enum StoreError {
     /// The row isn't a number as `put_number` writes it.
     #[error("the row under table and key {0} isn't a number, which has 8 bytes: read it as a row")]
     NotANumber(Key),
-    /// The row has more bytes than fit into a slot: 32 or 96, depending on the layout.
-    #[error("the row has more than {0} bytes: shorten it (a store of `Geometry::wide` takes up to 96)")]
+    /// The row has more bytes than fit into a slot: 32 to 480, depending on the layout.
+    #[error("the row has more than {0} bytes: shorten it (a store of `Geometry::large` with 8 lines takes up to 480)")]
     RowTooLong(usize),
     /// The transaction has written 32 keys already, and the put or delete is for another one.
     #[error("the transaction has written 32 keys, the most that it may: write others in another transaction")]

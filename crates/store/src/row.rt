@@ -21,7 +21,7 @@ pub trait RowExt {
     /// The number in 8 bytes, the lowest byte first.
     fn of_u64(number: u64) -> Row;
 
-    /// The bytes of the text, or `RowTooLong` if there are more than 96.
+    /// The bytes of the text, or `RowTooLong` if there are more than 480.
     fn of_text(text: &str) -> Result<Row, StoreError>;
 
     /// The number, or `None` if the row doesn't have 8 bytes.
@@ -50,9 +50,9 @@ impl RowExt for Row {
         // The text's bytes.
         ensures ok { IfOk result (λ row. row ≡ text.now) }
 
-        // Ok exactly up to 96 bytes, and otherwise `RowTooLong`.
-        ensures limit { IsOk result ↔ (length text.now ≤ 96) }
-        ensures error { IfErr result (λ error. error ≡ StoreError.RowTooLong 96) }
+        // Ok exactly up to 480 bytes, and otherwise `RowTooLong`.
+        ensures limit { IsOk result ↔ (length text.now ≤ 480) }
+        ensures error { IfErr result (λ error. error ≡ StoreError.RowTooLong 480) }
     {
         match Row::new(text.as_bytes()) {
             Ok(row) => Ok(row),

@@ -11,7 +11,7 @@ use std::fmt;
 /// The layout of a store, how far it has come, and how full it is.
 #[derive(Clone, Copy, Debug, PartialEq, Eq)]
 pub struct Status {
-    /// The version of the format: 2, or 3 if a slot has two lines.
+    /// The version of the format: 2, 3 if it was made wide, or `4 + 256 w` for a large one whose slots have `w` lines.
     pub version: u64,
     /// How many versions of rows it has room for.
     pub slots: u64,

@@ -18,13 +18,14 @@ use std::thread::Threads;
 /// How many seeds are run if no words say otherwise.
 pub const SEEDS: u64 = 30;
 
-// Those of version 4 come last, with slots of one line and of two.
-const VERSIONS: [u64; 5] = [
+// Those of version 4 come last, with slots of one line, of two and of eight: the word is 4, and 256 for each line.
+const VERSIONS: [u64; 6] = [
     1,
     Geometry::PLAIN_VERSION,
     Geometry::WIDE_VERSION,
-    Geometry::LARGE_VERSION,
-    Geometry::LARGE_WIDE_VERSION,
+    260,
+    516,
+    2_052,
 ];
 
 /// Prints how many lives, steps and stops there were.

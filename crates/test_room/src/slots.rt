@@ -30,6 +30,7 @@ fn zeroed(alloc: Global) -> Result<SimPmem, Fault>
 }
 
 // Takes a slot of the device.
+#[tactic(auto, unfolding(base::specs::Layout::slot_words, base::specs::Layout::slot_lines))]
 fn take(device: &mut SimPmem, slots: &mut SlotAlloc) -> Result<u64, Fault>
     requires words { (device_of device.old).words ≡ 104 }
     requires slots { length slots.old ≡ 4 }

@@ -1,4 +1,4 @@
-//! Rows in slots of one line and of two.
+//! Rows in slots of one line, of two and of eight.
 use crate::counts::operations;
 use crate::fixture::{assert_note, formatted, leave, opened, restarted, step};
 use base::fault::Fault;
@@ -123,6 +123,30 @@ fn cycle_of_two_lines_keeps_both(rt: HostRuntime) -> Result<(), Fault> {
     let mut room = begun(&rt, rt.alloc(), device)?;
     assert_note(&rt, &mut room, get(7), Note::Row(Some(row)));
     assert_eq!(rt; ticks_of(&rt, &mut room, shorter), 44);
+    leave(room);
+    Ok(())
+}
+
+#[test]
+fn put_of_eight_lines_makes_66_operations(rt: HostRuntime) -> Result<(), Fault> {
+    let row = Row::new(&[5; 480])?;
+    let device = formatted(rt.alloc(), Geometry::large(8, 4, 2, 8)?)?;
+    let mut room = begun(&rt, rt.alloc(), device)?;
+    assert_note(&rt, &mut room, put(7, row), Note::Done);
+    // Opening makes 39.
+    assert_eq!(rt; operations(&room.into_device()), 105);
+    Ok(())
+}
+
+#[test]
+fn cycle_of_eight_lines_keeps_all(rt: HostRuntime) -> Result<(), Fault> {
+    let row = Row::new(&[5; 480])?;
+    let shorter = Row::new(&[6; 300])?;
+    let device = formatted(rt.alloc(), Geometry::large(8, 4, 2, 8)?)?;
+    let device = after_cycle(&rt, rt.alloc(), device, row, 49)?;
+    let mut room = begun(&rt, rt.alloc(), device)?;
+    assert_note(&rt, &mut room, get(7), Note::Row(Some(row)));
+    assert_eq!(rt; ticks_of(&rt, &mut room, shorter), 50);
     leave(room);
     Ok(())
 }

@@ -16,9 +16,9 @@ pub fn meet_each<R: Print + AllocGlobal + Wait + Drop>(
     }
     t.commit()?;
     println!(rt; "{} of 33 kept", store.read()?.count(4, ..)?)?;
-    if let Err(error) = Row::of_text(
-        "0123456789012345678901234567890123456789012345678901234567890123456789012345678901234567890123456",
-    ) {
+    // One byte more than the longest row.
+    let longer = format!(in rt.alloc(); "{:0481}", 0)?;
+    if let Err(error) = Row::of_text(&longer) {
         println!(rt; "refused: {error}")?;
     }
     if let Err(error) = store.read()?.number(key(1, 6)) {

@@ -6,10 +6,10 @@ use Rattle.std.proofs.lemmas.Bool.{cases_eq, cases_lt, ne_eqb}
 use Rattle.std.proofs.lemmas.List.{get_or-drop, get_or-take, get_or_past, get_or-set_same, get_or-set_other, length-drop, length-take-le}
 use Rattle.std.proofs.lemmas.List.FromFn.{get_or-map-range_with_len, length-map-range_with_len}
 use Rattle.std.proofs.lemmas.Nat.{le_bytes_8, mod_below, from_le_bytes-to_le_bytes_8}
-use Rattle.base.specs.Layout.{Layout, slot_words, row_limit}
-use Rattle.base.proofs.Layouts.{two-lines, row-fills}
+use Rattle.base.specs.Layout.{Layout, used_words, row_limit}
+use Rattle.base.proofs.Layouts.{few-words, row-fills, used-words, used-hold}
 use Rattle.version_slot.specs.declared.words.Version.{Version}
-use Rattle.version_slot.specs.Words.{link_number, row_word, slot_byte, version_word, IsVersion}
+use Rattle.version_slot.specs.Words.{link_number, row_word, slot_byte, version_word, length_in, IsVersion}
 
 -- eight bytes make the number
 pub same_word : (xs ys : List ℕ) → ((i : ℕ) → i < 8 → get_or xs i 0 ≡ get_or ys i 0) → from_le_bytes w64 xs ≡ from_le_bytes w64 ys
@@ -33,20 +33,26 @@ word_past v k = grind (arith, ne_eqb)
 
 -- ---- words that hold a version
 
-module _ (layout : Layout) (words : ℕ → ℕ) (v : Version) (is : IsVersion layout words v) (wide : 8 ≤ slot_words layout.version) where
+module _ (layout : Layout) (words : ℕ → ℕ) (v : Version) (is : IsVersion layout words v) where
+  abbrev used : ℕ
+  used = used_words layout.version (length v.row)
+
+  some : 4 ≤ used
+  some = (used-words layout.version (length v.row)).0
+
   pub words_3 : words 3 ≡ v.key.table + 2 ^ 16 * length v.row + 2 ^ 32 * link_number v.previous
-  words_3 = is.each 3 (omega arith) (omega arith)
+  words_3 = is.each 3 (omega arith) (omega (arith, some))
 
-  pub row_words : (k : ℕ) → k + 4 < slot_words layout.version → words (4 + k) ≡ row_word v.row k
-  row_words k lt = is.each (4 + k) (omega arith) (omega arith) ∙ word_past v k
+  pub row_words : (k : ℕ) → k + 4 < used → words (4 + k) ≡ row_word v.row k
+  row_words k lt = is.each (4 + k) (omega arith) (omega (arith, lt)) ∙ word_past v k
 
-  pub byte_is : (i : ℕ) → i / 8 + 4 < slot_words layout.version → slot_byte words i ≡ get_or v.row i 0
-  byte_is i lt = row_byte v.row words (slot_words layout.version - 4) i (λ k k_lt. row_words k (omega arith)) is.fits.bytes (omega arith)
+  pub byte_is : (i : ℕ) → i / 8 + 4 < used → slot_byte words i ≡ get_or v.row i 0
+  byte_is i lt = row_byte v.row words (used - 4) i (λ k k_lt. row_words k (omega (arith, k_lt))) is.fits.bytes (omega (arith, lt))
 
   pub link_is : length v.row < 2 ^ 16 → words 3 / 2 ^ 32 ≡ link_number v.previous
   link_is short = omega (arith, words_3, is.fits.table, short)
 
-  pub length_is : length v.row < 2 ^ 16 → words 3 / 2 ^ 16 % 2 ^ 16 ≡ length v.row
+  pub length_is : length v.row < 2 ^ 16 → length_in words ≡ length v.row
   length_is short = omega (arith, words_3, is.fits.table, short)
 
 -- ---- a loop that fills a list
@@ -56,37 +62,38 @@ set_from f xs first i x lt is before k from k_lt = grind (arith, cases_eq, get_o
 
 -- ---- words read
 
-module _ (layout : Layout) (words : ℕ → ℕ) (bytes : List ℕ) (n : ℕ) (size : length bytes ≡ row_limit layout.version) (read : (i : ℕ) → i < row_limit layout.version → get_or bytes i 0 ≡ slot_byte words i) where
-  fills : row_limit layout.version ≡ 8 * (slot_words layout.version - 4)
-  fills = row-fills layout.version
+-- bytes of the words that a row of this length counts
+module _ (layout : Layout) (words : ℕ → ℕ) (bytes : List ℕ) (n : ℕ) (size : length bytes ≡ 8 * (used_words layout.version n - 4)) (read : (i : ℕ) → i < 8 * (used_words layout.version n - 4) → get_or bytes i 0 ≡ slot_byte words i) where
+  abbrev count : ℕ
+  count = used_words layout.version n
 
   module _ (v : Version) (fit : (w : ℕ) → words w < 2 ^ 64) (small : (i : ℕ) → get_or bytes i 0 < 2 ^ 8)
-      (n_is : n ≡ words 3 / 2 ^ 16 % 2 ^ 16) (short : n ≤ row_limit layout.version) (zeros : (i : ℕ) → i < length (drop n bytes) → get_or (drop n bytes) i 0 ≡ 0)
+      (n_is : n ≡ length_in words) (short : n ≤ row_limit layout.version) (zeros : (i : ℕ) → i < length (drop n bytes) → get_or (drop n bytes) i 0 ≡ 0)
       (key : v.key.key ≡ words 2) (table : v.key.table ≡ words 3 % 2 ^ 16) (row : v.row ≡ take n bytes) (link : link_number v.previous ≡ words 3 / 2 ^ 32) (linked : words 3 / 2 ^ 32 ≤ layout.slots) where
     row_size : length v.row ≡ n
-    row_size = ap (length {A = ℕ}) row ∙ length-take-le n bytes (omega arith)
+    row_size = ap (length {A = ℕ}) row ∙ length-take-le n bytes (omega (arith, size, used-hold layout.version n short))
 
-    row_is : (i : ℕ) → i < row_limit layout.version → get_or v.row i 0 ≡ get_or bytes i 0
+    row_is : (i : ℕ) → i < 8 * (count - 4) → get_or v.row i 0 ≡ get_or bytes i 0
     row_is i lt = elim (cases_lt i n) [
       | inl below ↦ ap (λ (l : List ℕ). get_or l i 0) row ∙ get_or-take n bytes i 0 below
       | inr above ↦
-          let at : n + (i - n) ≡ i = omega arith in
-          get_or_past v.row i 0 (omega (arith, row_size)) ∙ sym (zeros (i - n) (omega (arith, length-drop {A = ℕ}, size))) ∙ get_or-drop n bytes (i - n) 0 ∙ ap (λ (k : ℕ). get_or bytes k 0) at
+          let at : n + (i - n) ≡ i = omega (arith, above) in
+          get_or_past v.row i 0 (omega (arith, row_size, above)) ∙ sym (zeros (i - n) (omega (arith, length-drop {A = ℕ} n bytes, size, lt, above))) ∙ get_or-drop n bytes (i - n) 0 ∙ ap (λ (k : ℕ). get_or bytes k 0) at
     ]
 
-    word_is : (k : ℕ) → k + 4 < slot_words layout.version → words (4 + k) ≡ row_word v.row k
+    word_is : (k : ℕ) → k + 4 < count → words (4 + k) ≡ row_word v.row k
     word_is k lt =
         sym (from_le_bytes-to_le_bytes_8 (words (4 + k)) (fit (4 + k)))
         ∙ same_word (to_le_bytes w64 (words (4 + k))) (drop (8 * k) v.row) (λ i i_lt.
-        let place : (8 * k + i) / 8 ≡ k = omega arith in
-        let rest : (8 * k + i) % 8 ≡ i = omega arith in
+        let place : (8 * k + i) / 8 ≡ k = omega (arith, i_lt) in
+        let rest : (8 * k + i) % 8 ≡ i = omega (arith, i_lt) in
         ap (λ (j : ℕ). get_or (to_le_bytes w64 (words (4 + k))) j 0) (sym rest) ∙ ap (λ (j : ℕ). get_or (to_le_bytes w64 (words (4 + j))) ((8 * k + i) % 8) 0) (sym place)
-        ∙ sym (read (8 * k + i) (omega (arith, fills, lt, i_lt))) ∙ sym (row_is (8 * k + i) (omega (arith, fills, lt, i_lt))) ∙ sym (get_or-drop (8 * k) v.row i 0))
+        ∙ sym (read (8 * k + i) (omega (arith, lt, i_lt))) ∙ sym (row_is (8 * k + i) (omega (arith, lt, i_lt))) ∙ sym (get_or-drop (8 * k) v.row i 0))
 
     header_is : words 3 ≡ v.key.table + 2 ^ 16 * length v.row + 2 ^ 32 * link_number v.previous
-    header_is = omega (arith, row_size, n_is, table, link, short, fills, two-lines layout.version)
+    header_is = omega (arith, row_size, n_is, table, link, short, row-fills layout.version, few-words layout.version)
 
-    each : (w : ℕ) → 2 ≤ w → w < slot_words layout.version → words w ≡ version_word v w
+    each : (w : ℕ) → 2 ≤ w → w < count → words w ≡ version_word v w
     each w from to = elim (cases_lt w 4) [
       | inl low ↦ elim (cases_eq w 2) [
         | inl is ↦ subst (λ (i : ℕ). words i ≡ version_word v i) (sym is) (sym key)
@@ -97,13 +104,21 @@ module _ (layout : Layout) (words : ℕ → ℕ) (bytes : List ℕ) (n : ℕ) (s
     ]
 
     row_small : (i : ℕ) → get_or v.row i 0 < 2 ^ 8
-    row_small i = elim (cases_lt i (row_limit layout.version)) [
+    row_small i = elim (cases_lt i (8 * (count - 4))) [
       | inl within ↦ subst (λ (x : ℕ). x < 2 ^ 8) (sym (row_is i within)) (small i)
-      | inr past ↦ subst (λ (x : ℕ). x < 2 ^ 8) (sym (get_or_past v.row i 0 (omega (arith, row_size)))) (lit< tt)
+      | inr past ↦ subst (λ (x : ℕ). x < 2 ^ 8) (sym (get_or_past v.row i 0 (omega (arith, row_size, past, used-hold layout.version n short)))) (lit< tt)
     ]
 
     pub holds : IsVersion layout words v
-    holds = grind (arith, each, row_size, row_small) steps 800000
+    holds = record {
+      each = λ w from to. each w from (subst (λ (m : ℕ). w < used_words layout.version m) row_size to);
+      fits = record {
+        table = omega (arith, table);
+        row = omega (arith, row_size, short);
+        bytes = row_small;
+        previous = omega (arith, link, linked);
+      };
+    }
 
 -- ---- bytes are small
 
@@ -124,13 +139,10 @@ bytes_small words bytes size whole read i = elim (cases_lt i size) [
   | inr past ↦ subst (λ (x : ℕ). x < 2 ^ 8) (sym (get_or_past bytes i 0 (omega arith))) (lit< tt)
 ]
 
--- the bytes that count of those of a slot of two lines
-module _ (version : ℕ) (bytes : List ℕ) (whole : length bytes ≡ 96) where
-  within : row_limit version ≤ 96
-  within = omega (arith, two-lines version, row-fills version)
+-- the bytes that count, of those of the widest slot
+module _ (count : ℕ) (few : count ≤ 64) (bytes : List ℕ) (whole : length bytes ≡ 480) where
+  pub used_size : length (take (8 * (count - 4)) bytes) ≡ 8 * (count - 4)
+  used_size = length-take-le (8 * (count - 4)) bytes (omega (arith, whole, few))
 
-  pub used_size : length (take (row_limit version) bytes) ≡ row_limit version
-  used_size = length-take-le (row_limit version) bytes (omega (arith, whole, within))
-
-  pub used_read : (words : ℕ → ℕ) → ((i : ℕ) → i < 96 → get_or bytes i 0 ≡ slot_byte words i) → (i : ℕ) → i < row_limit version → get_or (take (row_limit version) bytes) i 0 ≡ slot_byte words i
-  used_read words read i lt = get_or-take (row_limit version) bytes i 0 lt ∙ read i (omega (arith, lt, within))
+  pub used_read : (words : ℕ → ℕ) → ((i : ℕ) → i < 8 * (count - 4) → get_or bytes i 0 ≡ slot_byte words i) → (i : ℕ) → i < 8 * (count - 4) → get_or (take (8 * (count - 4)) bytes) i 0 ≡ slot_byte words i
+  used_read words read i lt = get_or-take (8 * (count - 4)) bytes i 0 lt ∙ read i lt

@@ -11,8 +11,8 @@ use base::fault::Fault;
 use base::geometry::Geometry;
 use pmem::{Pmem, store_all};
 
-/// Stores 0 in a slot's end and then a version in the words after it, to the slot's last: 7 stores, or 15 if a slot has
-/// two lines. The begin stays.
+/// Stores 0 in a slot's end and then a version in the words after it, to the slot's last: 7 stores, and 8 more for each
+/// further line of a slot. The begin stays.
 #[tactic(auto, unfolding(base::specs::Layout::most_slots))]
 #[inline(always)]
 pub fn fill<D: Pmem>(
@@ -34,8 +34,8 @@ pub fn fill<D: Pmem>(
 
     ensures size { (D.state device.new).words ≡ (D.state device.old).words }
 
-    // Exactly the words after the begin are stored in order, seven or fifteen, and nothing else is done to the device. At Err the
-    // first few of them were stored, then one operation failed.
+    // Exactly the words after the begin are stored in order, and nothing else is done to the device. At Err the first few of
+    // them were stored, then one operation failed.
     ensures run { OnOk result (Runs (fill_operations geometry slot version.now) (D.state device.old) (D.state device.new)) }
     ensures stopped { OnErr result (StopsWithin (fill_operations geometry slot version.now) (D.state device.old) (D.state device.new)) }
 {
@@ -58,7 +58,7 @@ fn store_lines<D: Pmem>(
     version: &Version,
     count: usize,
 ) -> Result<(), Fault>
-    requires count { (4 ≤ count) × (count ≤ 16) }
+    requires count { (4 ≤ count) × (count ≤ 64) }
     requires link { link_number version.now.previous < 2 ^ 32 }
     requires fits { first + (count - 1) < 2 ^ 64 }
     requires device { first + (count - 1) ≤ (D.state device.old).words }
@@ -70,7 +70,7 @@ fn store_lines<D: Pmem>(
     ensures bytes { (i : ℕ) → slice_index version.now.row i < 2 ^ 8 }
 {
     // In one place, since an array is large to pass on.
-    let mut words = [0; 16];
+    let mut words = [0; 64];
     version.put_words(count, &mut words);
     store_all(device, first, &words[1..count])
 }

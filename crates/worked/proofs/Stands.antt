@@ -4,7 +4,7 @@ use Rattle.std.specs.Prelude.{Some, None, unwrap_or, ◌||◌, nat_le, nat_lt}
 use Rattle.std.proofs.lemmas.Bool.Decides.{nat_tests}
 use Rattle.base.specs.declared.key.Key.{Key}
 use Rattle.base.specs.Commits.{after}
-use Rattle.base.specs.Layout.{is_known_version, most_slots}
+use Rattle.base.specs.Layout.{is_known_version, most_slots, slot_lines, slot_words, used_words}
 use Rattle.base.specs.Images.{TablesOf, ruling}
 use Rattle.base.specs.Stands.{Stands}
 use Rattle.machine.specs.Openings.{IsOpenedGaps}
@@ -13,6 +13,7 @@ use Rattle.worked.specs.Images.{formatted_image, covered_image, commit_1, FirstR
 
 -- one slot of the four shows the row
 forth : (key : Key) (row : List ℕ) → TablesOf covered_image key row → after (commit_1 ∷ []) key ≡ Some row
+unfolding slot_lines slot_words used_words
 forth key row (zero, lt, live, at, is) = subst (λ (x : Key). after (commit_1 ∷ []) x ≡ Some row) at (ap Some is)
 forth key row (suc zero, lt, live, at, is) = cc
 forth key row (suc (suc zero), lt, live, at, is) = cc
@@ -24,10 +25,11 @@ back_by true row e = (refl, cc)
 back_by false row e = cc
 
 back : (key : Key) (row : List ℕ) → after (commit_1 ∷ []) key ≡ Some row → TablesOf covered_image key row
+unfolding slot_lines slot_words used_words
 back key row e = grind (arith, back_by, key_eq-true)
 
 pub covered-stands : Stands covered_image (commit_1 ∷ []) (commit_1 ∷ []) 10
-unfolding is_known_version most_slots
+unfolding is_known_version most_slots slot_lines slot_words used_words
 covered-stands = record { sound = refl; tables = λ key row. (forth key row, back key row); covered = refl; left_out = refl; reserved = omega arith }
 
 below_one : (t : ℕ) (a b : Bool) → nat_lt 0 t ≡ a → nat_lt t 1 ≡ b → false ≡ a && b
@@ -55,7 +57,7 @@ pub one_gap : IsOpenedGaps (ruling covered_image) (record { first = 2; last = 9 
 one_gap = record { ordered = refl; apart = refl; same = λ t. two_to_nine t (nat_le 2 t) (nat_le t 9) (nat_lt 1 t) (nat_lt t 10) refl refl refl refl }
 
 pub first_run : FirstRunImages
-unfolding is_known_version most_slots
+unfolding is_known_version most_slots slot_lines slot_words used_words
 first_run = record {
   sound = refl;
   ruled = refl;
@@ -68,11 +70,11 @@ first_run = record {
 }
 
 pub damaged : DamagedImages
-unfolding is_known_version most_slots
+unfolding is_known_version most_slots slot_lines slot_words used_words
 damaged = record { format = refl; row = refl; opening = refl; cut_short = refl }
 
 pub read : ReadImages
-unfolding is_known_version most_slots
+unfolding is_known_version most_slots slot_lines slot_words used_words
 read = record { ended = refl; half_written = (refl, refl, refl); largest = (refl, refl, refl) }
 
 pub long_commits : LongCommits

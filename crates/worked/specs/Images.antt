@@ -222,13 +222,28 @@ abbrev pub large_wide_image : Image
 large_wide_image = with_words ((0, superblock_word) ∷ (1, 516) ∷ (2, 4) ∷ (3, 2) ∷ (4, 8) ∷ (5, 136) ∷ (8, 2) ∷ (10, 9) ∷ (40, 3) ∷ (41, 1) ∷ (42, 10)
     ∷ (72, 1) ∷ version_words) (replicate 136 0)
 
--- a large image, changed: no lines, 65 of them, three, and two with the length of one; 2^24 slots and one more with the length of four;
--- a word that is 0; and as version 2
+-- a large image whose slots have eight lines, after the same; behind the row words hold what they held
+abbrev pub large_widest_image : Image
+large_widest_image = with_words ((0, superblock_word) ∷ (1, 2052) ∷ (2, 4) ∷ (3, 2) ∷ (4, 8) ∷ (5, 328) ∷ (8, 2) ∷ (10, 9) ∷ (40, 3) ∷ (41, 1) ∷ (42, 10)
+    ∷ (72, 1) ∷ (77, 5) ∷ (135, 6) ∷ version_words) (replicate 328 0)
+
+-- words of its slots, changed: a byte behind the row in its last word; a word behind it; the longest row, and one byte more
+abbrev pub changed_widest : Table
+changed_widest =
+    ((76, 6513249) ∷ [], Some (Damaged 2))
+    ∷ ((77, 7) ∷ [], None)
+    ∷ ((75, 31457281) ∷ [], None)
+    ∷ ((75, 31522817) ∷ [], Some (Damaged 2))
+    ∷ []
+
+-- a large image, changed: no lines, 65 of them, nine, three and two with the length of one; 2^24 slots and one more with the length of
+-- four; a word that is 0; and as version 2
 abbrev pub changed_large : Table
 changed_large =
     ((1, 4) ∷ [], Some (Version 4))
     ∷ ((1, 16644) ∷ [], Some (Version 16644))
-    ∷ ((1, 772) ∷ [], Some (Version 772))
+    ∷ ((1, 2308) ∷ [], Some (Version 2308))
+    ∷ ((1, 772) ∷ [], Some BadGeometry)
     ∷ ((1, 516) ∷ [], Some BadGeometry)
     ∷ ((2, 16777216) ∷ (5, 134217800) ∷ [], Some BadGeometry)
     ∷ ((2, 16777217) ∷ (5, 134217808) ∷ [], Some BadGeometry)
@@ -247,7 +262,10 @@ layouts_at_limits =
     ∷ (layout_with 2 65537 2 1024, false)
     ∷ (layout_with 3 65537 2 1024, false)
     ∷ (layout_with 4 1 2 1024, false)
-    ∷ (layout_with 772 1 2 1024, false)
+    ∷ (layout_with 772 1 2 1024, true)
+    ∷ (layout_with 2052 16777216 64 1024, true)
+    ∷ (layout_with 2052 16777217 64 1024, false)
+    ∷ (layout_with 2308 1 2 1024, false)
     ∷ []
 
 -- Large images are sound, have their layouts, rows and rulings, and opening doesn't change their version. Others are refused, and there
@@ -261,6 +279,8 @@ pub record LargeImages : Type 0 where
   pub live : (live_slots large_image ≡ true ∷ false ∷ false ∷ false ∷ []) × (live_slots large_wide_image ≡ true ∷ false ∷ false ∷ false ∷ [])
   pub row : (key_of large_image 0 ≡ key_7) × (row_of large_image 0 ≡ ab)
   pub wide_row : (key_of large_wide_image 0 ≡ key_7) × (row_of large_wide_image 0 ≡ ab)
+  pub widest : (damage large_widest_image ≡ None) × (layout_of large_widest_image ≡ layout_with 2052 4 2 8) × (key_of large_widest_image 0 ≡ key_7) × (row_of large_widest_image 0 ≡ ab)
   pub changed : IsTable damage large_image changed_large
+  pub widest_changed : IsTable damage large_widest_image changed_widest
   pub limits : map (λ row. is_in_limits row.0) layouts_at_limits ≡ map (λ row. row.1) layouts_at_limits
   pub longest : map total_words (layout_with 260 16777216 2 1024 ∷ layout_with 516 16777216 64 1024 ∷ []) ≡ 134217800 ∷ 268437512 ∷ []

@@ -10,19 +10,19 @@ pub fn first_run_images()
 {}
 
 /// Which fault each damaged image has.
-#[tactic(auto, unfolding(base::specs::Layout::is_known_version, base::specs::Layout::most_slots))]
+#[tactic(auto, unfolding(base::specs::Layout::is_known_version, base::specs::Layout::most_slots, base::specs::Layout::slot_lines, base::specs::Layout::slot_words, base::specs::Layout::used_words))]
 pub fn damaged_images()
     ensures { DamagedImages }
 {}
 
 /// An image with a ninth gap opens, and is swept first.
-#[tactic(auto, unfolding(base::specs::Layout::is_known_version, base::specs::Layout::most_slots))]
+#[tactic(auto, unfolding(base::specs::Layout::is_known_version, base::specs::Layout::most_slots, base::specs::Layout::slot_lines, base::specs::Layout::slot_words, base::specs::Layout::used_words))]
 pub fn ninth_gap()
     ensures { NinthGap }
 {}
 
 /// A body that isn't the ruling record's is never read; rows and keys of every size are.
-#[tactic(auto, unfolding(base::specs::Layout::is_known_version, base::specs::Layout::most_slots))]
+#[tactic(auto, unfolding(base::specs::Layout::is_known_version, base::specs::Layout::most_slots, base::specs::Layout::slot_lines, base::specs::Layout::slot_words, base::specs::Layout::used_words))]
 pub fn read_images()
     ensures { ReadImages }
 {}
@@ -33,7 +33,7 @@ pub fn long_commits()
 {}
 
 /// Images of version 4: their words, which of them are refused, and how long they may be.
-#[tactic(auto, unfolding(base::specs::Layout::is_known_version, base::specs::Layout::most_slots))]
+#[tactic(auto, unfolding(base::specs::Layout::is_known_version, base::specs::Layout::most_slots, base::specs::Layout::slot_lines, base::specs::Layout::slot_words, base::specs::Layout::used_words))]
 pub fn large_images()
     ensures { LargeImages }
 {}

@@ -1,25 +1,25 @@
 -- What each tick of a cycle makes of what a device holds.
-use Rattle.std.proofs.Common.{◌≡◌, inl, inr, ℕ, suc, zero, ◌+◌, ◌-◌, ◌*◌, ◌/◌, ◌^◌, ◌<◌, ◌≤◌, Bool, true, false, List, [], ◌∷◌, ◌++◌, take, length, refl, sym, ◌∙◌, ap, subst, arith, true≢false}
+use Rattle.std.proofs.Common.{◌≡◌, inl, inr, ℕ, suc, zero, ◌+◌, ◌-◌, ◌*◌, ◌/◌, ◌^◌, ◌<◌, ◌≤◌, Bool, true, false, cond, List, [], ◌∷◌, ◌++◌, take, length, refl, sym, ◌∙◌, ap, subst, arith, true≢false}
 use Rattle.std.specs.Prelude.{Option, Some, None, slice_get}
 use Rattle.std.specs.List.{flat_map, range_with_len}
 use Rattle.std.proofs.lemmas.Bool.{cases_lt}
 use Rattle.std.proofs.lemmas.List.{take_all}
 use Rattle.base.specs.Commits.{Commit}
-use Rattle.base.specs.Layout.{Layout, slot_words, total_words}
+use Rattle.base.specs.Layout.{Layout, slot_words, total_words, version_lines}
 use Rattle.machine.specs.Machine.{State, Hand, lines_of}
 use Rattle.pmem.specs.Device.{Device, IsOrderly, flushed, fenced, failed}
 use Rattle.pmem.specs.Words.{OnlyShrinks, IsSettled}
 use Rattle.pmem.proofs.Changes.{flushed-shrinks, fenced-shrinks, failed-shrinks, flushed-ready, fenced-settles}
 use Rattle.log_area.specs.declared.stage.WritingStage.TheVariants.{StoreBody}
 use Rattle.base.specs.Actors.{committer}
-use Rattle.base.proofs.Layouts.{line-words}
+use Rattle.base.proofs.Layouts.{line-words, lines-words, slot_whole}
 use Rattle.log_area.proofs.UntouchedWords.{KeepsLog, keeps_log-flushed, keeps_log-fenced, keeps_log-failed}
 use Rattle.log_area.proofs.Replacing.{replacing_begun}
 use Rattle.state_invariant.specs.Kept.{Origin, Keeps, KeepsHand}
 use Rattle.state_invariant.specs.Shown.{word_of}
 use Rattle.device_invariant.specs.Slots.{SlotHolds, SlotsHold}
 use Rattle.device_invariant.specs.Sweeps.{IsSweeping}
-use Rattle.device_invariant.specs.Log.{Line, line_number, lines_at, lines_in, is_own, is_ended, IsLineReady, AreReady, IsBatchSettled, IsFlushing, IsRecording, HoldsHand}
+use Rattle.device_invariant.specs.Log.{Line, line_at, line_number, lines_at, lines_in, is_own, is_ended, IsLineReady, AreReady, IsBatchSettled, IsFlushing, IsRecording, HoldsHand}
 use Rattle.device_invariant.specs.Upholds.{HoldsState}
 use Rattle.device_invariant.proofs.Words.{word-within}
 use Rattle.device_invariant.proofs.moves.Shrinking.{slots-shrink, sweeping-shrink, hand-shrink}
@@ -99,7 +99,7 @@ ready-more a device (x ∷ lines) (suc i) line at ready this = (ready.0, ready-m
 
 -- each word of a line of a slot has the line's number
 line-word : (a : Layout) (line : Line) (w : ℕ) → 8 * line.part ≤ w → w < 8 * line.part + 8 → word_of a line.slot w / 8 ≡ line_number a line
-line-word a line w from to = grind arith
+line-word a line w from to = omega (arith, slot_whole a line.slot, from, to)
 
 pub line-flushed : (a : Layout) (old new : Device) (line : Line) → IsOrderly old → old.words ≡ total_words a → new ≡ flushed committer (line_number a line) old → IsLineReady a new line
 line-flushed a old new line orderly size is = grind (arith, flushed-ready, word-within, line-word)
@@ -152,11 +152,17 @@ module _ (q : State) (commits : List Commit) (old new : Device) (is : new ≡ fe
   }
     where
       whole : (slot w : ℕ) → slot < q.layout.slots → w < slot_words q.layout.version → is_own commits (q.held slot) ≡ true → IsSettled new (word_of q.layout slot w)
-      whole slot w lt low own = grind (arith, here slot lt)
+      whole slot w lt low own =
+          let lines = subst (λ (b : Bool). AreReady q.layout old (cond b (flat_map (λ part. line_at slot part ∷ []) (range_with_len 0 (version_lines q.layout))) (cond (is_ended q commits (q.held slot)) (line_at slot 0 ∷ []) []))) own (here slot lt) in
+          let part = ready-at q.layout old (λ part. line_at slot part ∷ []) 0 (version_lines q.layout) (w / 8) lines (omega arith) (omega (arith, low, lines-words q.layout)) in
+          settles slot w (line_at slot (w / 8)) lt low refl (omega arith) (omega arith) part.0
 
       by_own : (slot : ℕ) → slot < q.layout.slots → is_ended q commits (q.held slot) ≡ true → (b : Bool) → is_own commits (q.held slot) ≡ b → IsSettled new (word_of q.layout slot 1)
       by_own slot lt ended true own = whole slot 1 lt (omega (arith, line-words q.layout.version)) own
-      by_own slot lt ended false own = grind (arith, here slot lt)
+      by_own slot lt ended false own =
+          let lines = subst (λ (b : Bool). AreReady q.layout old (cond b (flat_map (λ part. line_at slot part ∷ []) (range_with_len 0 (version_lines q.layout))) (cond (is_ended q commits (q.held slot)) (line_at slot 0 ∷ []) []))) own (here slot lt) in
+          let first = subst (λ (b : Bool). AreReady q.layout old (cond b (line_at slot 0 ∷ []) [])) ended lines in
+          settles slot 1 (line_at slot 0) lt (omega (arith, line-words q.layout.version)) refl (omega arith) (omega arith) first.0
 
 -- all lines are flushed, and now they persist
 pub holds-lines : (q : State) (hand : Hand) (old new : Device) → q.hand ≡ Some hand → hand.ticks ≡ lines_of q hand.commits + 1 → length (lines_in q hand.commits) ≡ lines_of q hand.commits

@@ -1,6 +1,7 @@
 -- Moves under which no word of the slots is stored.
-use Rattle.std.proofs.Common.{◌≡◌, inl, inr, ℕ, ◌-◌, ◌<◌, List, [], ◌∷◌, take, arith}
+use Rattle.std.proofs.Common.{◌≡◌, inl, inr, ℕ, ◌-◌, ◌<◌, List, [], ◌∷◌, take, sym, subst, arith}
 use Rattle.std.specs.Prelude.{Option, Some, None}
+use Rattle.base.specs.declared.key.Key.{Key}
 use Rattle.base.specs.Layout.{Layout, slot_words}
 use Rattle.machine.specs.Machine.{State, Hand}
 use Rattle.pmem.specs.Device.{Device}
@@ -8,7 +9,7 @@ use Rattle.pmem.specs.Words.{OnlyShrinks}
 use Rattle.log_area.specs.Writings.{IsNextRecord}
 use Rattle.log_area.proofs.UntouchedWords.{KeepsLog, holds_record_kept, replacing_kept}
 use Rattle.state_invariant.specs.Shown.{word_of}
-use Rattle.device_invariant.specs.Slots.{IsDead, SlotHolds, SlotsHold}
+use Rattle.device_invariant.specs.Slots.{Counts, IsDead, IsLive, SlotHolds, SlotsHold}
 use Rattle.device_invariant.specs.Sweeps.{IsSweeping}
 use Rattle.device_invariant.specs.Log.{Line, IsLineReady, AreReady, IsBatchSettled, HoldsHand, writing_at, lines_in}
 use Rattle.pmem.proofs.Changes.{each-shrinks, settled_at-shrinks}
@@ -32,7 +33,7 @@ slot-shrink q old new slot shrinks h = record {
   own = λ n key held. settled_at-shrinks first (h.own n key held);
   drawn = λ t key d held found. each-shrinks first (λ x is. is) (h.drawn t key d held found);
   unstamped = λ t key d held found not_stamped up. settled_at-shrinks first (h.unstamped t key d held found not_stamped up);
-  newest = λ key held. grind (arith);
+  newest = λ key held. live key (h.newest key held);
   replaced = λ t key held none other. each-shrinks second (λ x is. is) (h.replaced t key held none other);
 }
   where
@@ -45,6 +46,14 @@ slot-shrink q old new slot shrinks h = record {
     dead : IsDead q old slot → IsDead q new slot
     dead (inl begin) = inl (each-shrinks first (λ x is. is) begin)
     dead (inr end) = inr (each-shrinks second (λ x is. is) end)
+
+    live : (key : Key) → IsLive q old slot key → IsLive q new slot key
+    live key l = record {
+      begin = first.settled l.begin;
+      counted = subst (Counts q) (sym first.value) l.counted;
+      end = each-shrinks second (λ x is. is) l.end;
+      settled = λ w two low. (shrinks w low).settled (l.settled w two low);
+    }
 
 pub slots-shrink : (q : State) (old new : Device) → ShrinksSlots q.layout old new → SlotsHold q old → SlotsHold q new
 slots-shrink q old new shrinks h = record { each = λ slot lt. slot-shrink q old new slot (shrinks slot lt) (h.each slot lt) }
@@ -66,7 +75,10 @@ ready-shrink a old new [] shrinks ready = tt
 ready-shrink a old new (line ∷ lines) shrinks ready = (line-shrink a old new line shrinks ready.0, ready-shrink a old new lines shrinks ready.1)
 
 pub settled-shrink : (q : State) (hand : Hand) (old new : Device) → ShrinksSlots q.layout old new → IsBatchSettled q hand.commits old → IsBatchSettled q hand.commits new
-settled-shrink q hand old new shrinks settled = grind (arith, within-slot)
+settled-shrink q hand old new shrinks settled = record {
+  own = λ slot lt own. record { each = λ w low. (shrinks slot lt w low).settled ((settled.own slot lt own).each w low) };
+  ended = λ slot lt ended. (shrinks slot lt 1 (within-slot q.layout.version 1 (omega arith))).settled (settled.ended slot lt ended);
+}
 
 -- ---- the log
 

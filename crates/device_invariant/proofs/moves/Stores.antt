@@ -1,10 +1,10 @@
 -- What a store into one slot makes of what a device holds.
-use Rattle.std.proofs.Common.{◌≡◌, ◌≢◌, ◌⊎◌, inl, inr, ℕ, suc, zero, ◌+◌, ◌-◌, ◌<◌, false, List, [], ◌∷◌, ◌++◌, take, refl, sym, ◌∙◌, ap, subst, arith, true≢false}
+use Rattle.std.proofs.Common.{◌≡◌, ◌≢◌, ◌⊎◌, inl, inr, ℕ, suc, zero, ◌+◌, ◌-◌, ◌<◌, Bool, true, false, cond, List, [], ◌∷◌, ◌++◌, take, refl, sym, ◌∙◌, ap, subst, arith, true≢false}
 use Rattle.std.specs.Prelude.{Option, Some, None}
 use Rattle.std.specs.List.{flat_map, range_with_len}
 use Rattle.std.proofs.lemmas.Bool.{cases_eq}
 use Rattle.base.specs.Commits.{Commit}
-use Rattle.base.specs.Layout.{Layout, slot_words}
+use Rattle.base.specs.Layout.{Layout, slot_words, version_lines}
 use Rattle.base.specs.Records.{is_in}
 use Rattle.machine.specs.Machine.{State, Hand}
 use Rattle.pmem.specs.Device.{Device, stored, fenced}
@@ -66,7 +66,18 @@ apart-parts slot k from zero apart = tt
 apart-parts slot k from (suc n) apart = (apart, apart-parts slot k (from + 1) n apart)
 
 apart-at : (q : State) (commits : List Commit) (slot k : ℕ) → IsUntouched q commits slot → AreApart slot (lines_at q commits k)
-apart-at q commits slot k untouched = grind (arith, cases_eq, apart-parts)
+apart-at q commits slot k untouched = elim (cases_eq k slot) [
+  | inl same ↦ subst (AreApart slot) (sym (ap (lines_at q commits) same ∙ none)) tt
+  | inr apart ↦ by apart (is_own commits (q.held k)) (is_ended q commits (q.held k))
+]
+  where
+    none : lines_at q commits slot ≡ []
+    none = λ i. cond (untouched.not_own i) (flat_map (λ part. line_at slot part ∷ []) (range_with_len 0 (version_lines q.layout))) (cond (untouched.not_ended i) (line_at slot 0 ∷ []) [])
+
+    by : k ≢ slot → (own ended : Bool) → AreApart slot (cond own (flat_map (λ part. line_at k part ∷ []) (range_with_len 0 (version_lines q.layout))) (cond ended (line_at k 0 ∷ []) []))
+    by apart true ended = apart-parts slot k 0 (version_lines q.layout) apart
+    by apart false true = (apart, tt)
+    by apart false false = tt
 
 apart-range : (q : State) (commits : List Commit) (slot from n : ℕ) → IsUntouched q commits slot → AreApart slot (flat_map (lines_at q commits) (range_with_len from n))
 apart-range q commits slot from zero untouched = tt

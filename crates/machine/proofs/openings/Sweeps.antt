@@ -17,7 +17,11 @@ unmarked-low a word low = ap (λ (b : Bool). b && nat_lt ((word - slot_start a 0
 
 -- a word of a slot is one of the first two or not
 pub mark-of : (a : Layout) (slot w : ℕ) → w < slot_words a.version → is_mark a (slot_start a slot + w) ≡ nat_lt w 2
-mark-of a slot w inside = grind (arith, mul-add-mod_self_left, mod-eq_of_lt, le-leb)
+mark-of a slot w inside =
+    let from : slot_start a slot + w - slot_start a 0 ≡ slot_words a.version * slot + w = omega arith in
+    let rest : (slot_start a slot + w - slot_start a 0) % slot_words a.version ≡ w =
+    ap (λ (n : ℕ). n % slot_words a.version) from ∙ mul-add-mod_self_left (slot_words a.version) slot w ∙ mod-eq_of_lt inside in
+    λ i. le-leb (slot_start a 0) (slot_start a slot + w) (omega arith) i && nat_lt (rest i) 2
 
 -- ---- words
 

@@ -1,6 +1,6 @@
 -- An image of the first version opens as one of the second, which has the same words except for the version.
 use Rattle.std.proofs.Common.{◌≡◌, ◌≢◌, ◌⊎◌, inl, inr, ℕ, zero, suc, ◌+◌, ◌*◌, ◌%◌, ◌^◌, ◌≤◌, max, Bool, true, cond, not, ◌&&◌, ◌||◌, nat_eq, nat_le, nat_lt, List, [], ◌∷◌, length, map, fold, refl, sym, ◌∙◌, ap, subst, arith}
-use Rattle.std.specs.Prelude.{◌/◌, Some, None, is_some, slice_index, slice_range, take, flat_map}
+use Rattle.std.specs.Prelude.{◌/◌, Some, None, is_some, slice_index, slice_range, take, drop, flat_map}
 use Rattle.std.specs.List.{list_all, range_with_len}
 use Rattle.std.specs.Option.{option_map}
 use Rattle.std.specs.Int.{to_le_bytes, w64}
@@ -8,7 +8,7 @@ use Rattle.std.proofs.lemmas.Bool.{and_parts, and_from, leb-true}
 use Rattle.base.specs.declared.gap.Gap.{Gap}
 use Rattle.base.specs.declared.fault.Fault.TheVariants.{Damaged, TimestampsOut}
 use Rattle.base.specs.Commits.{Commit, last_writer}
-use Rattle.base.specs.Layout.{Layout, is_known_version, most_slots, opened_layout, opened_version, place_start}
+use Rattle.base.specs.Layout.{Layout, is_known_version, most_slots, opened_layout, opened_version, place_start, slot_lines, slot_words, used_words}
 use Rattle.base.specs.Search.{count_below, first_below, some_if}
 use Rattle.base.specs.Records.{Record, record_in, record_word, is_record, is_well_formed, is_committed, is_in, opened_gaps}
 use Rattle.base.specs.Images.{Image, layout_of, begin_of, gate_at, place_words, greatest_gate, ruling_place, ruling, is_ruled, is_wrong_gate, slot_word, key_of, row_of, bytes_of, is_shown, is_misfit, is_second, len_of, is_bad_slot, faults_of, opening_fault, damage, is_near_limit, needs_sweep}
@@ -74,10 +74,12 @@ module _ (first : ℕ) (words : List ℕ) where
   wrong-same place = ap (λ (g : ℕ). not (nat_eq g 0) && (nat_le (2 ^ 62) g || not (nat_eq (g % (layout_of old).places) place))) (gate-same place)
 
   pub slot-same : (slot w : ℕ) → slot_word new slot w ≡ slot_word old slot w
+  unfolding slot_lines slot_words
   slot-same slot w = word-same (8 + 32 * (layout_of old).places + 8 * slot + w) (omega arith)
 
   bytes-same : (slot : ℕ) → bytes_of new slot ≡ bytes_of old slot
-  bytes-same slot = ap (flat_map (to_le_bytes w64)) (range-same (8 + 32 * (layout_of old).places + 8 * slot + 4) (8 + 32 * (layout_of old).places + 8 * (slot + 1)) (omega arith))
+  unfolding slot_lines slot_words used_words
+  bytes-same slot = ap (flat_map (to_le_bytes w64)) (range-same (8 + 32 * (layout_of old).places + 8 * slot + 4) (8 + 32 * (layout_of old).places + 8 * slot + 8) (omega arith))
 
   -- ---- the slots
 
@@ -88,13 +90,17 @@ module _ (first : ℕ) (words : List ℕ) where
   key-same slot = λ i. record { table = slot-same slot 3 i % 2 ^ 16; key = slot-same slot 2 i }
 
   len-same : (slot : ℕ) → len_of new slot ≡ len_of old slot
-  len-same slot = ap (λ (w : ℕ). w / 2 ^ 16 % 2 ^ 8) (slot-same slot 3)
+  len-same slot = ap (λ (w : ℕ). w / 2 ^ 16 % 2 ^ 16) (slot-same slot 3)
 
   row-same : (slot : ℕ) → row_of new slot ≡ row_of old slot
   row-same slot = λ i. take (len-same slot i) (bytes-same slot i)
 
   misfit-same : (slot : ℕ) → is_misfit new slot ≡ is_misfit old slot
-  misfit-same slot = grind (arith, slot-same, bytes-same)
+  unfolding slot_lines slot_words
+  misfit-same slot = λ i.
+      nat_lt 32 (len-same slot i)
+      || not (list_all (nat_eq 0) (drop (len-same slot i) (bytes-same slot i)))
+      || nat_lt (layout_of old).slots (slot-same slot 3 i / 2 ^ 32)
 
   second-same : (r : Record) (slot : ℕ) → is_second r new slot ≡ is_second r old slot
   second-same r slot = λ i. is_some (first_below slot (λ lower. shown-same r lower i && key_eq (key-same lower i) (key-same slot i)))
@@ -108,6 +114,7 @@ module _ (first : ℕ) (words : List ℕ) where
   needs-same = ap (λ (r : Record). nat_lt 8 (length (opened_gaps r))) ruling-same
 
   swept-same : (word : ℕ) → 2 ≤ word → slice_index (swept new) word ≡ slice_index (swept old) word
+  unfolding slot_lines slot_words
   swept-same word far =
       swept-at new word
       ∙ (λ i. cond (is_mark (layout_of old) word && is_in (opened_gaps (ruling-same i)) (word-same word far i)) 0 (word-same word far i))
@@ -150,7 +157,7 @@ module _ (first : ℕ) (words : List ℕ) where
             and_from (nat_eq (length ws) 32 && list_all (λ w. nat_eq (slice_index ws w) (record_word (record_in ws) w)) (range_with_len 0 32)) (is_well_formed 2 (record_in ws)) parts.0 (formed-more (record_in ws) parts.1)
 
     sound-new : damage new ≡ None
-    unfolding is_known_version most_slots
+    unfolding is_known_version most_slots slot_lines slot_words
     sound-new =
         let (formatted, (_, (geometry, (gates, (_, (slots, _)))))) = f in
         none_first (faults_of new) (
@@ -216,6 +223,7 @@ module _ (first : ℕ) (words : List ℕ) where
     }
 
     pub opens-first : OpensUpdated old
+    unfolding slot_lines slot_words
     opens-first = record {
       opens = opens-new;
       up_to_date = refl;

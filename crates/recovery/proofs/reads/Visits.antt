@@ -3,7 +3,6 @@ use Rattle.std.proofs.Common.{◌≡◌, ◌⊎◌, inl, inr, ℕ, ◌+◌, ◌<
 use Rattle.std.specs.Prelude.{Option, Some, None, is_some}
 use Rattle.std.specs.Option.{option_or, option_map}
 use Rattle.std.specs.BTreeMap.{is_at}
-use Rattle.std.proofs.Math.Nat.{mul-le-mul_left}
 use Rattle.std.proofs.lemmas.Bool.{cases_lt, le-leb, lt-leb}
 use Rattle.std.proofs.lemmas.List.{get_or_past}
 use Rattle.std.proofs.lemmas.List.FromFn.{map-range_with_len_more, length-map-range_with_len, get_or-map-range_with_len}
@@ -11,11 +10,11 @@ use Rattle.base.specs.declared.key.Key.{Key}
 use Rattle.base.specs.declared.fault.Fault.{Fault}
 use Rattle.base.specs.declared.fault.Fault.TheVariants.{Damaged, OutOfMemory}
 use Rattle.base.specs.Keys.{key_eq}
-use Rattle.base.specs.Layout.{Layout, slot_start, slot_words, total_words}
+use Rattle.base.specs.Layout.{Layout, slot_start, slot_words, total_words, used_words}
 use Rattle.base.specs.Records.{Record, is_committed}
 use Rattle.base.specs.Search.{first_below}
 use Rattle.base.specs.Images.{Image, layout_of, ruling, slot_word, begin_of, end_of, key_of, row_of, is_ahead, is_shown, is_misfit, is_bad_slot, is_second}
-use Rattle.base.proofs.Layouts.{line-words}
+use Rattle.base.proofs.Layouts.{line-words, slot_within, used-words}
 use Rattle.base.proofs.KeyOrder.{is_at-key}
 use Rattle.base.proofs.Search.{first_below-found}
 use Rattle.pmem.specs.Device.{Device, IsOrderly}
@@ -154,7 +153,7 @@ module _ (device : Device) (layout : Layout) (r : Record) (slot : ℕ) (size : d
   word-at word lt = get_or-map-range_with_len (value_of device) 0 device.words word word 0 lt (omega arith)
 
   in-slot : (w : ℕ) → w < slot_words layout.version → slot_start layout slot + w < device.words
-  in-slot w lt = grind (arith, mul-le-mul_left)
+  in-slot w lt = omega (arith, slot_within layout slot h, lt, size)
 
   each-word : (w : ℕ) → w < slot_words layout.version → slot_word (image_of device) slot w ≡ slot_at layout slot (value_of device) w
   each-word w lt = ap (λ (l : Layout). get_or (image_of device) (slot_start l slot + w) 0) laid-out ∙ word-at (slot_start layout slot + w) (in-slot w lt)
@@ -174,7 +173,10 @@ module _ (device : Device) (layout : Layout) (r : Record) (slot : ℕ) (size : d
 
   -- a version that the device's words hold is one that the image's words hold
   pub held : (v : Version) → IsVersion layout (slot_at layout slot (value_of device)) v → IsVersion (layout_of (image_of device)) (slot_word (image_of device) slot) v
-  held v is = grind (arith, same-width, each-word, laid-out) steps 800000
+  held v is = subst (λ (l : Layout). IsVersion l (slot_word (image_of device) slot) v) (sym laid-out) (record {
+    each = λ w low high. each-word w (omega (arith, high, (used-words layout.version (length v.row)).1)) ∙ is.each w low high;
+    fits = is.fits;
+  })
 
   -- its row
   pub row-held : (s : Slot) → IsSlot layout (slot_at layout slot (value_of device)) s → row_of (image_of device) slot ≡ s.version.row
@@ -193,7 +195,9 @@ module _ (device : Device) (layout : Layout) (r : Record) (slot : ℕ) (size : d
           let image = image_of device in
           let version = holds_version image slot within whole (fits-words orderly) is in
           absurd (none (version_of image slot) (record {
-            each = λ w low high. sym (each-word w high) ∙ version.each w low (omega (arith, high, same-width));
+            each = λ w low high.
+                sym (each-word w (omega (arith, high, (used-words layout.version (length (version_of image slot).row)).1)))
+                ∙ version.each w low (subst (λ (l : Layout). w < used_words l.version (length (version_of image slot).row)) (sym laid-out) high);
             fits = subst (λ (l : Layout). Fits l (version_of image slot)) laid-out version.fits;
           }))
 

@@ -1,6 +1,5 @@
 -- What a crash leaves while the gaps are swept: the record that ruled, and rows that count the same.
 use Rattle.std.proofs.Common.{◌≡◌, ◌⊎◌, inl, inr, ℕ, ◌+◌, ◌*◌, ◌<◌, ◌≤◌, false, List, length, get_or, sym, ◌∙◌, ap, subst, arith}
-use Rattle.std.proofs.Math.Nat.{mul-le-mul_left}
 use Rattle.std.proofs.lemmas.Bool.{and_parts, le-ltb}
 use Rattle.std.proofs.lemmas.List.FromFn.{length-map-range_with_len, get_or-map-range_with_len}
 use Rattle.base.specs.Commits.{Commit}
@@ -13,7 +12,7 @@ use Rattle.base.specs.Stands.{Stands}
 use Rattle.base.proofs.Alike.{HasRowsOf, CountsAlike}
 use Rattle.machine.proofs.openings.Records.{uncommitted-in}
 use Rattle.machine.proofs.openings.States.{covers-of, below-of}
-use Rattle.base.proofs.Layouts.{line-words}
+use Rattle.base.proofs.Layouts.{line-words, slot_within}
 use Rattle.machine.proofs.openings.Sweeps.{mark-of, unmarked-low}
 use Rattle.pmem.specs.Device.{Device}
 use Rattle.pmem.specs.Words.{value_of, image_of, Survives, IsAtRest, IsSettledAt, IsWithin, OldOr, Keeps, LeavesOnly}
@@ -55,7 +54,7 @@ module _ (a : Layout) (r : Record) (old : Device) (rest : IsAtRest old) (rules :
     value-old word lt = get_or-map-range_with_len (value_of old) 0 old.words word word 0 lt (omega arith)
 
     slot-in : (slot w : ℕ) → slot < a.slots → w < slot_words a.version → slot_start a slot + w < old.words
-    slot-in slot w h lt = grind (arith, size-old, mul-le-mul_left) steps 800000
+    slot-in slot w h lt = omega (arith, slot_within a slot h, lt, size-old)
 
     rows-sweeping : HasRowsOf (image_of old) image
     rows-sweeping = record {

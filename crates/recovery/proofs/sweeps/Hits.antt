@@ -6,6 +6,7 @@ use Rattle.std.proofs.lemmas.List.FromFn.{length-map-range_with_len, get_or-map-
 use Rattle.std.proofs.lemmas.Simd.{map-map}
 use Rattle.base.specs.declared.gap.Gap.{Gap}
 use Rattle.base.specs.Layout.{Layout, slot_start, slot_words, opened_version, opened_layout}
+use Rattle.base.proofs.Layouts.{opened-words}
 use Rattle.machine.specs.Laws.{OpensUpdated}
 use Rattle.base.specs.Records.{Record, is_in, opened_gaps}
 use Rattle.base.specs.Images.{Image, layout_of, ruling, slot_word, begin_of, end_of}
@@ -44,7 +45,7 @@ hit-at image n slot d hits are h = ap (λ (xs : List Bool). get_or xs slot d) ar
 -- ---- an image that is updated first
 
 same-width : (version : ℕ) → slot_words (opened_version version) ≡ slot_words version
-same-width version = grind (arith) steps 800000
+same-width version = opened-words version
 
 module _ (image : Image) (up : OpensUpdated image) where
   word-updated : (slot w : ℕ) → slot_word (updated image) slot w ≡ slot_word image slot w

@@ -1,8 +1,8 @@
 -- What a sweep makes of a device, and how an image is opened whose gaps are swept because a record can't hold them.
-use Rattle.std.proofs.Common.{◌≡◌, ◌≢◌, ◌⊎◌, inl, inr, ℕ, zero, suc, ◌+◌, ◌-◌, ◌*◌, ◌/◌, ◌<◌, ◌≤◌, Bool, true, false, cond, ◌&&◌, ◌||◌, List, [], ◌∷◌, ◌++◌, flat_map, get_or, refl, sym, ◌∙◌, ap, subst, arith, true≢false, length, nat_lt}
+use Rattle.std.proofs.Common.{◌≡◌, ◌≢◌, ◌⊎◌, inl, inr, ℕ, zero, suc, ◌+◌, ◌-◌, ◌*◌, ◌/◌, ◌%◌, ◌<◌, ◌≤◌, Bool, true, false, cond, ◌&&◌, ◌||◌, List, [], ◌∷◌, ◌++◌, flat_map, get_or, refl, sym, ◌∙◌, ap, subst, arith, true≢false, length, nat_le, nat_lt}
 use Rattle.std.specs.List.{Contains, range_with_len}
-use Rattle.std.proofs.Math.Nat.{mul-le-mul_left}
-use Rattle.std.proofs.lemmas.Bool.{and_parts, and_from, lt-ltb, or_left, or_right}
+use Rattle.std.proofs.Math.Nat.{div-add-mod, mul-le-mul_left}
+use Rattle.std.proofs.lemmas.Bool.{and_parts, and_from, cases_lt, leb-true, lt-ltb, ltb-true, or_left, or_right}
 use Rattle.std.proofs.lemmas.List.{append_assoc, append-nil, ext_get_or}
 use Rattle.std.proofs.lemmas.List.Concat.{flat_map-append}
 use Rattle.std.proofs.lemmas.List.Elements.{All-nil, All-cons, All-append, Contains-append_right}
@@ -62,7 +62,7 @@ module _ (f : ℕ → List Operation) where
       All-append (StoresOnly Q) (f from) (flat_map f (range_with_len (from + 1) n)) (each from (omega arith) (omega arith)) (all-slots Q (from + 1) n (λ k low high. each k (omega (arith, low)) (omega (arith, high))))
 
 slot-order : (a : Layout) (k slot : ℕ) → k < slot → slot_start a k + slot_words a.version ≤ slot_start a slot
-slot-order a k slot lt = grind (arith, mul-le-mul_left)
+slot-order a k slot lt = omega (arith, mul-le-mul_left {m = k + 1} {n = slot} (slot_words a.version) (omega (arith, lt)))
 
 module _ (a : Layout) (r : Record) (start : Device) where
   abbrev value : ℕ → ℕ
@@ -171,8 +171,18 @@ module _ (a : Layout) (r : Record) (start : Device) where
 
     of-slot : (word : ℕ) → word < start.words → is_mark a word ≡ true → IsOfSlot word
     of-slot word lt mark =
-        let width : ℕ = slot_words a.version in
-        grind (arith)
+        let both = and_parts (nat_le (slot_start a 0) word) _ mark in
+        let behind : slot_start a 0 ≤ word = leb-true (slot_start a 0) word both.0 in
+        let two : (word - slot_start a 0) % slot_words a.version < 2 = ltb-true _ 2 both.1 in
+        let whole = div-add-mod (word - slot_start a 0) (slot_words a.version) in
+        let is : slot_start a ((word - slot_start a 0) / slot_words a.version) + (word - slot_start a 0) % slot_words a.version ≡ word = omega (arith, whole, behind) in
+        record { slot = (word - slot_start a 0) / slot_words a.version; w = (word - slot_start a 0) % slot_words a.version; inside = inside ((word - slot_start a 0) / slot_words a.version) (omega (arith, is, lt, size)); two = two; is = is }
+      where
+        inside : (slot : ℕ) → slot_start a slot < total_words a → slot < a.slots
+        inside slot low = elim (cases_lt slot a.slots) [
+          | inl less ↦ less
+          | inr past ↦ absurd (omega (arith, low, mul-le-mul_left {m = a.slots} {n = slot} (slot_words a.version) past))
+        ]
 
     inside-words : (slot w : ℕ) → slot < a.slots → w < 2 → slot_start a slot + w < start.words
     inside-words slot w h two = omega (arith, slot-order a slot a.slots h, size, two, line-words a.version)

@@ -8,7 +8,7 @@ use Rattle.std.proofs.lemmas.List.FromFn.{length-map-range_with_len, get_or-map-
 use Rattle.base.specs.declared.key.Key.{Key}
 use Rattle.base.specs.declared.gap.Gap.{Gap}
 use Rattle.base.specs.Commits.{Commit}
-use Rattle.base.specs.Layout.{Layout, slot_words, total_words}
+use Rattle.base.specs.Layout.{Layout, slot_start, slot_words, total_words}
 use Rattle.base.specs.Records.{Record, opened_gaps}
 use Rattle.base.specs.Images.{Image, IsSound, layout_of, ruling, is_shown, IsRuledBy}
 use Rattle.base.specs.Stands.{Stands}
@@ -72,7 +72,9 @@ found-alike : (before image : Image) (free : List Bool) (index : List (Key × En
 found-alike before image free index like wide found = record {
   nothing_else = found.nothing_else;
   newest = λ key slot is. let at = found.newest key slot is in (at.0, at.1, key-same before image like slot at.0 wide ∙ at.2);
-  each = λ slot lt taken fits. grind (arith, misfit-same);
+  each = λ slot lt taken fits.
+      let known = found.each slot lt taken (sym (misfit-same before image like slot lt wide) ∙ fits) in
+      subst (λ (key : Key). is_some (entry_at index key).newest ≡ true) (sym (key-same before image like slot lt wide)) known;
 }
 
 -- the same slots are free
@@ -123,7 +125,11 @@ module _ (old new : Device) (layout : Layout) (r : Record) (next : ℕ) (free : 
   rows-now = record {
     size = image_size new ∙ new-words ∙ sym (image_size old) ∙ sym up.size;
     laid_out = layout-now;
-    same = λ slot w lt low high. grind (arith, layout-now, layout_is, slot-now, opened-rows);
+    same = λ slot w lt low high.
+        let rows = opened-rows image in
+        ap (λ (l : Layout). get_or (image_of new) (slot_start l slot + w) 0) (layout-now ∙ sym layout_is)
+        ∙ slot-now slot w (subst (λ (l : Layout). slot < l.slots) (sym layout_is) lt) (subst (λ (l : Layout). w < slot_words l.version) (sym layout_is) high)
+        ∙ ap (λ (l : Layout). get_or (opened_slots image) (slot_start l slot + w) 0) (layout_is ∙ sym rows.laid_out) ∙ rows.same slot w lt low high;
   }
 
   wide : 8 ≤ slot_words (layout_of image).version
@@ -131,7 +137,11 @@ module _ (old new : Device) (layout : Layout) (r : Record) (next : ℕ) (free : 
 
   -- so the index that was made before is that of the opened device
   pub found-now : (was : List Bool) (slots : ℕ) (index : List (Key × Entry)) → was ≡ free → slots ≡ layout.slots → HasFound (image_of old) was slots index → HasFound (image_of new) free layout.slots index
-  found-now was slots index same-free same-slots found = grind (arith, layout_is, found-alike, rows-now, wide, found-updated, up)
+  found-now was slots index same-free same-slots found =
+      subst (λ (n : ℕ). HasFound (image_of new) free n index) (ap (λ (l : Layout). l.slots) (sym layout_is))
+      (found-alike image (image_of new) free index rows-now wide
+      (subst (λ (n : ℕ). HasFound image free n index) (same-slots ∙ ap (λ (l : Layout). l.slots) layout_is)
+      (found-updated (image_of old) up free slots index (subst (λ (f : List Bool). HasFound (image_of old) f slots index) same-free found))))
 
   -- free are the slots that aren't live
   free-is : free ≡ free_in image

@@ -1,8 +1,7 @@
 -- Slots whose versions are replaced, and those that have to be marked.
-use Rattle.std.proofs.Common.{◌≡◌, ◌≢◌, ◌⊎◌, inl, inr, ℕ, suc, ◌<◌, ◌≤◌, Bool, true, false, ◌&&◌, cond, not, List, [], ◌∷◌, ◌++◌, length, set, refl, sym, ◌∙◌, ap, subst, nat_eq, arith, Contains}
+use Rattle.std.proofs.Common.{◌≡◌, ◌≢◌, ◌⊎◌, inl, inr, ℕ, suc, ◌<◌, ◌≤◌, Bool, true, false, ◌&&◌, cond, not, List, [], ◌∷◌, length, set, refl, sym, ◌∙◌, ap, subst, nat_eq, arith, Contains}
 use Rattle.std.specs.Prelude.{Option, Some, None, slice_get, find}
 use Rattle.std.proofs.lemmas.Bool.{cases_eq, cases_lt, eq-eqb, eqb-true}
-use Rattle.std.proofs.lemmas.Bool.Decides.{nat_tests}
 use Rattle.std.proofs.lemmas.List.{length-set, get_or-set_other}
 use Rattle.std.proofs.lemmas.Option.{slice_get-get_or, slice_get_past}
 use Rattle.std.proofs.Math.Bool.{and-false}
@@ -11,7 +10,7 @@ use Rattle.base.specs.Keys.{key_eq}
 use Rattle.base.specs.Commits.{Commit, last_writer}
 use Rattle.base.specs.Stands.{has_timestamp}
 use Rattle.base.proofs.Keys.{key_eq-true}
-use Rattle.machine.specs.Machine.{State, Version, Writer, BySession, ByCommit, by_commit, is_by}
+use Rattle.machine.specs.Machine.{State, Version, ByCommit, by_commit, is_by}
 use Rattle.machine.specs.Collecting.{replace, is_replaced_by}
 use Rattle.state_invariant.specs.Kept.{version_by}
 use Rattle.state_invariant.proofs.collector.Kept.{OnlyFrees, stays, frees}
@@ -20,7 +19,7 @@ use Rattle.index.specs.declared.entry.Entry.{Entry}
 use Rattle.index.specs.Entries.{entry_at, Sets}
 use Rattle.session_steps.specs.Covering.{MarksReplaced}
 use Rattle.session_steps.proofs.slots.Freed.{given-same}
-use Rattle.session_steps.proofs.slots.Held.{is_nobodys_or, Moves}
+use Rattle.session_steps.proofs.slots.Held.{is_nobodys_or}
 
 -- ---- marks
 

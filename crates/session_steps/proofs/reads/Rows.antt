@@ -46,7 +46,9 @@ laid-out o q device orderly upholds = (ruled-image q device q.hand orderly uphol
 
 -- it has as many words as the layout says
 pub words-are : (o : Origin) (q : State) (device : Device) → IsOrderly device → Upholds o q device → device.words ≡ total_words q.layout
-words-are o q device orderly upholds = grind (arith, ruled-image, image_size, laid_size, laid)
+words-are o q device orderly upholds =
+    let ruled = ruled-image q device q.hand orderly upholds.holds.log in
+    sym (image_size device) ∙ laid_size q.layout (image_of device) (laid q.layout ruled.0 (image_of device) ruled.1)
 
 -- ---- the step
 

@@ -1,14 +1,16 @@
 -- What a snapshot in use covers in the words of the slots.
 use Rattle.std.proofs.Common.{◌≡◌, ℕ, ◌+◌, ◌<◌, ◌≤◌, not, ◌&&◌, length, take, sym, ◌∙◌, ap, subst, arith}
 use Rattle.std.specs.Prelude.{slice_index, List}
+use Rattle.std.proofs.lemmas.List.FromFn.{length-map-range_with_len}
 use Rattle.base.specs.declared.key.Key.{Key}
 use Rattle.base.specs.Commits.{after}
+use Rattle.base.proofs.Layouts.{line-words}
 use Rattle.base.specs.Layout.{slot_words, slot_start, total_words}
 use Rattle.base.specs.Records.{Record}
 use Rattle.base.specs.Images.{Image, IsRuledBy, layout_of, begin_of, end_of, is_live, Shown}
 use Rattle.machine.specs.Machine.{State}
 use Rattle.pmem.specs.Device.{Device, IsOrderly}
-use Rattle.pmem.specs.Words.{image_of, Survives, EachSurvivor}
+use Rattle.pmem.specs.Words.{value_of, image_of, Survives, EachSurvivor}
 use Rattle.log_area.proofs.Heads.{image_word, laid_size}
 use Rattle.log_area.proofs.AtRest.{laid}
 use Rattle.state_invariant.specs.Kept.{Origin, IsInUse}
@@ -18,6 +20,7 @@ use Rattle.state_invariant.proofs.Commits.{committed-bounds, uncommitted-gap}
 use Rattle.state_invariant.proofs.Records.{above-gaps}
 use Rattle.state_invariant.proofs.reads.SweptGaps.{live-agrees}
 use Rattle.device_invariant.specs.Upholds.{Upholds}
+use Rattle.device_invariant.proofs.Words.{word-within}
 use Rattle.device_invariant.proofs.reads.Images.{devices-read, ruled-image, shows-image, links-image}
 use Rattle.snapshot.specs.Snapshots.{Seen, covers}
 use Rattle.simulation.specs.sessions.Sees.{Sees, SeesBegins, ReadsBy}
@@ -38,10 +41,12 @@ module _ (o : Origin) (q : State) (device : Device) (snapshot : Seen) (begun : �
 
   -- a word of a slot has a value that may survive
   survives : (slot w : ℕ) → slot < q.layout.slots → w < slot_words q.layout.version → Survives device (word_of q.layout slot w) (slice_index image (word_of q.layout slot w))
-  survives slot w lt low = grind (arith, image_word)
+  survives slot w lt low =
+      let inside : word_of q.layout slot w < device.words = omega (arith, word-within q.layout slot w lt low, size, length-map-range_with_len (value_of device) 0 device.words) in
+      subst (Survives device (word_of q.layout slot w)) (sym (image_word device (word_of q.layout slot w) inside)) (orderly.some (word_of q.layout slot w) inside)
 
   some-words : 2 ≤ slot_words q.layout.version
-  some-words = grind (arith)
+  some-words = omega (arith, line-words q.layout.version)
 
   -- the words of the slots are below the next timestamp
   below : (slot w : ℕ) → EachSurvivor device (word_of q.layout slot w) (λ x. x < q.next) → slot < q.layout.slots → w < slot_words q.layout.version → slice_index image (word_of q.layout slot w) < q.next

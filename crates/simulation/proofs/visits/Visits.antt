@@ -5,6 +5,7 @@ use Rattle.std.proofs.lemmas.Bool.{cases_eq, and_parts, ltb-true, ltb-false, not
 use Rattle.base.specs.declared.gap.Gap.{Gap}
 use Rattle.base.specs.Actors.{collector}
 use Rattle.base.specs.Layout.{Layout, slot_start, total_words}
+use Rattle.base.proofs.Layouts.{slot_whole}
 use Rattle.base.specs.Records.{is_in}
 use Rattle.base.specs.Lists.{is_nil}
 use Rattle.machine.specs.Machine.{State, Hand}
@@ -113,7 +114,7 @@ survives-stored device word value other there = grind (arith, cases_eq, history-
 
 -- the first line of a slot has its begin and its end
 same-line : (a : Layout) (slot w : ℕ) → w < 2 → word_of a slot w / 8 ≡ slot_start a slot / 8
-same-line a slot w low = grind (arith) steps 800000
+same-line a slot w low = omega (arith, slot_whole a slot, low)
 
 -- ---- a slot is swept
 

@@ -210,7 +210,18 @@ shows-stamped o q t d key row value new up kept unfinished found at stored shows
   where
     writer : (slot : ℕ) → slot < q.layout.slots → (v : Version) → q.held slot ≡ Some v → (w : Writer) → v.writer ≡ w → ShowsAs o q value slot (class_by q v.key (unwrap_or (wanted o q v) []) w)
         → ShowsAs o (with_stamp q t) new slot (class_by (with_stamp q t) v.key (unwrap_or (wanted o q v) []) w)
-    writer slot lt v held (BySession n) is here = grind (arith, class-stays)
+    writer slot lt v held (BySession n) is here =
+        class-stays o q t d key row value new up kept unfinished found at stored shows slot (stored.others slot lt (λ own. not-by t own) (λ last. not-by (last_writer (take (length q.history) q.history) key) last)) (Waiting v.key (unwrap_or (wanted o q v) [])) (λ x k l eq same. not-newest x k l eq) here
+      where
+        not-by : (u : ℕ) → q.held slot ≡ Some (version_by key (ByCommit u)) → ⊥
+        not-by u own =
+            let one : Some v ≡ Some (version_by key (ByCommit u)) = sym held ∙ own in
+            let same : v ≡ version_by key (ByCommit u) = cc one in
+            let clash : BySession n ≡ ByCommit u = sym is ∙ ap (λ (y : Version). y.writer) same in
+            cc clash
+
+        not-newest : (x : ℕ) (k : Key) (l : List ℕ) → Waiting v.key (unwrap_or (wanted o q v) []) ≡ Newest x k l → ⊥
+        not-newest x k l eq = cc eq
     writer slot lt v held (ByCommit u) is here =
         subst (λ (x : Option Drawn). ShowsAs o (with_stamp q t) new slot (class_of_drawn (with_stamp q t) v.key u (unwrap_or (wanted o q v) []) x)) (sym (found-counted t u q.drawn))
         (commit-version o q t d key row value new up kept unfinished found at stored shows slot lt v held u is (unwrap_or (wanted o q v) []) (drawn_at q u) refl here)

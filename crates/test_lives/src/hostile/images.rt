@@ -153,15 +153,14 @@ const WIDE_COMMIT: Changes = &[
     (87, 25_185),
 ];
 
-// Changes of that image: rows of 97, 90 and 40 bytes with and without bytes after them, unused bits, and links to the
-// fifth slot and the fourth. Also a begin of a slot at the dirty timestamp, an end, and a second version of the key.
+// Changes of that image: rows of 97 and 90 bytes with and without bytes after them, and of 40 bytes without, unused bits, and
+// links to the fifth slot and the fourth. Also a begin of a slot at the dirty timestamp, an end, and a second version of the key.
 const OF_WIDE_COMMIT: &[(Changes, Answer)] = &[
     (&[], Rows(1)),
     (&[(87, 0)], Rows(1)),
     (&[(75, 6_356_993)], Damaged(2)),
     (&[(75, 5_898_241)], Rows(1)),
     (&[(75, 5_898_241), (87, 65_536)], Damaged(2)),
-    (&[(75, 2_621_441)], Damaged(2)),
     (&[(75, 2_621_441), (87, 0)], Rows(1)),
     (&[(75, 23_068_673)], Damaged(2)),
     (&[(75, 21_481_127_937)], Damaged(2)),
@@ -171,13 +170,30 @@ const OF_WIDE_COMMIT: &[(Changes, Answer)] = &[
     (&[(88, 1), (90, 7), (91, 131_073), (92, 25_185)], Damaged(3)),
 ];
 
-// Changes of the superblock of a large image with the first commit: word 1 without lines, with 65 and with three, and with two, which
-// make another length. Then 2^24 slots, which make another length too, 2^24 + 1 slots, and each with its own length in word 5. Then a
+// A row of 40 bytes with bytes in a word behind its own: in version 4 nothing reads them.
+const OF_WIDE_PADDING: &[(Changes, Answer)] = &[(&[(75, 2_621_441)], Damaged(2))];
+
+const OF_LARGE_PADDING: &[(Changes, Answer)] = &[(&[(75, 2_621_441)], Rows(1))];
+
+// Changes of the image of 4 slots of eight lines with the first commit: a byte behind the row in its word, words behind it, rows of 480
+// and of 481 bytes, and a begin of the second slot at the dirty timestamp.
+const OF_WIDEST_COMMIT: &[(Changes, Answer)] = &[
+    (&[], Rows(1)),
+    (&[(76, 65_536)], Damaged(2)),
+    (&[(77, 1), (135, 1)], Rows(1)),
+    (&[(75, 31_457_281)], Rows(1)),
+    (&[(75, 31_522_817)], Damaged(2)),
+    (&[(136, 2)], Damaged(3)),
+];
+
+// Changes of the superblock of a large image with the first commit: word 1 without lines, with 65 and with nine, and with two and three,
+// which make another length. Then 2^24 slots, which make another length too, 2^24 + 1 slots, and each with its own length in word 5. Then a
 // word that is 0. As version 2 it is sound, unless it has 65,537 slots.
 const OF_LARGE: &[(Changes, Answer)] = &[
     (&[(1, 4)], Unknown(4)),
     (&[(1, 16_644)], Unknown(16_644)),
-    (&[(1, 772)], Unknown(772)),
+    (&[(1, 2_308)], Unknown(2_308)),
+    (&[(1, 772)], Misfit),
     (&[(1, 261)], Unknown(261)),
     (&[(1, 516)], Misfit),
     (&[(2, 16_777_216)], Misfit),
@@ -199,6 +215,9 @@ const TABLES: &[(u64, Changes, &[(Changes, Answer)])] = &[
     (260, FIRST_COMMIT, OF_FIRST_COMMIT),
     (260, FIRST_COMMIT, OF_LARGE),
     (516, WIDE_COMMIT, OF_WIDE_COMMIT),
+    (3, WIDE_COMMIT, OF_WIDE_PADDING),
+    (516, WIDE_COMMIT, OF_LARGE_PADDING),
+    (2_052, FIRST_COMMIT, OF_WIDEST_COMMIT),
 ];
 
 // An update of key 7, or its first row.

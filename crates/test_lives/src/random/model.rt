@@ -123,10 +123,8 @@ impl Model {
     pub fn row(&self, byte: u8) -> Result<Row, Fault> {
         if byte % 8 > 0 {
             Row::new(&[byte])
-        } else if self.geometry.is_wide() {
-            Row::new(&[byte; 96])
         } else {
-            Row::new(&[byte; 32])
+            Row::new(&[byte; Row::LIMIT][..self.geometry.row_limit()])
         }
     }
 
@@ -314,10 +312,12 @@ impl Model {
 
     // How many lines a write touches: those of the slot of its row, and the first one of the slot of the row that it ends.
     fn lines(&self, writes: bool, ends: bool) -> u64 {
-        match (writes, self.geometry.is_wide()) {
-            (true, true) => 2 + u64::from(ends),
-            _ => u64::from(writes) + u64::from(ends),
-        }
+        let own = if writes {
+            self.geometry.slot_lines() as u64
+        } else {
+            0
+        };
+        own.saturating_add(u64::from(ends))
     }
 
     fn is_written_after(&self, begun: usize, key: usize) -> bool {

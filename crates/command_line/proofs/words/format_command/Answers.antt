@@ -24,5 +24,5 @@ returns c =
     let five = with-arg name (file ∷ slots ∷ places ∷ window ∷ []) wide c.with_argument-window.result c.wide_option.result
     c.with_argument-wide.result c.with_argument-wide.ensures c.wide_option.ensures.global c.wide_option.ensures.rule four in
     shape-made name _ c.with_argument.result
-    (with-arg name (file ∷ slots ∷ places ∷ window ∷ wide ∷ []) (choice_rule (codes "lines") 1 2) c.with_argument-wide.result
+    (with-arg name (file ∷ slots ∷ places ∷ window ∷ wide ∷ []) (choice_rule (codes "lines") 1 8) c.with_argument-wide.result
     c.lines_option.result c.with_argument.result c.with_argument.ensures c.lines_option.ensures.global c.lines_option.ensures.rule five)

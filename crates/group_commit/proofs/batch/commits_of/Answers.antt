@@ -2,5 +2,5 @@ use Rattle.std.proofs.Common.{arith}
 use Rattle.group_commit.proofs.Batches.{few-chosen}
 use Rattle.group_commit.proofs.batch.commits_of.Goals as goal
 
-pub push_reserved-requires : goal.push_reserved-requires
-push_reserved-requires c = grind (arith, few-chosen)
+pub add_commit-requires : goal.add_commit-requires
+add_commit-requires c = grind (arith, few-chosen)

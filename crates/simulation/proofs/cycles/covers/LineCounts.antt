@@ -1,5 +1,5 @@
 -- Drawn commits touch as many lines as the machine counts for them.
-use Rattle.std.proofs.Common.{◌≡◌, inl, ℕ, ◌+◌, ◌<◌, Bool, true, false, cond, ◌&&◌, List, [], ◌∷◌, length, map, take, refl, sym, ◌∙◌, ap, arith}
+use Rattle.std.proofs.Common.{◌≡◌, inl, ℕ, zero, suc, ◌+◌, ◌<◌, Bool, true, false, cond, ◌&&◌, List, [], ◌∷◌, length, map, take, refl, sym, ◌∙◌, ap, arith}
 use Rattle.std.specs.Prelude.{Option, Some, None, is_some, nat_eq, sum_by}
 use Rattle.std.specs.List.{list_any, range_with_len, flat_map}
 use Rattle.std.specs.Option.{option_map, option_or}
@@ -37,6 +37,10 @@ is_at key (Some v) = key_eq v.key key
 abbrev of_version : State → List Commit → ℕ → Option Version → List Line
 of_version q commits slot v =
     cond (is_own commits v) (flat_map (λ part. line_at slot part ∷ []) (range_with_len 0 (version_lines q.layout))) (cond (is_ended q commits v) (line_at slot 0 ∷ []) [])
+
+parts-length : (slot from n : ℕ) → length (flat_map (λ part. line_at slot part ∷ []) (range_with_len from n)) ≡ n
+parts-length slot from zero = refl
+parts-length slot from (suc n) = ap suc (parts-length slot (from + 1) n)
 
 -- those that a write of the key owns and ends
 abbrev owned : State → List Commit → Key → Option Version → ℕ
@@ -118,7 +122,7 @@ module _ (o : Origin) (q : State) (commits : List Commit) (kept : Keeps o q) (dr
     where
       by_tests : (a : Bool) → is_own commits (Some v) ≡ a → (b : Bool) → is_ended q commits (Some v) ≡ b
           → length (of_version q commits slot (Some v)) ≡ cond (is_own commits (Some v)) (version_lines q.layout) 0 + cond (is_ended q commits (Some v)) 1 0
-      by_tests true own b is = grind (arith)
+      by_tests true own b is = grind (arith, parts-length slot 0 (version_lines q.layout))
       by_tests false own true is = grind (arith)
       by_tests false own false is = grind (arith)
 

@@ -10,8 +10,9 @@ use Rattle.base.specs.Commits.{Commit, writes_key}
 use Rattle.base.specs.Layout.{Layout, slot_start, total_words, version_lines}
 use Rattle.machine.specs.Machine.{State, Version}
 use Rattle.base.specs.Records.{are_rising}
+use Rattle.base.proofs.Layouts.{slot_whole, some_lines}
 use Rattle.base.proofs.Lists.{any-same, any-never, any-or, rising-rest}
-use Rattle.state_invariant.proofs.Lists.{rising-above, rising-with, all-weaken}
+use Rattle.state_invariant.proofs.Lists.{rising-above, all-weaken}
 use Rattle.device_invariant.specs.Log.{Line, line_at, line_number, lines_at, is_last_on, is_own, is_ended}
 use Rattle.simulation.specs.cycles.Batches.{line_numbers, is_line_of}
 use Rattle.simulation.specs.cycles.Laws.{LinesRise}
@@ -41,9 +42,6 @@ between-none low high = record { rising = refl; from = refl; to = refl }
 between-one : (low high x : ℕ) → low ≤ x → x < high → IsBetween low high (x ∷ [])
 between-one low high x le lt = record { rising = refl; from = and_from (nat_le low x) true (le-leb low x le) refl; to = and_from (nat_lt x high) true (lt-ltb x high lt) refl }
 
-between-two : (low high x y : ℕ) → low ≤ x → x < y → y < high → IsBetween low high (x ∷ y ∷ [])
-between-two low high x y le less lt = grind (arith, rising-with, and_from, lt-ltb, le-leb)
-
 -- ---- the lines of slots
 
 map-append : (f : Line → ℕ) (xs ys : List Line) → map f (xs ++ ys) ≡ map f xs ++ map f ys
@@ -56,12 +54,37 @@ start a slot = slot_start a slot / 8
 start-rises : (a : Layout) (s n : ℕ) → start a s ≤ start a (s + n)
 start-rises a s n = grind arith
 
+-- the lines of a slot from one on
+parts-between : (a : Layout) (slot from n : ℕ) → IsBetween (start a slot + from) (start a slot + from + n) (map (line_number a) (flat_map (λ part. line_at slot part ∷ []) (range_with_len from n)))
+parts-between a slot from zero = between-none _ _
+parts-between a slot from (suc n) =
+    let high : start a slot + (from + 1) + n ≡ start a slot + from + suc n = omega arith in
+    let next : start a slot + (from + 1) ≡ start a slot + from + 1 = omega arith in
+    between-append (start a slot + from) (start a slot + (from + 1)) (start a slot + from + suc n) ((start a slot + from) ∷ [])
+    (map (line_number a) (flat_map (λ part. line_at slot part ∷ []) (range_with_len (from + 1) n))) (omega arith) (omega arith)
+    (between-one (start a slot + from) (start a slot + (from + 1)) (start a slot + from) (omega arith) (omega (arith, next)))
+    (subst (λ (end : ℕ). IsBetween (start a slot + (from + 1)) end (map (line_number a) (flat_map (λ part. line_at slot part ∷ []) (range_with_len (from + 1) n)))) high (parts-between a slot (from + 1) n))
+
 module _ (q : State) (commits : List Commit) where
   abbrev numbers_at : ℕ → List ℕ
   numbers_at slot = map (line_number q.layout) (lines_at q commits slot)
 
   slot-between : (slot : ℕ) → IsBetween (start q.layout slot) (start q.layout (slot + 1)) (numbers_at slot)
-  slot-between slot = grind (arith, between-two, between-one, between-none)
+  slot-between slot = by (is_own commits (q.held slot)) (is_ended q commits (q.held slot))
+    where
+      next : start q.layout (slot + 1) ≡ start q.layout slot + version_lines q.layout
+      next = omega (arith, slot_whole q.layout slot, slot_whole q.layout (slot + 1))
+
+      by : (own ended : Bool)
+          → IsBetween (start q.layout slot) (start q.layout (slot + 1)) (map (line_number q.layout) (cond own (flat_map (λ part. line_at slot part ∷ []) (range_with_len 0 (version_lines q.layout))) (cond ended (line_at slot 0 ∷ []) [])))
+      by true ended =
+          let from : start q.layout slot + 0 ≡ start q.layout slot = omega arith in
+          let to : start q.layout slot + 0 + version_lines q.layout ≡ start q.layout (slot + 1) = omega (arith, next) in
+          subst (λ (low : ℕ). IsBetween low (start q.layout (slot + 1)) (map (line_number q.layout) (flat_map (λ part. line_at slot part ∷ []) (range_with_len 0 (version_lines q.layout))))) from
+          (subst (λ (high : ℕ). IsBetween (start q.layout slot + 0) high (map (line_number q.layout) (flat_map (λ part. line_at slot part ∷ []) (range_with_len 0 (version_lines q.layout))))) to
+          (parts-between q.layout slot 0 (version_lines q.layout)))
+      by false true = between-one (start q.layout slot) (start q.layout (slot + 1)) (line_number q.layout (line_at slot 0)) (omega arith) (omega (arith, next, (some_lines q.layout.version).0))
+      by false false = between-none (start q.layout slot) (start q.layout (slot + 1))
 
   slots-between : (from n : ℕ) → IsBetween (start q.layout from) (start q.layout (from + n)) (map (line_number q.layout) (flat_map (lines_at q commits) (range_with_len from n)))
   slots-between from zero = between-none _ _
@@ -105,9 +128,22 @@ module _ (q : State) (line : ℕ) where
   abbrev first_of : ℕ → List Line
   first_of slot = line_at slot 0 ∷ []
 
+  -- the first is one of all
+  first-among : (slot n : ℕ) → 1 ≤ n → among (first_of slot) ≡ true → among (flat_map (λ part. line_at slot part ∷ []) (range_with_len 0 n)) ≡ true
+  first-among slot zero some is = absurd (omega (arith, some))
+  first-among slot (suc n) some is = or_left (nat_eq (line_number q.layout (line_at slot 0)) line) _ (sym (or-false (nat_eq (line_number q.layout (line_at slot 0)) line)) ∙ is)
+
+  absorb : (a b : Bool) → (b ≡ true → a ≡ true) → a ≡ (a || b)
+  absorb true b within = refl
+  absorb false true within = within refl
+  absorb false false within = refl
+
   -- either all its lines are touched, or the first alone
   by-kind : (slot : ℕ) (own ended : Bool) → among (cond own (all_of slot) (cond ended (first_of slot) [])) ≡ ((own && among (all_of slot)) || (ended && among (first_of slot)))
-  by-kind slot a b = grind (arith)
+  by-kind slot true true = absorb (among (all_of slot)) (among (first_of slot)) (first-among slot (version_lines q.layout) (some_lines q.layout.version).0)
+  by-kind slot true false = sym (or-false (among (all_of slot)))
+  by-kind slot false true = refl
+  by-kind slot false false = refl
 
   own-any : (commits : List Commit) (v : Option Version) → is_own commits v ≡ list_any (λ c. is_own (c ∷ []) v) commits
   own-any commits a = grind (arith, any-never commits)

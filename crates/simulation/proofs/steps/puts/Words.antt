@@ -1,8 +1,9 @@
 -- The words of a version are stored behind a begin that is 0, in the slot of a put.
 use Rattle.std.proofs.Common.{◌≡◌, ◌≢◌, ℕ, zero, suc, ◌+◌, ◌-◌, ◌/◌, ◌<◌, ◌≤◌, Bool, false, cond, List, map, length, get_or, refl, sym, ◌∙◌, ap, subst, arith}
 use Rattle.std.specs.List.{range_with_len}
-use Rattle.std.proofs.lemmas.Bool.{eq-eqb}
+use Rattle.std.proofs.lemmas.Bool.{eq-eqb, ne_eqb}
 use Rattle.base.specs.Layout.{Layout, slot_start, slot_words, total_words}
+use Rattle.base.proofs.Layouts.{used-words}
 use Rattle.base.specs.Images.{Image, layout_of, slot_word}
 use Rattle.machine.specs.Machine.{State}
 use Rattle.base.specs.Records.{is_in}
@@ -84,7 +85,10 @@ filled-value a slot v device w one low =
 filled-version : (a : Layout) (slot : ℕ) (v : Content) (device : Device) → Fits a v → (image : Image) → layout_of image ≡ a
     → ((w : ℕ) → 2 ≤ w → w < slot_words a.version → get_or image (word_of a slot w) 0 ≡ value_of (after (fill_operations a slot v) device) (word_of a slot w)) → IsVersion (layout_of image) (slot_word image slot) v
 filled-version a slot v device fits image laid words = record {
-  each = λ w two low. grind (arith, filled-value a slot v device w);
+  each = λ w two low.
+      let few : w < slot_words a.version = omega (arith, low, (used-words (layout_of image).version (length v.row)).1, ap (λ (l : Layout). slot_words l.version) laid) in
+      let filled : filled_word v w ≡ version_word v w = ap (λ (b : Bool). cond b 0 (version_word v w)) (ne_eqb w 1 (λ e. absurd (omega (arith, e, two)))) in
+      ap (λ (l : Layout). get_or image (slot_start l slot + w) 0) laid ∙ words w two few ∙ filled-value a slot v device w (omega (arith, two)) few ∙ filled;
   fits = subst (λ (b : Layout). Fits b v) (sym laid) fits;
 }
 
@@ -96,7 +100,11 @@ whole-image a image laid size = omega (arith, size, ap total_words laid)
 
 pub filled-spells : (a : Layout) (slot : ℕ) (v : Content) (device : Device) → Fits a v → slot < a.slots → Spells a (value_of (after (fill_operations a slot v) device)) slot v.key v.row
 filled-spells a slot v device fits lt = record {
-  read = λ image laid size words. grind (arith, filled-version a slot v device fits image laid words, key_is image slot, row_is_of image slot, well_formed image slot);
+  read = λ image laid size words.
+      let inside : slot < (layout_of image).slots = within-image a slot image lt laid in
+      let whole : total_words (layout_of image) ≤ length image = whole-image a image laid size in
+      let is = filled-version a slot v device fits image laid words in
+      record { at = key_is image slot inside whole v is; is = row_is_of image slot inside whole v is; fits = well_formed image slot inside whole v is };
 }
 
 -- and so is its link

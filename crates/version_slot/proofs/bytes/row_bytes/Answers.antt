@@ -11,7 +11,7 @@ loop-k-preserved c =
     let eight : 8 * k + 8 - 8 * k ≡ 8 = omega arith in
     let new = c.copy_from_slice.ensures.after ∙ c.to_le_bytes.ensures in
     let size : length c.copy_from_slice.new.self ≡ 8 = ap (λ (l : List ℕ). length l) new in
-    let fits : 8 * k + 8 ≤ length c.loop-k.bytes = omega (arith, c.loop-k.invariant.size, c.loop-k-test.true) in
+    let fits : 8 * k + 8 ≤ length c.loop-k.bytes = omega (arith, c.loop-k.invariant.size, c.loop-k-test.true, c.requires.1) in
     record {
       size = eight-length c.loop-k.bytes c.copy_from_slice.new.self k (8 * k + 8 - 8 * k) eight size fits ∙ c.loop-k.invariant.size;
       copied =

@@ -4,6 +4,6 @@ use Rattle.version_slot.proofs.bytes.row_bytes.Given as goal
 
 abbrev pub invariant-loop-k : goal.invariant-loop-k
 invariant-loop-k l = record {
-  size : length l.bytes ≡ 96;
+  size : length l.bytes ≡ 480;
   copied : (i : ℕ) → i < 8 * l.k → slice_index l.bytes i ≡ slot_byte (slice_index l.words) i;
 }

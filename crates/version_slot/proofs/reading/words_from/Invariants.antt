@@ -4,6 +4,6 @@ use Rattle.version_slot.proofs.reading.words_from.Given as goal
 
 abbrev pub invariant-loop-w : goal.invariant-loop-w
 invariant-loop-w g l = record {
-  size : length l.words ≡ 16;
+  size : length l.words ≡ 64;
   loaded : (w : ℕ) → l.first ≤ w → w < l.w → slice_index l.words w ≡ value_of (g.D.Pmem.state l.device) (l.start + w);
 }

@@ -1,4 +1,4 @@
-use Rattle.std.proofs.Common.{slice_index}
+use Rattle.std.proofs.Common.{slice_index, arith}
 use Rattle.version_slot.proofs.Forming.{forms, formed}
 use Rattle.version_slot.proofs.words.held_key.Goals as goal
 
@@ -9,4 +9,4 @@ returns-then-not-is_well_formed-clause-none c = λ version is.
     cc
 
 pub returns-clause-some : goal.returns-clause-some
-returns-clause-some c = formed c.args.geometry (slice_index c.args.words.now) (λ w. c.fits-words w) (c.is_well_formed.ensures.0 (cc))
+returns-clause-some c = formed c.args.geometry (slice_index c.args.words.now) (λ w. omega (arith, c.type_inv.words w)) (c.is_well_formed.ensures.0 (cc))

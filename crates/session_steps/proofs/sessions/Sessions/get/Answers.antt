@@ -16,8 +16,8 @@ returns-in-Err g c = record { step = λ h holds. inactive c.args.self.now (Get c
 pub returns-in-Some : goal.returns-in-Some
 returns-in-Some g c = record { step = λ h holds. gets-own c.args.self.now c.args.session c.args.key _ _ _ c.in-Some.write.now h c.in-Ok.ensures.ok (sym c.in-Some.ensures) refl (held-on c.args.self.now h _ holds) }
 
-pub returns-in-Some-walk_into : goal.returns-in-Some-walk_into
-returns-in-Some-walk_into g c = record { step = λ h holds. gets-seen c.args.self.now (g.D.Pmem.state c.args.device.now) c.args.session c.args.key _ _ _ h (g.met.D.Pmem.orderly _) c.in-Ok.ensures.ok (sym c.in-None.ensures) c.in-Some-walk_into.ensures.tables holds }
+pub returns : goal.returns
+returns g c = record { step = λ h holds. gets-seen c.args.self.now (g.D.Pmem.state c.args.device.now) c.args.session c.args.key _ _ _ h (g.met.D.Pmem.orderly _) c.in-Ok.ensures.ok (sym c.in-None.ensures) c.in-Some-walk_into.ensures.tables holds }
 
 pub returns-in-None-walk_into : goal.returns-in-None-walk_into
 returns-in-None-walk_into g c = record { step = λ h holds. gets-seen c.args.self.now (g.D.Pmem.state c.args.device.now) c.args.session c.args.key _ _ _ h (g.met.D.Pmem.orderly _) c.in-Ok.ensures.ok (sym c.in-None.ensures) c.in-None-walk_into.ensures.tables holds }
