@@ -19,13 +19,28 @@ pub fn meet_each<R: Print + Threads + Wait + Drop + Sync>(
     let sum = store.read()?.number(SUM)?;
     println!(rt; "two threads added {sum:?}")?;
 
+    conflict_once(rt, store)?;
+    lose_each(rt, store)?;
+    win_last(rt, store)
+}
+
+// Another commit on the same key comes first.
+fn conflict_once<R: Print + Wait + Drop>(rt: &R, store: &Store<R>) -> Result<(), Error> {
     let mut late = store.begin()?;
-    late.put(SUM, Row::of_u64(1))?;
-    store.transact(|t| t.put(SUM, Row::of_u64(2)))?;
-    if let Err(error) = late.commit() {
+    let put = late.put(SUM, Row::of_u64(1));
+    let other = put_sum(store, 2);
+    let committed = late.commit();
+    put?;
+    other?;
+    if let Err(error) = committed {
         println!(rt; "conflict: {error}")?;
     }
-    give_up(rt, store)
+    Ok(())
+}
+
+fn put_sum<R: Wait + Drop>(store: &Store<R>, number: u64) -> Result<(), StoreError> {
+    store.transact(|t| t.put(SUM, Row::of_u64(number)))?;
+    Ok(())
 }
 
 // Adds 1 `TIMES` times.
@@ -39,20 +54,25 @@ fn add<R: Wait + Drop>(store: &Store<R>) -> Result<(), StoreError> {
     Ok(())
 }
 
-// Another commit comes first in each try of the first call, and in all tries but the last one of the second call.
-fn give_up<R: Print + Wait + Drop>(rt: &R, store: &Store<R>) -> Result<(), Error> {
+// Another commit comes first in each try.
+fn lose_each<R: Print + Wait + Drop>(rt: &R, store: &Store<R>) -> Result<(), Error> {
     let tried = store.transact_within(3, |t| {
-        store.transact(|other| other.put(SUM, Row::of_u64(3)))?;
+        put_sum(store, 3)?;
         t.put(SUM, Row::of_u64(4))
     });
     if let Err(error) = tried {
         println!(rt; "given up: {error}")?;
     }
+    Ok(())
+}
+
+// Another commit comes first in all tries but the last one.
+fn win_last<R: Print + Wait + Drop>(rt: &R, store: &Store<R>) -> Result<(), Error> {
     let mut tries = 0_u64;
     let (seen, _) = store.transact_within(3, |t| {
         tries = tries.saturating_add(1);
         if tries < 3 {
-            store.transact(|other| other.put(SUM, Row::of_u64(5)))?;
+            put_sum(store, 5)?;
         }
         t.put(SUM, Row::of_u64(6))?;
         Ok(tries)

@@ -80,15 +80,15 @@ fn commit_once<R: Wait + Drop, J: Origin>(
     number: u64,
 ) -> Result<(Front<J>, Option<Ts>, Front<J>), StoreError> {
     let mut transaction = store.begin()?;
-    let Some(begun) = transaction.begun() else {
-        return Err(StoreError::Own(anyhow!("no history is kept")));
-    };
-    transaction.put_number(key(1, 1), number)?;
-    let Committed { timestamp, front } = transaction.commit_known()?;
-    let Some(ended) = front else {
-        return Err(StoreError::Own(anyhow!("no history is kept")));
-    };
-    Ok((begun, timestamp, ended))
+    let begun = transaction.begun();
+    let put = transaction.put_number(key(1, 1), number);
+    let committed = transaction.commit_known();
+    put?;
+    let Committed { timestamp, front } = committed?;
+    match (begun, front) {
+        (Some(begun), Some(ended)) => Ok((begun, timestamp, ended)),
+        _ => Err(StoreError::Own(anyhow!("no history is kept"))),
+    }
 }
 
 /// Prints what two transactions of a kept history know of it.
