@@ -1,7 +1,10 @@
 //! What a commit returns if it isn't covered, and that each commit returns.
-use crate::transactions::{Device, KEY, device_in, found, fresh, get, opened, row};
+use crate::transactions::{
+    Committed, Device, KEY, commit_both, device_in, found, fresh, get, opened, put, row,
+};
 use base::fault::Fault;
-use database::{CommitError, Database};
+use base::row::Row;
+use database::{CommitError, Database, Transaction};
 use journal::extent_of;
 use pmem_file::{MemoryStorage, Part};
 use std::alloc::Global;
@@ -9,6 +12,7 @@ use std::process::Abort;
 use std::sync::Wait;
 use std::thread;
 use std::thread::Threads;
+use sync_ahead::SyncAhead;
 
 // The greatest number of a record is one less than 2^62.
 const LAST_RECORD: u64 = 4_611_686_018_427_387_903;
@@ -29,33 +33,50 @@ fn at_its_end(alloc: Global) -> Result<Vec<u64>, Fault> {
     Ok(words)
 }
 
+fn assert_refused<D: SyncAhead + Drop, R: Wait + Drop + Abort>(
+    rt: &R,
+    database: &Database<D, R>,
+) -> Result<(), Fault> {
+    let gate = database.status().gate;
+    let (one, other) = commit_both(database)?;
+    let refused = Err(CommitError::Refused(Fault::TimestampsOut));
+    assert!(rt; gate == LAST_RECORD && one == refused && other == refused);
+    let kept = get(database, KEY)?;
+    assert!(rt; kept.is_none());
+    Ok(())
+}
+
 #[test]
 fn commits_after_the_last_record_are_refused(rt: HostRuntime) -> Result<(), Fault> {
     let alloc = rt.alloc();
     let database = opened(&rt, alloc, at_its_end(alloc)?)?;
-    let gate = database.status().gate;
-    let mut first = database.begin()?;
-    let mut second = database.begin()?;
-    first.put(KEY, row(1)?)?;
-    second.put(KEY, row(2)?)?;
-    let (one, other) = (first.commit(), second.commit());
-    let refused = Err(CommitError::Refused(Fault::TimestampsOut));
-    assert!(rt; gate == LAST_RECORD && one == refused && other == refused);
-    let kept = get(&database, KEY)?;
+    let refused = assert_refused(&rt, &database);
     let closed = device_in(database.close());
-    assert!(rt; kept.is_none() && matches!(closed, Err(Fault::TimestampsOut)));
-    Ok(())
+    assert!(rt; matches!(closed, Err(Fault::TimestampsOut)));
+    refused
 }
 
 // Adds one to the row under the key. Returns whether that was committed, or another commit came first.
-fn add_once<R: Wait + Drop>(database: &Database<Device, R>) -> Result<bool, Fault> {
+fn add_once<D: SyncAhead + Drop, R: Wait + Drop>(database: &Database<D, R>) -> Result<bool, Fault> {
     let mut transaction = database.begin()?;
+    match put_one_more(&mut transaction) {
+        Ok(()) => was_first(transaction.commit()),
+        Err(fault) => Err(fault),
+    }
+}
+
+fn put_one_more<D: SyncAhead + Drop, R: Wait>(
+    transaction: &mut Transaction<'_, D, R>,
+) -> Result<(), Fault> {
     let before = match transaction.get(KEY)? {
         Some(row) => row.as_bytes().first().copied().unwrap_or(0),
         None => 0,
     };
-    transaction.put(KEY, row(before.saturating_add(1))?)?;
-    match transaction.commit() {
+    put(transaction, KEY, before.saturating_add(1))
+}
+
+fn was_first(committed: Committed) -> Result<bool, Fault> {
+    match committed {
         Ok(_) => Ok(true),
         Err(CommitError::Refused(Fault::Conflict(_))) => Ok(false),
         Err(error) => Err(error.fault()),
@@ -63,7 +84,7 @@ fn add_once<R: Wait + Drop>(database: &Database<Device, R>) -> Result<bool, Faul
 }
 
 // Adds one, with at most a hundred tries. Returns whether they were enough.
-fn add_one<R: Wait + Drop>(database: &Database<Device, R>) -> Result<bool, Fault> {
+fn add_one<D: SyncAhead + Drop, R: Wait + Drop>(database: &Database<D, R>) -> Result<bool, Fault> {
     for _ in 0..100 {
         if add_once(database)? {
             return Ok(true);
@@ -73,7 +94,10 @@ fn add_one<R: Wait + Drop>(database: &Database<Device, R>) -> Result<bool, Fault
 }
 
 // Adds one this many times. Returns whether a hundred tries were always enough.
-fn add<R: Wait + Drop>(database: &Database<Device, R>, times: u8) -> Result<bool, Fault> {
+fn add<D: SyncAhead + Drop, R: Wait + Drop>(
+    database: &Database<D, R>,
+    times: u8,
+) -> Result<bool, Fault> {
     for _ in 0..times {
         if !add_one(database)? {
             return Ok(false);
@@ -89,24 +113,21 @@ fn whoever_begins_again_after_a_conflict_commits(rt: HostRuntime) -> Result<(), 
     let alloc = rt.alloc();
     let database = opened(&rt, alloc, fresh(alloc, 64)?)?;
     let (one, other) = thread::join(&rt, || add(&database, 20), || add(&database, 20));
-    let (one, other) = (one?, other?);
-    let last = get(&database, KEY)?;
-    assert!(rt; one && other && last == Some(row(40)?));
+    let last = get(&database, KEY);
     device_in(database.close())?;
+    assert!(rt; one? && other? && last? == Some(row(40)?));
     Ok(())
 }
 
 // Puts the row and commits.
-fn commit_row<R: Wait + Drop>(database: &Database<Device, R>) -> Result<(), CommitError> {
+fn commit_row<D: SyncAhead + Drop, R: Wait + Drop>(
+    database: &Database<D, R>,
+) -> Result<(), CommitError> {
     let mut transaction = match database.begin() {
         Ok(transaction) => transaction,
         Err(fault) => return Err(CommitError::Refused(fault)),
     };
-    let put = match row(1) {
-        Ok(row) => transaction.put(KEY, row),
-        Err(fault) => Err(fault),
-    };
-    match put {
+    match put(&mut transaction, KEY, 1) {
         Ok(()) => {
             transaction.commit()?;
             Ok(())
@@ -143,14 +164,23 @@ fn live<R: Threads + Wait + Copy + Drop + Send + Sync + 'static>(
 // How many writes and syncs it takes to open the file, which brings it to rest.
 const OPENING: usize = 8;
 
+// The row that is found in these words of a file. The database is dropped.
+fn kept_in<R: Threads + Wait + Copy + Drop + Send + Sync + 'static>(
+    rt: &R,
+    alloc: Global,
+    words: Vec<u64>,
+) -> Result<Option<Row>, Fault> {
+    let database = opened(rt, alloc, words)?;
+    get(&database, KEY)
+}
+
 #[test]
 fn each_answer_says_what_the_next_opening_finds(rt: HostRuntime) -> Result<(), Fault> {
     let alloc = rt.alloc();
     let (mut refused, mut open) = (false, false);
     for calls in OPENING..80 {
         let (answer, words) = live(&rt, alloc, calls)?;
-        let database = opened(&rt, alloc, words)?;
-        let kept = get(&database, KEY)?;
+        let kept = kept_in(&rt, alloc, words)?;
         match answer {
             Ok(()) => assert!(rt; kept == Some(row(1)?)),
             Err(CommitError::Refused(_)) => {

@@ -1,10 +1,13 @@
 //! Commits of many threads at once, which form groups, while a transaction stays open.
-use crate::transactions::{Device, device_in, fresh, get, opened, row};
+use crate::transactions::{commit, device_in, fresh, get, opened, row};
 use base::fault::Fault;
 use base::key::Key;
 use database::Database;
+use std::alloc::AllocError;
+use std::process::Abort;
 use std::sync::Wait;
 use std::thread::map_indices;
+use sync_ahead::SyncAhead;
 
 const THREADS: usize = 8;
 
@@ -18,20 +21,43 @@ fn key_of(thread: usize) -> Key {
 }
 
 // Commits one number after another under the thread's key. Returns whether the timestamps rose.
-fn count<R: Wait + Drop>(database: &Database<Device, R>, thread: usize) -> Result<bool, Fault> {
+fn count<D: SyncAhead + Drop, R: Wait + Drop>(
+    database: &Database<D, R>,
+    thread: usize,
+) -> Result<bool, Fault> {
     let mut last = 0;
     let mut rose = true;
     for number in 1..=COMMITS {
-        let mut transaction = database.begin()?;
-        transaction.put(key_of(thread), row(number)?)?;
-        let timestamp = transaction
-            .commit()
-            .map_err(|error| error.fault())?
-            .unwrap_or(0);
+        let timestamp = commit(database, key_of(thread), number)?.unwrap_or(0);
         rose = rose && last < timestamp;
         last = timestamp;
     }
     Ok(rose)
+}
+
+// Each thread's last number is found.
+fn assert_last<D: SyncAhead + Drop, R: Wait + Drop + Abort>(
+    rt: &R,
+    database: &Database<D, R>,
+) -> Result<(), Fault> {
+    for thread in 0..THREADS {
+        let last = get(database, key_of(thread))?;
+        assert!(rt; last == Some(row(COMMITS)?));
+    }
+    Ok(())
+}
+
+fn assert_rose(
+    rt: &impl Abort,
+    counted: Result<Vec<Result<bool, Fault>>, AllocError>,
+) -> Result<(), Fault> {
+    let Ok(counted) = counted else {
+        return Err(Fault::OutOfMemory);
+    };
+    for rose in &counted {
+        assert!(rt; *rose == Ok(true));
+    }
+    Ok(())
 }
 
 #[test]
@@ -41,17 +67,11 @@ fn each_of_many_threads_is_answered(rt: HostRuntime) -> Result<(), Fault> {
     let database = opened(&rt, alloc, fresh(alloc, 256)?)?;
     let reader = database.begin()?;
     let counted = map_indices(&rt, alloc, THREADS, &|thread| count(&database, thread));
-    let counted = counted.map_err(|_| Fault::OutOfMemory)?;
-    for rose in &counted {
-        assert!(rt; *rose == Ok(true));
-    }
-    let before = reader.get(key_of(0))?;
-    assert!(rt; before.is_none());
+    let before = reader.get(key_of(0));
     drop(reader);
-    for thread in 0..THREADS {
-        let last = get(&database, key_of(thread))?;
-        assert!(rt; last == Some(row(COMMITS)?));
-    }
+    let last = assert_last(&rt, &database);
     device_in(database.close())?;
-    Ok(())
+    assert_rose(&rt, counted)?;
+    assert!(rt; before == Ok(None));
+    last
 }

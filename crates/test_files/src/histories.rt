@@ -57,19 +57,20 @@ fn commit_once<D: SyncAhead + Drop, R: Wait + Drop, J: Origin>(
     database: &Database<D, R, J>,
     number: u8,
 ) -> Result<(Front<J>, Option<Ts>, Front<J>), Fault> {
+    let row = row(number)?;
     let mut transaction = database.begin()?;
-    let Some(begun) = transaction.begun() else {
-        return Err(Fault::WrongState);
-    };
-    transaction.put(KEY, row(number)?)?;
-    let Committed { timestamp, front } = match transaction.commit_known() {
+    let begun = transaction.begun();
+    let put = transaction.put(KEY, row);
+    let committed = transaction.commit_known();
+    put?;
+    let Committed { timestamp, front } = match committed {
         Ok(done) => done,
         Err(refused) => return Err(refused.fault()),
     };
-    let Some(ended) = front else {
-        return Err(Fault::WrongState);
-    };
-    Ok((begun, timestamp, ended))
+    match (begun, front) {
+        (Some(begun), Some(ended)) => Ok((begun, timestamp, ended)),
+        _ => Err(Fault::WrongState),
+    }
 }
 
 // Closes the database, and returns its history.

@@ -8,7 +8,7 @@ use base::fault::Fault;
 use base::geometry::Geometry;
 use base::key::Key;
 use base::row::Row;
-use database::{CommitError, Database, Refused};
+use database::{CommitError, Database, Refused, Transaction};
 use journal::{JournaledImages, extent_of};
 use pmem_file::{JournaledPmem, MemoryStorage};
 use recovery::format_new;
@@ -17,6 +17,10 @@ use std::process::Abort;
 use std::sync::Wait;
 use std::thread;
 use std::thread::Threads;
+use sync_ahead::SyncAhead;
+
+/// What a commit returns.
+pub type Committed = Result<Option<Ts>, CommitError>;
 
 pub type Device = JournaledPmem<JournaledImages<MemoryStorage>>;
 
@@ -84,61 +88,136 @@ pub fn opened<R: Threads + Wait + Copy + Drop + Send + Sync + 'static>(
     }
 }
 
-// Commits the row under the key.
-fn commit<R: Wait + Drop>(
-    database: &Database<Device, R>,
+/// Commits the row under the key.
+pub fn commit<D: SyncAhead + Drop, R: Wait + Drop>(
+    database: &Database<D, R>,
     key: Key,
     number: u8,
 ) -> Result<Option<Ts>, Fault> {
     let mut transaction = database.begin()?;
-    transaction.put(key, row(number)?)?;
-    transaction.commit().map_err(|error| error.fault())
+    match put(&mut transaction, key, number) {
+        Ok(()) => transaction.commit().map_err(|error| error.fault()),
+        Err(fault) => Err(fault),
+    }
 }
 
-pub fn get<R: Wait + Drop>(database: &Database<Device, R>, key: Key) -> Result<Option<Row>, Fault> {
+/// Puts the row under the key.
+pub fn put<D: SyncAhead + Drop, R: Wait>(
+    transaction: &mut Transaction<'_, D, R>,
+    key: Key,
+    number: u8,
+) -> Result<(), Fault> {
+    transaction.put(key, row(number)?)
+}
+
+pub fn get<D: SyncAhead + Drop, R: Wait + Drop>(
+    database: &Database<D, R>,
+    key: Key,
+) -> Result<Option<Row>, Fault> {
     let transaction = database.begin()?;
     let row = transaction.get(key);
     transaction.abort()?;
     row
 }
 
+/// Commits two transactions that write one key, the first before the second, and returns what both commits returned.
+pub fn commit_both<D: SyncAhead + Drop, R: Wait + Drop>(
+    database: &Database<D, R>,
+) -> Result<(Committed, Committed), Fault> {
+    let mut first = database.begin()?;
+    let mut second = database.begin()?;
+    let one = put(&mut first, KEY, 1);
+    let other = put(&mut second, KEY, 2);
+    let committed = (first.commit(), second.commit());
+    one?;
+    other?;
+    Ok(committed)
+}
+
 // A commit of two keys; a transaction that is dropped; a commit that deletes one key and writes the other twice; and one that writes
 // nothing.
-fn make_commits<R: Wait + Drop + Abort>(
+fn make_commits<D: SyncAhead + Drop, R: Wait + Drop + Abort>(
     rt: &R,
-    database: &Database<Device, R>,
+    database: &Database<D, R>,
+) -> Result<(), Fault> {
+    commit_two(rt, database)?;
+    drop_one(database)?;
+    let writes = [(KEY, Some(row(9)?)), (OTHER, None), (KEY, Some(row(8)?))];
+    let committed = database.write(&writes);
+    let nothing = database.begin()?.commit();
+    assert!(rt; committed == Ok(Some(2)) && nothing == Ok(None));
+    Ok(())
+}
+
+fn commit_two<D: SyncAhead + Drop, R: Wait + Drop + Abort>(
+    rt: &R,
+    database: &Database<D, R>,
 ) -> Result<(), Fault> {
     let mut transaction = database.begin()?;
-    transaction.put(KEY, row(1)?)?;
-    transaction.write(&[(OTHER, Some(row(2)?))])?;
-    let rows = transaction.scan(1, 0, 9)?;
-    let committed = transaction.commit().map_err(|error| error.fault())?;
-    assert!(rt; rows.as_slice() == [(KEY, row(1)?), (OTHER, row(2)?)].as_slice());
-    assert!(rt; committed == Some(1));
+    let rows = put_two(&mut transaction);
+    let committed = transaction.commit();
+    assert!(rt; rows?.as_slice() == [(KEY, row(1)?), (OTHER, row(2)?)].as_slice());
+    assert!(rt; committed == Ok(Some(1)));
+    Ok(())
+}
 
+// Puts two keys, and returns what a scan finds then.
+fn put_two<D: SyncAhead + Drop, R: Wait>(
+    transaction: &mut Transaction<'_, D, R>,
+) -> Result<Vec<(Key, Row)>, Fault> {
+    put(transaction, KEY, 1)?;
+    transaction.write(&[(OTHER, Some(row(2)?))])?;
+    transaction.scan(1, 0, 9)
+}
+
+fn drop_one<D: SyncAhead + Drop, R: Wait + Drop>(database: &Database<D, R>) -> Result<(), Fault> {
     let mut dropped = database.begin()?;
-    dropped.put(KEY, row(9)?)?;
+    let put = put(&mut dropped, KEY, 9);
     drop(dropped);
-    let writes = [(KEY, Some(row(9)?)), (OTHER, None), (KEY, Some(row(8)?))];
-    let committed = database.write(&writes).map_err(|error| error.fault())?;
-    let nothing = database.begin()?.commit().map_err(|error| error.fault())?;
-    assert!(rt; committed == Some(2) && nothing.is_none());
+    put
+}
+
+// Makes these commits in a new database, which is closed then.
+fn closed<R: Threads + Wait + Copy + Drop + Send + Sync + Abort + 'static>(
+    rt: &R,
+    alloc: Global,
+) -> Result<Vec<u64>, Fault> {
+    let database = opened(rt, alloc, fresh(alloc, 8)?)?;
+    let made = make_commits(rt, &database);
+    let words = device_in(database.close());
+    made?;
+    words
+}
+
+fn assert_kept<D: SyncAhead + Drop, R: Wait + Drop + Abort>(
+    rt: &R,
+    database: &Database<D, R>,
+) -> Result<(), Fault> {
+    let kept = get(database, KEY)?;
+    let deleted = get(database, OTHER)?;
+    assert!(rt; kept == Some(row(8)?) && deleted.is_none());
+    assert!(rt; database.status().gaps.as_slice().is_empty());
     Ok(())
 }
 
 #[test]
 fn a_reopened_database_has_what_was_committed(rt: HostRuntime) -> Result<(), Fault> {
     let alloc = rt.alloc();
-    let database = opened(&rt, alloc, fresh(alloc, 8)?)?;
-    make_commits(&rt, &database)?;
-    let words = device_in(database.close())?;
-    let database = opened(&rt, alloc, words)?;
-    let kept = get(&database, KEY)?;
-    let deleted = get(&database, OTHER)?;
-    let status = database.status();
-    assert!(rt; kept == Some(row(8)?) && deleted.is_none());
-    assert!(rt; status.gaps.as_slice().is_empty());
+    let database = opened(&rt, alloc, closed(&rt, alloc)?)?;
+    let kept = assert_kept(&rt, &database);
     device_in(database.close())?;
+    kept
+}
+
+fn assert_conflict<D: SyncAhead + Drop, R: Wait + Drop + Abort>(
+    rt: &R,
+    database: &Database<D, R>,
+) -> Result<(), Fault> {
+    let (committed, conflict) = commit_both(database)?;
+    let refused = Err(CommitError::Refused(Fault::Conflict(KEY)));
+    assert!(rt; committed == Ok(Some(1)) && conflict == refused);
+    let kept = get(database, KEY)?;
+    assert!(rt; kept == Some(row(1)?));
     Ok(())
 }
 
@@ -146,24 +225,15 @@ fn a_reopened_database_has_what_was_committed(rt: HostRuntime) -> Result<(), Fau
 fn the_second_of_two_that_write_a_key_conflicts(rt: HostRuntime) -> Result<(), Fault> {
     let alloc = rt.alloc();
     let database = opened(&rt, alloc, fresh(alloc, 8)?)?;
-    let mut first = database.begin()?;
-    let mut second = database.begin()?;
-    first.put(KEY, row(1)?)?;
-    second.put(KEY, row(2)?)?;
-    let committed = first.commit().map_err(|error| error.fault())?;
-    let conflict = second.commit();
-    let refused = Err(CommitError::Refused(Fault::Conflict(KEY)));
-    assert!(rt; committed == Some(1) && conflict == refused);
-    let kept = get(&database, KEY)?;
-    assert!(rt; kept == Some(row(1)?));
+    let met = assert_conflict(&rt, &database);
     device_in(database.close())?;
-    Ok(())
+    met
 }
 
 // Commits the row under the key. If no slot is free, it tries again, since the other thread's snapshot may need all versions until that
 // thread runs.
-fn commit_once_free<R: Wait + Drop>(
-    database: &Database<Device, R>,
+fn commit_once_free<D: SyncAhead + Drop, R: Wait + Drop>(
+    database: &Database<D, R>,
     key: Key,
     number: u8,
 ) -> Result<(), Fault> {
@@ -178,10 +248,23 @@ fn commit_once_free<R: Wait + Drop>(
 }
 
 // Commits one number after another under the key, in few slots, so that old ones are collected.
-fn count<R: Wait + Drop>(database: &Database<Device, R>, key: Key) -> Result<(), Fault> {
+fn count<D: SyncAhead + Drop, R: Wait + Drop>(
+    database: &Database<D, R>,
+    key: Key,
+) -> Result<(), Fault> {
     for number in 1..=COMMITS {
         commit_once_free(database, key, number)?;
     }
+    Ok(())
+}
+
+fn assert_counted<D: SyncAhead + Drop, R: Wait + Drop + Abort>(
+    rt: &R,
+    database: &Database<D, R>,
+) -> Result<(), Fault> {
+    let last = get(database, KEY)?;
+    let others = get(database, OTHER)?;
+    assert!(rt; last == Some(row(COMMITS)?) && others == last);
     Ok(())
 }
 
@@ -190,11 +273,9 @@ fn two_threads_commit_on_two_keys(rt: HostRuntime) -> Result<(), Fault> {
     let alloc = rt.alloc();
     let database = opened(&rt, alloc, fresh(alloc, 8)?)?;
     let (one, other) = thread::join(&rt, || count(&database, KEY), || count(&database, OTHER));
+    let counted = assert_counted(&rt, &database);
+    device_in(database.close())?;
     one?;
     other?;
-    let last = get(&database, KEY)?;
-    let others = get(&database, OTHER)?;
-    assert!(rt; last == Some(row(COMMITS)?) && others == last);
-    device_in(database.close())?;
-    Ok(())
+    counted
 }
