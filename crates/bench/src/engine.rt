@@ -73,10 +73,9 @@ fn run_opened<H: Clock + Threads + Sync, D: Pmem + Drop + Send + Sync>(
     requires at_rest { IsAtRest (D.state device) }
 {
     let mut room = open(rt, alloc, device)?;
-    match run_load(rt, &mut room, load) {
-        Ok(made) => Ok((made, room.into_device())),
-        Err(error) => Err(error),
-    }
+    let made = run_load(rt, &mut room, load);
+    let device = room.into_device();
+    Ok((made?, device))
 }
 
 /// The words of the image of a room that was closed once each key had a row.

@@ -41,7 +41,7 @@ pub fn live<H: Print + Files<File = File> + Clock + Threads + Sync>(
     let device = live_over(rt, alloc, device, load)?;
     let start = Instant::now(rt)?;
     device.close()?;
-    Ok(print_each(rt, "close", 1, start.elapsed(rt)?.as_nanos())?)
+    print_since(rt, "close", start)
 }
 
 // Opens the file, and prints how long that took.
@@ -54,8 +54,16 @@ fn open_file<H: Print + Files<File = File> + Clock>(
 {
     let start = Instant::now(rt)?;
     let device = FileDevice::open_existing(rt, alloc, name)?;
-    print_each(rt, "file", 1, start.elapsed(rt)?.as_nanos())?;
-    Ok(device)
+    match print_since(rt, "file", start) {
+        Ok(()) => Ok(device),
+        Err(error) => Err(error),
+    }
+}
+
+// Prints how long this took, which began at `start`.
+fn print_since<H: Print + Clock>(rt: &H, name: &str, start: Instant) -> Result<(), Error> {
+    let took = start.elapsed(rt)?.as_nanos();
+    Ok(print_each(rt, name, 1, took)?)
 }
 
 // Opens a room over the device, runs the load in it, and closes it. Returns the device.
@@ -69,10 +77,10 @@ fn live_over<H: Print + Files<File = File> + Clock + Threads + Sync, D: Pmem + D
 {
     let start = Instant::now(rt)?;
     let mut room = open(rt, alloc, device)?;
-    match live_in(rt, alloc, &mut room, load, start) {
-        Ok(()) => Ok(close(room)?),
-        Err(error) => Err(error),
-    }
+    let lived = live_in(rt, alloc, &mut room, load, start);
+    let device = close(room)?;
+    lived?;
+    Ok(device)
 }
 
 // Makes two commits in the room, which is being opened since `start`, and runs the load.
@@ -83,8 +91,18 @@ fn live_in<H: Print + Files<File = File> + Clock, D: Pmem + Drop>(
     load: &Load,
     start: Instant,
 ) -> Result<(), Error> {
-    print_each(rt, "opening", 1, start.elapsed(rt)?.as_nanos())?;
+    print_since(rt, "opening", start)?;
     print_memory(rt, alloc)?;
+    commit_alone(rt, room, load)?;
+    measure_run(rt, room, load, true)
+}
+
+// Makes a first and a second commit.
+fn commit_alone<H: Print + Clock, D: Pmem + Drop>(
+    rt: &H,
+    room: &mut Room<D>,
+    load: &Load,
+) -> Result<(), Error> {
     let alone = Load {
         commits: 2,
         batch: 1,
@@ -92,11 +110,10 @@ fn live_in<H: Print + Files<File = File> + Clock, D: Pmem + Drop>(
     };
     let start = Instant::now(rt)?;
     first(room, &alone)?;
-    print_each(rt, "first", 1, start.elapsed(rt)?.as_nanos())?;
+    print_since(rt, "first", start)?;
     let start = Instant::now(rt)?;
     second(room, &alone)?;
-    print_each(rt, "second", 1, start.elapsed(rt)?.as_nanos())?;
-    measure_run(rt, room, load, true)
+    print_since(rt, "second", start)
 }
 
 // The first commit and the second have functions of their own, which aren't inlined, since their instructions are counted by name.

@@ -66,15 +66,22 @@ fn read_one_board<J: Naming + Send + Sync, R: Threads + Wait + Sync>(
         || map_vec(rt, readers, &|reader| read_many(reader, reads, &done)),
     );
     drop(board);
-    let batches = published?;
-    let mut answered = 0_u64;
-    for rows in &read.map_err(|_| Fault::OutOfMemory)? {
-        answered = answered.saturating_add(*rows);
+    match read {
+        Ok(answered) => done_by(count, published, &answered),
+        Err(_) => Err(Fault::OutOfMemory),
+    }
+}
+
+// What was done, if this was published and each reader found this many rows.
+fn done_by(readers: u64, published: Result<u64, Fault>, answered: &[u64]) -> Result<Done, Fault> {
+    let mut reads = 0_u64;
+    for rows in answered {
+        reads = reads.saturating_add(*rows);
     }
     Ok(Done {
-        readers: count,
-        reads: answered,
-        batches,
+        readers,
+        reads,
+        batches: published?,
     })
 }
 
