@@ -1,5 +1,5 @@
 //! Images that are both checked and opened: the results agree.
-use crate::fixture::{changed_words, fresh_words, opened};
+use crate::fixture::{changed_words, fresh_words, leave, opened};
 use crate::numbers::next;
 use base::fault::Fault;
 use image_check::check;
@@ -52,7 +52,13 @@ fn refused<H: Threads + Sync + Abort>(
     words: &[u64],
 ) -> Result<Option<Fault>, Fault> {
     let device = SimPmem::from_words(alloc, words)?;
-    Ok(opened(rt, alloc, device).err())
+    match opened(rt, alloc, device) {
+        Ok(room) => {
+            leave(room);
+            Ok(None)
+        }
+        Err(fault) => Ok(Some(fault)),
+    }
 }
 
 // A sound image opens, limits of numbers aside. No other does, for the fault that the check

@@ -2,6 +2,7 @@ use asks::{Life, Past, steps};
 use base::fault::Fault;
 use base::geometry::Geometry;
 use base::step::{Note, Step};
+use pmem::Pmem;
 use pmem_model::{Choice, SimPmem};
 use recovery::format;
 use room::Room;
@@ -78,7 +79,7 @@ pub fn opened<R: Threads + Sync + Abort>(
 }
 
 /// Drops a room: in one place, since each function that drops a room itself is long to prove.
-pub fn leave(_room: Room<SimPmem>) {}
+pub fn leave<D: Pmem + Drop>(_room: Room<D>) {}
 
 /// Makes a step, and notes its reply. A lack of memory for the note looks like that of a scan, which changes
 /// nothing.

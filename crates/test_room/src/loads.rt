@@ -1,6 +1,6 @@
 //! An image of 65,536 live slots, which several threads read: how many words of it a `Get` reads, and which bad slot is
 //! reported.
-use crate::fixture::change;
+use crate::fixture::{change, leave};
 use base::actor::Actor;
 use base::fault::Fault;
 use base::key::Key;
@@ -166,7 +166,9 @@ fn assert_reads(
 fn get_reads_one_slot_of_many(rt: HostRuntime) -> Result<(), Fault> {
     let loads = counter(rt.alloc())?;
     let mut room = opened(&rt, rt.alloc(), shared(&loads)?)?;
-    assert_reads(&rt, &mut room, &loads)
+    let read = assert_reads(&rt, &mut room, &loads);
+    leave(room);
+    read
 }
 
 // The fault of such an image with these words changed.

@@ -9,12 +9,14 @@ use base::actor::Actor;
 use base::fault::Fault;
 use base::geometry::Geometry;
 use base::key::Key;
+use base::step::Step;
 use pmem::Pmem;
 use pmem_model::SimPmem;
 use recovery::{LiveSlot, open};
-use room::Visit;
+use room::{Room, Visit};
 use slot_alloc::SlotAlloc;
 use std::alloc::Global;
+use std::process::Abort;
 
 // Four slots and two places.
 fn geometry() -> Result<Geometry, Fault>
@@ -80,13 +82,10 @@ fn opening_lists_the_live_slots(rt: HostRuntime) -> Result<(), Fault> {
     Ok(())
 }
 
-#[test]
-fn visits_pass_what_was_not_replaced(rt: HostRuntime) -> Result<(), Fault> {
-    let (life, _newest) = REPLACED;
-    let mut room = opened(&rt, rt.alloc(), fresh(rt.alloc(), 4, 8)?)?;
+fn assert_visits(rt: &impl Abort, room: &mut Room<SimPmem>, steps: &[Step]) {
     assert!(rt; room.pass(9) == 4);
     assert!(rt; room.collect() == Ok(Visit::SweepEnd));
-    make_each(&rt, &mut room, &steps(rt.alloc(), life)?);
+    make_each(rt, room, steps);
     // Slot 0 is visited, and is free then.
     assert!(rt; room.pass(9) == 0);
     assert!(rt; room.collect() == Ok(Visit::Slot(0)));
@@ -94,6 +93,14 @@ fn visits_pass_what_was_not_replaced(rt: HostRuntime) -> Result<(), Fault> {
     assert!(rt; room.pass(9) == 1);
     assert!(rt; room.collect() == Ok(Visit::SweepEnd));
     assert!(rt; room.pass(9) == 4);
+}
+
+#[test]
+fn visits_pass_what_was_not_replaced(rt: HostRuntime) -> Result<(), Fault> {
+    let (life, _newest) = REPLACED;
+    let steps = steps(rt.alloc(), life)?;
+    let mut room = opened(&rt, rt.alloc(), fresh(rt.alloc(), 4, 8)?)?;
+    assert_visits(&rt, &mut room, &steps);
     leave(room);
     Ok(())
 }

@@ -89,14 +89,29 @@ fn rows_above_32_bytes_are_too_long_for_one_line(rt: HostRuntime) -> Result<(), 
     refused
 }
 
+// Puts a row into a room of a new device. Returns how many operations that and the opening, which makes 39, took.
+fn operations_of_put<R: Threads + Sync + Abort>(
+    rt: &R,
+    alloc: Global,
+    geometry: Geometry,
+    row: Row,
+) -> Result<u128, Fault> {
+    let mut room = begun(rt, alloc, formatted(alloc, geometry)?)?;
+    assert_note(rt, &mut room, put(7, row), Note::Done);
+    Ok(operations(&room.into_device()))
+}
+
 #[test]
 fn put_of_two_lines_makes_18_operations(rt: HostRuntime) -> Result<(), Fault> {
-    let row = Row::new(&[5; 96])?;
-    let device = formatted(rt.alloc(), Geometry::wide(4, 2, 8)?)?;
-    let mut room = begun(&rt, rt.alloc(), device)?;
-    assert_note(&rt, &mut room, put(7, row), Note::Done);
-    // Opening makes 39.
-    assert_eq!(rt; operations(&room.into_device()), 57);
+    let (geometry, row) = (Geometry::wide(4, 2, 8)?, Row::new(&[5; 96])?);
+    assert_eq!(rt; operations_of_put(&rt, rt.alloc(), geometry, row)?, 57);
+    Ok(())
+}
+
+#[test]
+fn put_of_eight_lines_makes_66_operations(rt: HostRuntime) -> Result<(), Fault> {
+    let (geometry, row) = (Geometry::large(8, 4, 2, 8)?, Row::new(&[5; 480])?);
+    assert_eq!(rt; operations_of_put(&rt, rt.alloc(), geometry, row)?, 105);
     Ok(())
 }
 
@@ -114,39 +129,31 @@ fn after_cycle<R: Threads + Sync + Abort>(
     Ok(room.into_device())
 }
 
-#[test]
-fn cycle_of_two_lines_keeps_both(rt: HostRuntime) -> Result<(), Fault> {
-    let row = Row::new(&[5; 96])?;
-    let shorter = Row::new(&[6; 40])?;
-    let device = formatted(rt.alloc(), Geometry::wide(4, 2, 8)?)?;
-    let device = after_cycle(&rt, rt.alloc(), device, row, 43)?;
-    let mut room = begun(&rt, rt.alloc(), device)?;
-    assert_note(&rt, &mut room, get(7), Note::Row(Some(row)));
-    assert_eq!(rt; ticks_of(&rt, &mut room, shorter), 44);
+// Key 7 gets a row by a cycle of this many ticks. The next opening finds it, and a shorter row takes a tick more.
+fn assert_cycles<R: Threads + Sync + Abort>(
+    rt: &R,
+    alloc: Global,
+    geometry: Geometry,
+    rows: (Row, Row),
+    ticks: u64,
+) -> Result<(), Fault> {
+    let (row, shorter) = rows;
+    let device = after_cycle(rt, alloc, formatted(alloc, geometry)?, row, ticks)?;
+    let mut room = begun(rt, alloc, device)?;
+    assert_note(rt, &mut room, get(7), Note::Row(Some(row)));
+    assert_eq!(rt; ticks_of(rt, &mut room, shorter), ticks.saturating_add(1));
     leave(room);
     Ok(())
 }
 
 #[test]
-fn put_of_eight_lines_makes_66_operations(rt: HostRuntime) -> Result<(), Fault> {
-    let row = Row::new(&[5; 480])?;
-    let device = formatted(rt.alloc(), Geometry::large(8, 4, 2, 8)?)?;
-    let mut room = begun(&rt, rt.alloc(), device)?;
-    assert_note(&rt, &mut room, put(7, row), Note::Done);
-    // Opening makes 39.
-    assert_eq!(rt; operations(&room.into_device()), 105);
-    Ok(())
+fn cycle_of_two_lines_keeps_both(rt: HostRuntime) -> Result<(), Fault> {
+    let rows = (Row::new(&[5; 96])?, Row::new(&[6; 40])?);
+    assert_cycles(&rt, rt.alloc(), Geometry::wide(4, 2, 8)?, rows, 43)
 }
 
 #[test]
 fn cycle_of_eight_lines_keeps_all(rt: HostRuntime) -> Result<(), Fault> {
-    let row = Row::new(&[5; 480])?;
-    let shorter = Row::new(&[6; 300])?;
-    let device = formatted(rt.alloc(), Geometry::large(8, 4, 2, 8)?)?;
-    let device = after_cycle(&rt, rt.alloc(), device, row, 49)?;
-    let mut room = begun(&rt, rt.alloc(), device)?;
-    assert_note(&rt, &mut room, get(7), Note::Row(Some(row)));
-    assert_eq!(rt; ticks_of(&rt, &mut room, shorter), 50);
-    leave(room);
-    Ok(())
+    let rows = (Row::new(&[5; 480])?, Row::new(&[6; 300])?);
+    assert_cycles(&rt, rt.alloc(), Geometry::large(8, 4, 2, 8)?, rows, 49)
 }
