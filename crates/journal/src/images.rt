@@ -1,4 +1,4 @@
-ghost use Rattle.std.specs.Prelude.{◌≡◌, ◌⊎◌, ℕ, Bool, false, List, Option, None, Some, IfSome, IsErr, IsNone, IsSome, OnErr, OnOk};
+ghost use Rattle.std.specs.Prelude.{◌≡◌, ◌⊎◌, ℕ, Bool, true, false, List, Option, None, Some, IfSome, IsErr, IsNone, IsSome, OnErr, OnOk};
 ghost use Rattle.journal.specs.Changes.{DiffersIn};
 
 use std::io;
@@ -15,13 +15,17 @@ pub trait Images {
     ghost shows: { Self → List ℕ → Type 0 };
 
     /// An image wasn't kept, and why is noted.
-    ghost has_failed: { Self → Type 0 };
+    ghost has_failed: { Self → Bool };
 
     /// Each image, and each wait for one, is refused: a sync is handed out, or one failed that was made apart.
     ghost refuses: { Self → Type 0 };
 
     /// Whether a sync that was handed out succeeded, once it was made.
     ghost came: { Self.Pending → Option Bool };
+
+    /// Whether an image wasn't kept.
+    fn is_failed(&self) -> bool
+        ensures { result ≡ has_failed self.now };
 
     /// Writes the image, and doesn't wait until it persists.
     fn begin(&mut self, words: &Vec<u64>, lines: &[usize]) -> io::Result<()>
@@ -32,8 +36,10 @@ pub trait Images {
         ensures whole { (image : List ℕ) → may_hold self.new image → may_hold self.old image ⊎ (image ≡ words.now.items) }
         ensures begun { OnOk result ((image : List ℕ) → shows self.new image → image ≡ words.now.items) }
 
-        // At Err an image wasn't kept, and that is noted (`has_failed`). Of `JournaledImages`, `failure` then says why.
-        ensures noted { OnErr result (has_failed self.new) }
+        // At Err an image wasn't kept, and that is noted (`has_failed`). Of `JournaledImages`, `failure` then says why. At Ok none is
+        // noted.
+        ensures noted { OnErr result (has_failed self.new ≡ true) }
+        ensures works { OnOk result (has_failed self.new ≡ false) }
 
         // While all is refused it is an Err, stays so, and changes nothing.
         ensures refused { refuses self.old → IsErr result × refuses self.new }
@@ -45,8 +51,9 @@ pub trait Images {
         ensures whole { (image : List ℕ) → may_hold self.new image → may_hold self.old image }
         ensures kept { OnOk result ((image : List ℕ) → may_hold self.new image → shows self.old image) }
 
-        // At Err that is noted.
-        ensures noted { OnErr result (has_failed self.new) }
+        // At Err that is noted, and at Ok none is.
+        ensures noted { OnErr result (has_failed self.new ≡ true) }
+        ensures works { OnOk result (has_failed self.new ≡ false) }
 
         // While all is refused it is an Err, stays so, and changes nothing.
         ensures refused { refuses self.old → IsErr result × refuses self.new }
@@ -58,7 +65,7 @@ pub trait Images {
         // It changes no image, and what was noted stays so.
         ensures found { (image : List ℕ) → may_hold self.new image → may_hold self.old image }
         ensures shown { (image : List ℕ) → shows self.new image → shows self.old image }
-        ensures noted { has_failed self.old → has_failed self.new }
+        ensures noted { has_failed self.new ≡ has_failed self.old }
 
         // Until it is taken back all is refused, and no other is handed out.
         ensures out { IsSome result → refuses self.new }
@@ -80,7 +87,7 @@ pub trait Images {
         // It changes no image, and what was noted stays so.
         ensures found { (image : List ℕ) → may_hold self.new image → may_hold self.old image }
         ensures shown { (image : List ℕ) → shows self.new image → shows self.old image }
-        ensures noted { has_failed self.old → has_failed self.new }
+        ensures noted { has_failed self.new ≡ has_failed self.old }
 
         // If the sync failed, all is refused as before.
         ensures failed { came pending ≡ Some false → refuses self.old → refuses self.new };
@@ -100,7 +107,7 @@ impl Images for Nowhere {
 
     ghost shows = { λ _ _. ⊥ };
 
-    ghost has_failed = { λ _. ⊥ };
+    ghost has_failed = { λ _. false };
 
     // No sync is handed out.
     ghost refuses = { λ _. ⊥ };
@@ -108,6 +115,11 @@ impl Images for Nowhere {
     ghost came = { λ _. None };
 
     ghost shown_is_found = { λ _ _ shown. shown };
+
+    #[inline(always)]
+    fn is_failed(&self) -> bool {
+        false
+    }
 
     fn begin(&mut self, words: &Vec<u64>, lines: &[usize]) -> io::Result<()> {
         let _ = words;

@@ -1,4 +1,4 @@
-ghost use Rattle.std.specs.Prelude.{◌≡◌, ℕ, List, ◌+◌, ◌*◌, ◌%◌, ◌<◌, ◌^◌, true, false, None, length, is_some, IfErr, IfOk, IsErr, IsSome, OnErr, OnOk};
+ghost use Rattle.std.specs.Prelude.{◌≡◌, ℕ, List, ◌+◌, ◌*◌, ◌%◌, ◌<◌, ◌^◌, true, false, None, length, is_some, IfErr, IfOk, IsErr, OnErr, OnOk};
 ghost use Rattle.std.proofs.Common.{inl};
 ghost use Rattle.journal.specs.Files.{Opens};
 ghost use Rattle.journal.specs.Places.{HoldsPart, IsPart, PartAsBefore};
@@ -244,7 +244,7 @@ impl<S: Storage> Images for JournaledImages<S> {
 
     ghost shows = { λ images image. image ≡ last_image images };
 
-    ghost has_failed = { λ images. IsSome (failure_of images) };
+    ghost has_failed = { λ images. is_some (failure_of images) };
 
     // An image is begun, and where it is kept all is refused.
     ghost refuses = { λ images. Refuses S.refuses images };
@@ -252,6 +252,11 @@ impl<S: Storage> Images for JournaledImages<S> {
     ghost came = { S.came };
 
     ghost shown_is_found = { λ images image shown. inl shown };
+
+    #[inline(always)]
+    fn is_failed(&self) -> bool {
+        self.failure.is_some()
+    }
 
     fn begin(&mut self, words: &Vec<u64>, lines: &[usize]) -> io::Result<()> {
         self.complete()?;

@@ -1,5 +1,5 @@
 -- What a caller may say of a device whose image is kept elsewhere.
-use Rattle.std.specs.Prelude.{◌≡◌, ℕ, false, List, [], Option}
+use Rattle.std.specs.Prelude.{◌≡◌, ℕ, Bool, true, List, [], Option, None}
 use Rattle.std.specs.declared.io.Error.{Error}
 use Rattle.journal.specs.Images as journal
 use Rattle.journal.specs.declared.images.Images.{Ghosts}
@@ -22,8 +22,8 @@ abbrev pub images_of : {I P : Type 0} → {H : Ghosts I P} → JournaledPmem I P
 images_of device = device.images
 
 -- an image wasn't kept, and why is noted there
-abbrev pub HasFailed : {I P : Type 0} → {H : Ghosts I P} → (I → Type 0) → JournaledPmem I P H → Type 0
-HasFailed has_failed device = has_failed device.images
+abbrev pub HasFailed : {I P : Type 0} → {H : Ghosts I P} → (I → Bool) → JournaledPmem I P H → Type 0
+HasFailed has_failed device = has_failed device.images ≡ true
 
 -- how many places for records it has
 abbrev pub places_of : {I P : Type 0} → {H : Ghosts I P} → JournaledPmem I P H → ℕ
@@ -37,16 +37,16 @@ MayFind may_hold device image = may_hold device.images image
 abbrev pub changed_in : {I P : Type 0} → {H : Ghosts I P} → JournaledPmem I P H → List ℕ
 changed_in device = device.changed.lines
 
--- All that is stored was written: no image failed to be kept, and no line is marked as stored to since the last one was written.
--- Excluded: an image that lacks a store, taken for what the device holds.
-abbrev pub IsWritten : {I P : Type 0} → {H : Ghosts I P} → JournaledPmem I P H → Type 0
-IsWritten device = (device.failed ≡ false) × (changed_in device ≡ [])
-
 -- ---- one whose images are kept in a file
 
 -- why an image wasn't kept, if one wasn't
 abbrev pub failure_of : {S P Q : Type 0} → {G : StorageGhosts S P} → {H : Ghosts (JournaledImages S P G) Q} → JournaledPmem (JournaledImages S P G) Q H → Option Error
 failure_of device = journal.failure_of device.images
+
+-- All that is stored was written: no image failed to be kept, and no line is marked as stored to since the last one was written.
+-- Excluded: an image that lacks a store, taken for what the device holds.
+abbrev pub IsWritten : {S P Q : Type 0} → {G : StorageGhosts S P} → {H : Ghosts (JournaledImages S P G) Q} → JournaledPmem (JournaledImages S P G) Q H → Type 0
+IsWritten device = (failure_of device ≡ None) × (changed_in device ≡ [])
 
 -- the image that was written last
 abbrev pub last_image : {S P Q : Type 0} → {G : StorageGhosts S P} → {H : Ghosts (JournaledImages S P G) Q} → JournaledPmem (JournaledImages S P G) Q H → List ℕ

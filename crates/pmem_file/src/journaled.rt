@@ -42,9 +42,6 @@ pub struct JournaledPmem<I: Images> {
 
     // And since one was written, which may not be synced.
     is_gate_unwritten: bool,
-
-    // The image wasn't kept: no further fence succeeds.
-    failed: bool,
     trace: Trace,
 
     // What was done up to the last image that was kept.
@@ -58,10 +55,9 @@ pub struct JournaledPmem<I: Images> {
     ghost mirrored: { IsMirrored (is_gate places) (device_of trace) words.items flushed.items (HoldsGate places (I.may_hold images)) },
     ghost since: { IsSince (device_of trace) (device_of kept.value).clock (I.may_hold images) },
     ghost gates: { is_gate_stored ≡ false → HoldsOnly (HoldsGate places (I.may_hold images)) (length words.items) words.items },
-    ghost since_written: { failed ≡ false → IsSince (device_of trace) (device_of written.value).clock (I.shows images) },
-    ghost gates_written: { failed ≡ false → is_gate_unwritten ≡ false → HoldsOnly (HoldsGate places (I.shows images)) (length words.items) words.items },
-    ghost noted: { failed ≡ true → ∥ I.has_failed images ∥₁ },
-    ghost changes: { failed ≡ false → (image : List ℕ) → I.shows images image → DiffersIn changed.lines words.items image },
+    ghost since_written: { I.has_failed images ≡ false → IsSince (device_of trace) (device_of written.value).clock (I.shows images) },
+    ghost gates_written: { I.has_failed images ≡ false → is_gate_unwritten ≡ false → HoldsOnly (HoldsGate places (I.shows images)) (length words.items) words.items },
+    ghost changes: { I.has_failed images ≡ false → (image : List ℕ) → I.shows images image → DiffersIn changed.lines words.items image },
 }
 
 impl<I: Images> JournaledPmem<I> {
@@ -109,7 +105,6 @@ impl<I: Images> JournaledPmem<I> {
             places: named,
             is_gate_stored: false,
             is_gate_unwritten: false,
-            failed: false,
             trace,
             kept,
             written,
@@ -140,7 +135,7 @@ impl<I: Images> JournaledPmem<I> {
     // An operation fails.
     fn refuse(&mut self) -> Fault
         ensures state { device_of self.new.trace ≡ failed (device_of self.old.trace) }
-        ensures failed { self.new.failed ≡ self.old.failed }
+        ensures failed { I.has_failed self.new.images ≡ I.has_failed self.old.images }
         ensures fault { result ≡ Fault.Device }
     {
         self.trace.note(Operation::Failure);
@@ -193,11 +188,11 @@ impl<I: Images> JournaledPmem<I> {
 
     // A fence that makes a gate durable: the image is kept before it.
     fn persist(&mut self, actor: u8) -> Result<(), Fault>
-        requires { self.old.failed ≡ false }
+        requires { I.has_failed self.old.images ≡ false }
         ensures ok { OnOk result (device_of self.new.trace ≡ fenced actor (device_of self.old.trace)) }
         ensures err { OnErr result (device_of self.new.trace ≡ failed (device_of self.old.trace)) }
         ensures fault { IfErr result (λ fault. fault ≡ Fault.Device) }
-        ensures noted { OnErr result (self.new.failed ≡ true) }
+        ensures noted { OnErr result (I.has_failed self.new.images ≡ true) }
     {
         match self.keep() {
             Ok(()) => {
@@ -214,9 +209,9 @@ impl<I: Images> JournaledPmem<I> {
     fn is_fenced(&mut self, actor: u8) -> bool
         ensures fenced { result ≡ true → device_of self.new.trace ≡ fenced actor (device_of self.old.trace) }
         ensures refused { result ≡ false → device_of self.new.trace ≡ failed (device_of self.old.trace) }
-        ensures noted { result ≡ false → self.new.failed ≡ true }
+        ensures noted { result ≡ false → I.has_failed self.new.images ≡ true }
     {
-        if self.failed {
+        if self.images.is_failed() {
             let _ = self.refuse();
             return false;
         }
@@ -229,10 +224,10 @@ impl<I: Images> JournaledPmem<I> {
 
     // Keeps an image with the gates as they are now: the one that is written, where it has them.
     fn keep(&mut self) -> io::Result<()>
-        requires { self.old.failed ≡ false }
+        requires { I.has_failed self.old.images ≡ false }
         ensures trace { self.new.trace ≡ self.old.trace }
         ensures kept { OnOk result (self.new.is_gate_stored ≡ false) }
-        ensures noted { OnErr result (self.new.failed ≡ true) }
+        ensures noted { OnErr result (I.has_failed self.new.images ≡ true) }
     {
         if !self.is_gate_unwritten {
             return self.finish();
@@ -243,44 +238,30 @@ impl<I: Images> JournaledPmem<I> {
 
     // Writes the image as it is now, and doesn't wait until it persists.
     fn write(&mut self) -> io::Result<()>
-        requires { self.old.failed ≡ false }
+        requires { I.has_failed self.old.images ≡ false }
         ensures trace { self.new.trace ≡ self.old.trace }
         ensures written { OnOk result (self.new.is_gate_unwritten ≡ false) }
-        ensures works { OnOk result (self.new.failed ≡ false) }
-        ensures noted { OnErr result (self.new.failed ≡ true) }
+        ensures works { OnOk result (I.has_failed self.new.images ≡ false) }
+        ensures noted { OnErr result (I.has_failed self.new.images ≡ true) }
     {
-        match self.images.begin(&self.words, self.changed.as_slice()) {
-            Ok(()) => {
-                self.changed.clear();
-                self.written = Snapshot::of(&self.trace);
-                self.is_gate_unwritten = false;
-                Ok(())
-            }
-            Err(error) => {
-                self.failed = true;
-                Err(error)
-            }
-        }
+        self.images.begin(&self.words, self.changed.as_slice())?;
+        self.changed.clear();
+        self.written = Snapshot::of(&self.trace);
+        self.is_gate_unwritten = false;
+        Ok(())
     }
 
     // Waits until the image persists that was written last.
     fn finish(&mut self) -> io::Result<()>
-        requires { self.old.failed ≡ false }
+        requires { I.has_failed self.old.images ≡ false }
         ensures trace { self.new.trace ≡ self.old.trace }
         ensures kept { OnOk result (self.new.is_gate_stored ≡ self.old.is_gate_unwritten) }
-        ensures noted { OnErr result (self.new.failed ≡ true) }
+        ensures noted { OnErr result (I.has_failed self.new.images ≡ true) }
     {
-        match self.images.finish() {
-            Ok(()) => {
-                swap(&mut self.kept, &mut self.written);
-                self.is_gate_stored = self.is_gate_unwritten;
-                Ok(())
-            }
-            Err(error) => {
-                self.failed = true;
-                Err(error)
-            }
-        }
+        self.images.finish()?;
+        swap(&mut self.kept, &mut self.written);
+        self.is_gate_stored = self.is_gate_unwritten;
+        Ok(())
     }
 }
 
@@ -351,7 +332,7 @@ impl<S: Storage> JournaledPmem<JournaledImages<S>> {
         // Otherwise an image wasn't kept, and `failure` says why, or a line is marked as stored to.
         ensures otherwise { result ≡ false → ∥ IsSome (failure_of self.now) ∥₁ ⊎ (changed_in self.now ≢ []) }
     {
-        !self.failed && self.changed.as_slice().is_empty()
+        !self.images.is_failed() && self.changed.as_slice().is_empty()
     }
 
     /// Why an image wasn't kept, if one wasn't. No fence succeeds since then.
@@ -515,9 +496,9 @@ impl<I: Images> Pmem for JournaledPmem<I> {
         ensures fault { IfErr result (λ fault. fault ≡ Fault.Device) }
 
         // At Err an image wasn't kept, and that is noted (`HasFailed`). Over a file `failure` then says why.
-        ensures noted { OnErr result (∥ HasFailed I.has_failed self.new ∥₁) }
+        ensures noted { OnErr result (HasFailed I.has_failed self.new) }
     {
-        if !self.failed && !self.is_gate_stored {
+        if !self.images.is_failed() && !self.is_gate_stored {
             self.order(actor.number);
             return Ok(());
         }
@@ -534,7 +515,10 @@ impl<I: Images> SyncAhead for JournaledPmem<I> {
 
     // If the fence would make a gate durable, the image is written here. If that fails, so does the fence.
     fn begin_sync(&mut self, actor: Actor) -> Option<I::Pending> {
-        if self.failed || !self.is_gate_unwritten || !self.makes_a_gate_durable(actor.number) {
+        if self.images.is_failed()
+            || !self.is_gate_unwritten
+            || !self.makes_a_gate_durable(actor.number)
+        {
             return None;
         }
         match self.write() {

@@ -18,9 +18,9 @@ invariant_of-self-2 g c =
     (record { shown = old.shown; mirrored = old.mirrored; back = old.since; gates = old.gates }) (c.requires) c.ranges.value.fits) in
     let P : Device → Type 0 = λ d. Holds d words old.flushed.items old.places c.note_gate.new.stored (device_of old.kept.value).clock (g.I.Images.may_hold old.images) in
     let h = subst P (sym c.note.ensures) h0 in
-    let V : Bool → Type 0 = λ b. old.failed ≡ false → Written device words old.places b (device_of old.written.value).clock (g.I.Images.shows old.images) in
+    let V : Bool → Type 0 = λ b. g.I.Images.has_failed old.images ≡ false → Written device words old.places b (device_of old.written.value).clock (g.I.Images.shows old.images) in
     let w0 = subst V (sym c.note_gate.ensures.unwritten) (λ works. written-stored (device_of old.trace) old.words.items old.places old.is_gate_unwritten (device_of old.written.value).clock (g.I.Images.shows old.images) c.args.word c.args.value (record { back = old.since_written works; gates = old.gates_written works })) in
-    let W : Device → Type 0 = λ d. old.failed ≡ false → Written d words old.places c.note_gate.new.unwritten (device_of old.written.value).clock (g.I.Images.shows old.images) in
+    let W : Device → Type 0 = λ d. g.I.Images.has_failed old.images ≡ false → Written d words old.places c.note_gate.new.unwritten (device_of old.written.value).clock (g.I.Images.shows old.images) in
     let w = subst W (sym c.note.ensures) w0 in
     let named : NamesPlaces old.places words = subst (λ (l : List ℕ). NamesPlaces old.places (slice_set l c.args.word c.args.value)) c.deref.ensures.value (c.leaves_places.ensures c.if-not-leaves_places.false) in
     record {
@@ -32,7 +32,6 @@ invariant_of-self-2 g c =
       gates = h.gates;
       since_written = λ works. (w works).back;
       gates_written = λ works. (w works).gates;
-      noted = old.noted;
       changes = λ none image may. differs-noted old.changed.lines c.note_change.new.changed.lines old.words.items image c.args.word c.args.value (old.changes none image may)
           (rw c.as_slice.ensures.value at (c.note_change.ensures.has c.if-not-note_change.false)) c.note_change.ensures.others;
     }
@@ -53,6 +52,5 @@ invariant_of-self-then-not-note_change g c =
       gates = old.gates;
       since_written = old.since_written;
       gates_written = old.gates_written;
-      noted = old.noted;
       changes = λ works image may. subst (λ (numbers : List ℕ). DiffersIn numbers old.words.items image) (sym (ap (λ marks. marks.lines) same)) (old.changes works image may);
     }

@@ -1,5 +1,4 @@
-use Rattle.std.proofs.Common.{◌≡◌, false}
-use Rattle.std.proofs.Math.Logic.{∥∥₁_map}
+use Rattle.std.proofs.Common.{◌≡◌, ◌∙◌, false, sym}
 use Rattle.pmem_file.specs.Traces.{device_of}
 use Rattle.pmem_file.proofs.Since.{Written, holds-within, written-within}
 use Rattle.pmem_file.proofs.journaled.JournaledPmemSyncAhead.end_sync.Goals as goal
@@ -9,8 +8,9 @@ invariant_of-self g c =
     let old = c.args.self.now in
     let h = holds-within (device_of old.trace) old.words.items old.flushed.items old.places old.is_gate_stored (device_of old.kept.value).clock (g.I.Images.may_hold old.images) (g.I.Images.may_hold c.take_back.new.self)
     c.take_back.ensures.found (record { shown = old.shown; mirrored = old.mirrored; back = old.since; gates = old.gates }) in
-    let w : old.failed ≡ false → Written (device_of old.trace) old.words.items old.places old.is_gate_unwritten (device_of old.written.value).clock (g.I.Images.shows c.take_back.new.self) = λ works. written-within (device_of old.trace) old.words.items old.places old.is_gate_unwritten (device_of old.written.value).clock (g.I.Images.shows old.images) (g.I.Images.shows c.take_back.new.self)
-    c.take_back.ensures.shown (record { back = old.since_written works; gates = old.gates_written works }) in
+    let before : g.I.Images.has_failed c.take_back.new.self ≡ false → g.I.Images.has_failed old.images ≡ false = λ works. sym c.take_back.ensures.noted ∙ works in
+    let w : g.I.Images.has_failed c.take_back.new.self ≡ false → Written (device_of old.trace) old.words.items old.places old.is_gate_unwritten (device_of old.written.value).clock (g.I.Images.shows c.take_back.new.self) = λ works. written-within (device_of old.trace) old.words.items old.places old.is_gate_unwritten (device_of old.written.value).clock (g.I.Images.shows old.images) (g.I.Images.shows c.take_back.new.self)
+    c.take_back.ensures.shown (record { back = old.since_written (before works); gates = old.gates_written (before works) }) in
     record {
       marked = old.marked;
       named = old.named;
@@ -20,6 +20,5 @@ invariant_of-self g c =
       gates = h.gates;
       since_written = λ works. (w works).back;
       gates_written = λ works. (w works).gates;
-      noted = λ is. ∥∥₁_map (old.noted is) c.take_back.ensures.noted;
-      changes = λ works image may. old.changes works image (c.take_back.ensures.shown image may);
+      changes = λ works image may. old.changes (before works) image (c.take_back.ensures.shown image may);
     }
