@@ -171,7 +171,8 @@ class Room:
         return "\n".join([*(f"{table} {key} {row_text(row)}" for (table, key), row in found), f"end {len(found)}"])
 
     def put(self, number, table, key, row):
-        if len(row) > 480:
+        # Such a row is too long for any image of versions 1 to 3, or of version 4, and makes no step.
+        if len(row) > (480 if self.geometry.version > 3 else 96):
             raise Refused("TooLong")
         session = self.session(number, "Active")
         if len(row) > self.geometry.most_bytes:

@@ -18,6 +18,7 @@ use Rattle.command_line.specs.declared.command.Survivor.{Survivor}
 use Rattle.console.specs.declared.lines.Outcome.{Outcome}
 use Rattle.console.specs.declared.lines.Outcome.TheVariants.{Replied, Crashed}
 use Rattle.console.specs.Kept.{Extends}
+use Rattle.console.specs.LongRows.{command_on}
 use Rattle.console.specs.Obeyed.{Ticks, Answers, HasOutcome, ObeysRead, ObeysLine, ObeysLines}
 use Rattle.console.proofs.KeptHistory.{extends-none, extends-trans}
 
@@ -70,7 +71,7 @@ grows-answers q asks.Cycle answer q' s = grows-ticks step.Commit _ s.0 q answer 
 grows-answers q (asks.Crash keeps) answer q' s = absurd s
 
 grows-comes : (q : State) (command : Command) (outcome : Outcome) (q' : State) → HasOutcome q command outcome q' → Grows q q'
-grows-comes q command (Replied answer) q' s = grows-answers q command answer q' s
+grows-comes q command (Replied answer) q' s = grows-answers q (command_on q.layout.version command) answer q' s
 grows-comes q command (Crashed keeps) q' (is, same) = grows-same q q' same
 
 grows-read : (q : State) (read : Option (Option Command)) (said : Text) (keeps : Option Survivor) (q' : State) → ObeysRead q read said keeps q' → Grows q q'

@@ -1,22 +1,26 @@
 -- How ticks, commands and lines add up.
-use Rattle.std.proofs.Common.{◌≡◌, ℕ, ◌-◌, ◌≤◌, ◌^◌, suc, List, [], ◌∷◌, ◌++◌, ◌⊎◌, Bool, true, false, refl, sym, ◌∙◌, ap, append_assoc, append-nil, arith}
+use Rattle.std.proofs.Common.{◌≡◌, ℕ, ◌-◌, ◌≤◌, ◌^◌, suc, List, [], ◌∷◌, ◌++◌, ◌⊎◌, Bool, true, false, refl, sym, ◌∙◌, ap, subst, append_assoc, append-nil, arith}
 use Rattle.std.specs.Prelude.{Option, Some, None}
 use Rattle.std.specs.Io.KnownBytes.{Appends}
 use Rattle.base.specs.declared.step.Step.{Step}
 use Rattle.base.specs.declared.step.Step.TheVariants as step
 use Rattle.base.specs.declared.step.Reply.{Reply}
+use Rattle.base.specs.Layout.{Layout}
 use Rattle.base.specs.Replies.{is_failure}
 use Rattle.machine.specs.Machine.{State, Stepped}
 use Rattle.pmem.specs.Device.{Device}
 use Rattle.pmem.specs.declared.device.Pmem.{Ghosts}
+use Rattle.room.specs.Room.{Shows}
 use Rattle.room.specs.declared.room.Room.{Room}
 use Rattle.command_line.specs.Lines.{line_of}
 use Rattle.command_line.specs.Numbers.{Text}
 use Rattle.command_line.specs.declared.command.Command.{Command}
+use Rattle.command_line.specs.declared.command.Command.TheVariants as asks
 use Rattle.command_line.specs.declared.command.Survivor.{Survivor}
 use Rattle.console.specs.declared.lines.Outcome.{Outcome}
 use Rattle.console.specs.declared.lines.Outcome.TheVariants.{Replied, Crashed}
 use Rattle.console.specs.Kept.{LeadsBy}
+use Rattle.console.specs.LongRows.{command_on}
 use Rattle.console.specs.Obeyed.{Ticks, Commits, Cycles, Answers, HasOutcome, Obeys, ObeysLine, ObeysLines, is_busy, is_tick, reply_text}
 use Rattle.console.proofs.KeptHistory.{leads-nowhere, leads-by, leads-trans}
 
@@ -41,9 +45,25 @@ cycles-so state old new more answer few all made =
 
 -- ---- commands
 
-pub comes-as : {D : Type 0} {G : Ghosts D} (state : D → Device) (old new : Room D G) (command actual : Command) (answer : Reply) → command ≡ actual
+-- the room's layout is that of each state that it shows, so on its image the command asks for this one
+pub comes-as : {D : Type 0} {G : Ghosts D} (state : D → Device) (old new : Room D G) (layout : Layout) (command actual : Command) (answer : Reply)
+    → ((q : State) → Shows state old q → layout ≡ q.layout) → command_on layout.version command ≡ actual
     → LeadsBy state old new (λ q q'. Answers q actual answer q') → LeadsBy state old new (λ q q'. HasOutcome q command (Replied answer) q')
-comes-as state old new command actual answer is made = grind (arith, leads-by)
+comes-as state old new layout command actual answer laid is made = record {
+  each = λ q shows.
+      let one = made.each q shows in
+      let asked : command_on q.layout.version command ≡ actual = ap (λ (a : Layout). command_on a.version command) (sym (laid q shows)) ∙ is in
+      (one.0, subst (λ (c : Command). Answers q c answer one.0) (sym asked) one.1, one.2);
+}
+
+-- no command asks for a crash but a crash
+pub crash-on : (version : ℕ) (command : Command) (keeps : Survivor) → command_on version command ≡ asks.Crash keeps → command ≡ asks.Crash keeps
+crash-on version command keeps is = grind (arith)
+
+pub comes-crash : {D : Type 0} {G : Ghosts D} (state : D → Device) (room : Room D G) (version : ℕ) (command : Command) (keeps : Survivor) → command_on version command ≡ asks.Crash keeps
+    → LeadsBy state room room (λ q q'. HasOutcome q command (Crashed keeps) q')
+comes-crash state room version command keeps is =
+    leads-nowhere state room (λ (q q' : State). HasOutcome q command (Crashed keeps) q') (λ q. (crash-on version command keeps is, refl))
 
 pub obeys-reply : {D : Type 0} {G : Ghosts D} (state : D → Device) (old new : Room D G) (command : Command) (outcome : Outcome) (answer : Reply) → is_failure answer ≡ false → outcome ≡ Replied answer
     → LeadsBy state old new (λ q q'. HasOutcome q command outcome q') → LeadsBy state old new (λ q q'. Obeys q command (reply_text answer ++ 10 ∷ []) None q')

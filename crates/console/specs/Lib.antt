@@ -1,6 +1,7 @@
 pub mod Kept
 pub mod Obeyed
 pub mod Rounds
+pub mod LongRows
 pub mod Lives
 pub mod Input
 pub mod Crash

@@ -15,6 +15,7 @@ use Rattle.command_line.specs.Texts.{refused_text, rows_text}
 use Rattle.command_line.specs.declared.command.Command.{Command}
 use Rattle.command_line.specs.declared.command.Command.TheVariants as asks
 use Rattle.command_line.specs.declared.command.Survivor.{Survivor}
+use Rattle.console.specs.LongRows.{command_on}
 use Rattle.console.specs.declared.lines.Outcome.{Outcome}
 use Rattle.console.specs.declared.lines.Outcome.TheVariants.{Replied, Crashed}
 
@@ -58,8 +59,7 @@ abbrev pub Collects : State → ℕ → Reply → State → Type 0
 Collects q visits answer q' =
     (more : ℕ) × Ticks step.Collect is_answered more q answer q' × (more ≤ visits - 1) × ((more ≡ visits - 1) ⊎ (is_answered answer ≡ false))
 
--- The reply to a command that isn't a crash, and the state then. A row that is too long for any slot is refused before anything else.
--- One that is too long for the slots of this image is refused by the step
+-- The reply to a command that isn't a crash, and the state then. A put that makes no step is refused before anything else is looked at
 abbrev pub Answers : State → Command → Reply → State → Type 0
 Answers q (asks.Step s) answer q' = Stepped q (as_step s) answer q'
 Answers q asks.LongRow answer q' = (answer ≡ reply.Refused TooLong) × (q' ≡ q)
@@ -68,10 +68,11 @@ Answers q (asks.Collect visits) answer q' = Collects q visits answer q'
 Answers q asks.Cycle answer q' = Cycles q answer q'
 Answers q (asks.Crash keeps) answer q' = ⊥
 
--- The outcome of a command. A crash is left to the end of the life.
+-- The outcome of a command, as it is on this image (`command_on`). A row that is only too long for the slots of this image is refused by the
+-- step. A crash is left to the end of the life.
 -- Excluded: a reply that no step gave.
 abbrev pub HasOutcome : State → Command → Outcome → State → Type 0
-HasOutcome q command (Replied answer) q' = Answers q command answer q'
+HasOutcome q command (Replied answer) q' = Answers q (command_on q.layout.version command) answer q'
 HasOutcome q command (Crashed keeps) q' = (command ≡ asks.Crash keeps) × (q' ≡ q)
 
 -- ---- what is printed

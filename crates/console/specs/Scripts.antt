@@ -23,6 +23,7 @@ use Rattle.lives.specs.declared.life.Numbers.{Numbers}
 use Rattle.lives.specs.declared.life.Opened.{Opened}
 use Rattle.lives.specs.declared.life.Repeated.{Repeated}
 use Rattle.console.specs.Crash.{choice_of}
+use Rattle.console.specs.LongRows.{command_on}
 use Rattle.console.specs.Obeyed.{reply_text}
 use Rattle.console.specs.Rounds.{visits_needed}
 use Rattle.console.specs.declared.stop.Stop.{Stop}
@@ -36,13 +37,17 @@ stop_of script.OutOfMemory = Refused OutOfMemory
 
 -- ---- what is asked
 
--- The step of a command in a life on an image of this layout, and how often it is taken: for `commit` as many ticks as it asks for, for
--- `collect` as many visits as are enough. A row that is too long for any slot has no step, and is refused before anything else
+-- The step that is asked for on an image of this layout, and how often it is taken: for `commit` as many ticks as it asks for, for
+-- `collect` as many visits as are enough. A row that is too long has no step, and is refused before anything else is looked at
+abbrev pub times_of : Layout → Command → Repeated
+times_of layout (asks.Step s) = record { step = as_step s; times = 1 }
+times_of layout (asks.Commit ticks) = record { step = step.Commit; times = ticks }
+times_of layout (asks.Collect visits) = record { step = step.Collect; times = visits_needed layout visits }
+times_of layout _ = record { step = step.Commit; times = 0 }
+
+-- the same of a command in a life on such an image
 abbrev pub repeated_of : Layout → Command → Repeated
-repeated_of layout (asks.Step s) = record { step = as_step s; times = 1 }
-repeated_of layout (asks.Commit ticks) = record { step = step.Commit; times = ticks }
-repeated_of layout (asks.Collect visits) = record { step = step.Collect; times = visits_needed layout visits }
-repeated_of layout _ = record { step = step.Commit; times = 0 }
+repeated_of layout command = times_of layout (command_on layout.version command)
 
 -- what a life is asked to do: its steps, whether it closes, a fuse, and which survivors its stop leaves
 pub record Wish : Type 0 where

@@ -12,6 +12,7 @@ pub mod execute;
 pub mod format;
 pub mod law;
 mod lines;
+mod long_rows;
 mod replies;
 mod rounds;
 mod run;

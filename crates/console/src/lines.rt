@@ -8,6 +8,7 @@ ghost use Rattle.console.specs.Kept.{LeadsBy};
 ghost use Rattle.console.specs.Refusals.{WantsMemory};
 ghost use Rattle.console.specs.Obeyed.{Commits, Collects, Cycles, HasOutcome, ObeysLine, ObeysLines, is_answered, is_busy, is_tick};
 
+use crate::long_rows::command_on;
 use crate::replies::show;
 use crate::rounds::visits_needed;
 use crate::stop::Stop;
@@ -99,13 +100,13 @@ fn perform<D: Pmem + Drop>(room: &mut Room<D>, command: &Command) -> Outcome
     ensures comes { LeadsBy D.state room.old room.new (λ q q'. HasOutcome q command.now result q') }
     ensures kept { kept_of result ≡ kept_by command.now }
 {
-    match command {
-        Command::Step(asked) => Outcome::Replied(room.step(Step::from(*asked))),
+    match command_on(room.geometry(), command) {
+        Command::Step(asked) => Outcome::Replied(room.step(Step::from(asked))),
         Command::LongRow => Outcome::Replied(Reply::Refused(Fault::TooLong)),
-        Command::Commit { ticks } => Outcome::Replied(tick(room, *ticks)),
-        Command::Collect { visits } => Outcome::Replied(collect(room, *visits)),
+        Command::Commit { ticks } => Outcome::Replied(tick(room, ticks)),
+        Command::Collect { visits } => Outcome::Replied(collect(room, visits)),
         Command::Cycle => Outcome::Replied(cycle(room)),
-        Command::Crash { keeps } => Outcome::Crashed(*keeps),
+        Command::Crash { keeps } => Outcome::Crashed(keeps),
     }
 }
 

@@ -7,6 +7,7 @@ ghost use Rattle.console.specs.Refusals.{IfRefused, WantsMemory};
 ghost use Rattle.console.specs.Scripts.{PrintsLives, PrintsReports, answer_text, asked_by, asked_of, closed_text, life_text, lived_text, lives_text, opened_text, repeated_of, replies_text, report_text, stop_of};
 ghost use Rattle.console.specs.Crash.{choice_of};
 
+use crate::long_rows::command_on;
 use crate::replies::show;
 use crate::rounds::visits_needed;
 use crate::stop::Stop;
@@ -112,22 +113,22 @@ fn choice_of(keeps: Survivor) -> Choice
     }
 }
 
-// The step of a command, and how often it is taken. A row that is too long for any slot has none.
+// The step of a command, and how often it is taken. A put of a row that is too long (`command_on`) has none.
 fn repeated(geometry: Geometry, command: &Command) -> Repeated
     ensures { result ≡ repeated_of geometry command.now }
 {
-    match command {
+    match command_on(geometry, command) {
         Command::Step(asked) => Repeated {
-            step: Step::from(*asked),
+            step: Step::from(asked),
             times: 1,
         },
         Command::Commit { ticks } => Repeated {
             step: Step::Commit,
-            times: *ticks,
+            times: ticks,
         },
         Command::Collect { visits } => Repeated {
             step: Step::Collect,
-            times: visits_needed(geometry, *visits),
+            times: visits_needed(geometry, visits),
         },
         Command::LongRow | Command::Cycle | Command::Crash { .. } => Repeated {
             step: Step::Commit,
