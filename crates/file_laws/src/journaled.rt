@@ -12,6 +12,7 @@ ghost use Rattle.pmem.specs.Words.{Continues, LeavesOnly, image_of};
 ghost use Rattle.pmem_file.specs.Devices.{MayFind, state_of};
 ghost use Rattle.recovery.specs.Fresh.{IsFormatting};
 ghost use Rattle.file_laws.specs.Found.{OpensFirst, RunsSince};
+ghost use Rattle.file_laws.specs.Lives.{StaysFoundOver};
 ghost use Rattle.room.specs.Room.{Leads, Shows, StepsTo, device_of};
 ghost use Rattle.room.specs.Runs.{InEach};
 ghost use Rattle.room_logs.specs.Logs.{HasLog};
@@ -152,3 +153,11 @@ pub fn journaled_logs_stand<I: Images>(
 {
     found.found_image_was_left();
 }
+
+/// Of a room that had made this log since its device was opened: whatever stops its life from then on, and whatever stops each life
+/// after it, what is found is what lives of the machine leave, and has all that the log had covered.
+pub fn covered_logs_stay_found<I: Images>(room: &Room<JournaledPmem<I>>)
+    // A life may be stopped between two steps, within one, or while its device is opened or closed. The next one begins with an
+    // image that might be found of it.
+    ensures { (opened : Device) (log : List Step) → HasLog state_of opened room.now log → StaysFoundOver room.now opened log }
+{}

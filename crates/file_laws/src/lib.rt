@@ -10,7 +10,7 @@ mod journaled;
 mod law;
 
 pub use journaled::{
-    journaled_images_stand, journaled_images_stand_at_a_close,
+    covered_logs_stay_found, journaled_images_stand, journaled_images_stand_at_a_close,
     journaled_images_stand_at_an_opening, journaled_logs_stand, journaled_rooms_begin,
 };
 pub use law::{

@@ -18,6 +18,8 @@ use Rattle.session_laws.proofs.Transactions.{transactions-add_up}
 use Rattle.room_logs.proofs.Logs.{each-both, each-follows}
 use Rattle.database.specs.Histories.{Known, Does, GoesOnWith, HasBegun, HasCommitted, CommitsIn, IsBegunAt, write_steps}
 use Rattle.database.specs.declared.transaction.Committed.{Committed}
+use Rattle.file_laws.proofs.Lives.{stays-found}
+use Rattle.store.specs.Files.{StaysInFile}
 use Rattle.store.specs.Trying.{MeetsConflict}
 use Rattle.store.specs.Working.{Deeds, Works, EndsWork, laid_over, CoversCommit, KeepsWrites}
 use Rattle.store.specs.declared.store.Attempt.{Attempt}
@@ -102,3 +104,9 @@ keeps-writes opened kept s writes lent left None front begins does commits = tt
 pub ended-work : {W V J : Type 0} (opened : Device) (kept : Bool) (does : Deeds W V) (old new : W) (attempt : Attempt V (Committed J)) (key : Key)
     → attempt ≡ Attempt.Conflict key → EndsWork opened kept does old attempt new → MeetsConflict (Works does) (λ lent. lent.0) old key new
 ended-work {W} {V} {J} opened kept does old new attempt key is ends = subst (λ (a : Attempt V (Committed J)). EndsWork opened kept does old a new) is ends
+
+-- ---- the file
+
+pub stays-in : (opened : Device) (front : Option (List Step)) → StaysInFile opened front
+stays-in opened (Some log) = stays-found opened log
+stays-in opened None = tt

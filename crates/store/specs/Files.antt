@@ -1,14 +1,18 @@
 -- What a database is opened over.
-use Rattle.std.specs.Prelude.{◌≡◌, ◌≢◌, ◌⊎◌, None, Some}
+use Rattle.std.specs.Prelude.{◌≡◌, ◌≢◌, ◌⊎◌, List, Option, None, Some, ⊤}
 use Rattle.std.specs.declared.io.Error.{Error}
 use Rattle.base.specs.declared.fault.Fault.{Fault}
+use Rattle.base.specs.declared.step.Step.{Step}
 use Rattle.base.specs.Images.{opening_fault}
 use Rattle.base.specs.Layout.{Layout, opened_layout}
 use Rattle.database.specs.Opening.{IsOpeningRefusal}
+use Rattle.file_laws.specs.Lives.{StaysFound}
 use Rattle.log_area.specs.Rulings.{IsLaidOut, layout_damage}
 use Rattle.pmem.specs.Device.{Device}
 use Rattle.pmem_file.below.journal.specs.declared.journaled.JournaledImages.{JournaledImages}
+use Rattle.pmem_file.below.journal.specs.contracts.journaled.JournaledImages as images_type
 use Rattle.pmem_file.below.journal.specs.contracts.journaled.JournaledImagesImages.TheImpl as images
+use Rattle.pmem_file.specs.contracts.journaled.JournaledPmemPmem.TheImpl as pmem
 use Rattle.pmem_file.specs.contracts.storage.FileStorage as storage_type
 use Rattle.pmem_file.specs.contracts.storage.FileSync as sync_type
 use Rattle.pmem_file.specs.contracts.storage.FileStorageStorage.TheImpl as storage
@@ -82,3 +86,15 @@ abbrev pub ReportsFault : Layout → Refusal → Type 0
 ReportsFault layout (Refusal.Fault fault) = IsUnopened layout fault
 ReportsFault layout (Refusal.Lost cause) = HasLost cause
 ReportsFault layout _ = Unit {0}
+
+-- ---- what the file has later
+
+-- If the history is kept: whatever stops the store from now on, within any step, write or sync, and whatever stops each life after it, each image
+-- that may be found in the file is what lives of the machine leave, and has all that this history has covered (`StaysFound`).
+-- Excluded: a file that lacks an acknowledged commit, or a part of one, at some later opening; one to which a commit returns that an earlier
+-- stop left out.
+abbrev pub StaysInFile : Device → Option (List Step) → Type 0
+StaysInFile opened (Some log) =
+    let kept = images.ghosts storage_type.the_row sync_type.the_row storage.ghosts images.no_dict images.no_dict in
+    StaysFound kept (pmem.ghosts (images_type.the_row storage_type.the_row sync_type.the_row storage.ghosts) sync_type.the_row kept images.no_dict images.no_dict) opened log
+StaysInFile opened None = ⊤

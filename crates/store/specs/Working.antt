@@ -12,6 +12,7 @@ use Rattle.database.specs.Histories.{Known, Does, HasBegun, HasCommitted, OfEach
 use Rattle.database.specs.declared.transaction.Committed.{Committed}
 use Rattle.store.specs.declared.error.StoreError.{StoreError}
 use Rattle.store.specs.declared.store.Attempt.{Attempt}
+use Rattle.store.specs.Files.{StaysInFile}
 use Rattle.store.specs.Trying.{CallsOn, MeetsConflict, EndsTries}
 
 -- a transaction that is lent to a work: the number of its session, and what it knows of the history
@@ -47,8 +48,8 @@ KeepsWrites opened writes None log = ⊤
 KeepsWrites opened writes t None = ⊤
 
 -- The work returned this value, and the commit of its transaction this timestamp and this history. If the history is kept, the transaction began in
--- it. Then it goes on with just the writes of this try and their commit, which it covers.
--- Excluded: a write of an earlier try; a commit of another transaction.
+-- it. Then it goes on with just the writes of this try and their commit, which it covers. The file has that from now on, whatever stops.
+-- Excluded: a write of an earlier try; a commit of another transaction; one that a later opening doesn't find.
 pub record CommitsWork {W V : Type 0} (opened : Device) (kept : Bool) (does : Deeds W V) (old : W) (value : V) (timestamp : Option ℕ) (front : Option (List Step)) (new : W) : Type 0 where
   pub session : ℕ
   pub calls : CallsOn (Works does) (λ lent. lent.0) old (Ok value) session new
@@ -56,6 +57,7 @@ pub record CommitsWork {W V : Type 0} (opened : Device) (kept : Bool) (does : De
   pub reported : ReportsCommit session timestamp
   pub committed : HasCommitted opened session calls.left.1 timestamp front
   pub keeps : KeepsWrites opened calls.called.0 timestamp front
+  pub found : StaysInFile opened front
 
 -- how a try of a work ends, unless it fails with an error other than a conflict
 abbrev pub EndsWork : {W V J : Type 0} → Device → Bool → Deeds W V → W → Attempt V (Committed J) → W → Type 0

@@ -46,6 +46,7 @@ impl<R: Wait + Drop, J: Origin> Transaction<'_, R, J> {
     ghost use Rattle.database.specs.Committing.{ReportsCommit};
     ghost use Rattle.database.specs.Histories.{Does, HasCommitted, made_if};
     ghost use Rattle.store.specs.Answers.{Answers, Puts, MakesWrites, WritesIn, IsCommitRefusal};
+    ghost use Rattle.store.specs.Files.{StaysInFile};
 
     /// Writes the row under the key. It may be refused with `RowTooLong`, `TooManyKeys` or `Full`. It waits as a read does, and if no slot
     /// is free, it first looks for slots that nobody needs.
@@ -131,6 +132,10 @@ impl<R: Wait + Drop, J: Origin> Transaction<'_, R, J> {
         // As `Transaction::commit_known` of `database` says: of the session the history has the draw of this timestamp, stamps and its end
         // since the transaction's last step, and no other step.
         ensures history { IfOk result (λ done. HasCommitted J.opened self.entry.snapshot.reads.session self.entry.snapshot.reads.trace done.timestamp done.front) }
+
+        // Whatever stops the store from then on, and each life after it: what may be found in the file is what lives of the machine
+        // leave. The first of them made the steps of this history, and all that it has covered is there.
+        ensures found { IfOk result (λ done. StaysInFile J.opened done.front) }
     {
         let Transaction { snapshot, .. } = self;
         let Snapshot { reads, .. } = snapshot;

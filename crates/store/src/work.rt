@@ -38,7 +38,8 @@ impl<R: Wait + Drop, J: Origin> Store<R, J> {
         // The work was done once for each try, a thousand at most, each time in a transaction that was begun for it. Each try but the
         // last met a conflict, as for `transact`. In the last one it returned this value, and the commit this timestamp. If the
         // history is kept, that begin is in it. It goes on with just the writes that the work made in that try, and their commit
-        // under this timestamp. It covers that commit, and has no other one under that timestamp.
+        // under this timestamp. It covers that commit, and has no other one under that timestamp. Whatever stops the store from
+        // then on, and each life after it: what may be found in the file has it (`found` of `Transaction::commit_known`).
         ensures ok { IfOk result (λ done. WorksWithin J.opened J.kept W.does 1000 work done.0 done.1.timestamp done.1.front) }
 
         // After some such tries in vain, or none, no transaction was begun. Or the work returned this error, and the session's abort

@@ -7,7 +7,7 @@ use Rattle.std.proofs.lemmas.Bool.Decides.{nat_tests}
 use Rattle.std.proofs.lemmas.Option.{none-some}
 use Rattle.base.specs.declared.key.Key.{Key}
 use Rattle.base.specs.Keys.{key_eq, key_lt, is_rising, lookup_key, is_in_range}
-use Rattle.base.specs.Commits.{Commit, Writes, Tables, overlaid, laid, in_range, Lists, with_write}
+use Rattle.base.specs.Commits.{Commit, Writes, Tables, after, overlaid, laid, in_range, Lists, with_write}
 use Rattle.machine.specs.Machine.{State, writes_of, begun_of, seen_by}
 use Rattle.machine.specs.Replay.{merged, written, with_row, rows_among, written_for, scanned}
 use Rattle.base.proofs.Keys.{key_eq-true, key_eq-same, key_lt-trans, key_lt-swap}
@@ -175,3 +175,12 @@ scan-lists q n table lo hi = record {
 -- and there is no other such list
 pub one-listing : (rows others : List (Key × List ℕ)) (tables : Tables) → Lists rows tables → Lists others tables → rows ≡ others
 one-listing rows others tables a b = one-list rows others a.rising b.rising (λ key. a.same key ∙ sym (b.same key))
+
+-- ---- all tables
+
+-- the rows of the tables after a history, by rising key
+pub tables-listed : (history : List Commit) → Lists (rows_among (written [] history)) (after history)
+tables-listed history = record {
+  rising = rows-rising (written [] history) (written-rising [] history none-written);
+  same = λ key. rows-lookup (written [] history) key (written-rising [] history none-written) ∙ written-tables [] history key;
+}

@@ -17,6 +17,7 @@ returns-in-Ok-commit_known-clause-ok g c =
       keeps =
           keeps-writes g.J.Origin.opened g.J.Origin.kept lent.session worked.0 lent.trace left.trace c.in-Ok-commit_known.done.timestamp c.in-Ok-commit_known.done.front c.in_ok-transaction.ensures.begun worked.3
           (subst (λ (n : ℕ). HasCommitted g.J.Origin.opened n left.trace c.in-Ok-commit_known.done.timestamp c.in-Ok-commit_known.done.front) worked.2 c.in-Ok-commit_known.ensures.history);
+      found = c.in-Ok-commit_known.ensures.found;
     }
 
 pub returns-in-Conflict-clause-ok : goal.returns-in-Conflict-clause-ok
