@@ -54,18 +54,72 @@ impl Entry {
     }
 }
 
-/// A key with its entry, in as little memory as possible: opening makes one for each live slot, and pages of fresh memory cost
-/// more time than what is written there.
+/// The number that stands for no slot.
+const NO_SLOT: u32 = u32::MAX;
+
+ghost use Rattle.std.specs.Prelude.{◌≡◌, IsTrue};
+ghost use Rattle.index.specs.Keyed.{is_kept, slot_in, joined};
+
+// The number that stands for the slot, or for none.
+#[inline(always)]
+fn kept(slot: Option<SlotNo>) -> u32
+    requires { IsTrue (is_kept slot) }
+    ensures { slot_in result ≡ slot }
+{
+    match slot {
+        Some(slot) => slot as u32,
+        None => NO_SLOT,
+    }
+}
+
+// The slot that the number stands for.
+#[inline(always)]
+fn slot_of(number: u32) -> Option<SlotNo>
+    ensures { result ≡ slot_in number }
+{
+    if number < NO_SLOT {
+        Some(u64::from(number))
+    } else {
+        None
+    }
+}
+
+/// A number in two halves, so that what holds it needn't stand at a multiple of eight bytes.
+#[derive(Clone, Copy)]
+struct Halves {
+    low: u32,
+    high: u32,
+}
+
+impl Halves {
+    #[inline(always)]
+    fn of(number: u64) -> Halves
+        ensures { joined result ≡ number }
+    {
+        Halves {
+            low: (number % (1 << 32)) as u32,
+            high: (number / (1 << 32)) as u32,
+        }
+    }
+
+    #[inline(always)]
+    fn number(self) -> u64
+        ensures { result ≡ joined self }
+    {
+        u64::from(self.high) * (1 << 32) + u64::from(self.low)
+    }
+}
+
+/// A key with its entry, in as little memory as possible: there is one for each live slot. Opening makes them, and pages of fresh
+/// memory cost more time than what is written there.
 #[derive(Drop)]
 pub struct KeyedEntry {
-    key: u64,
-    newest: SlotNo,
-    drawn: SlotNo,
-    last: Ts,
+    key: Halves,
+    last: Halves,
+    newest: u32,
+    drawn: u32,
     table: u16,
-    has_newest: bool,
     ended: bool,
-    has_drawn: bool,
     has_last: bool,
 }
 
@@ -81,40 +135,39 @@ impl Model for KeyedEntry {
 }
 
 impl KeyedEntry {
-    ghost use Rattle.std.specs.Prelude.{◌≡◌, Some};
+    ghost use Rattle.std.specs.Prelude.{◌<◌, ◌^◌, ◌-◌, Some};
     ghost use Rattle.base.specs.Keys.{key_eq};
     ghost use Rattle.index.specs.Entries.{blank};
+    ghost use Rattle.index.specs.Keyed.{are_kept};
 
     /// The entry of a key whose covered row is in the slot, in a life that has drawn nothing for it.
     pub fn live(key: Key, slot: SlotNo) -> KeyedEntry
+        requires { slot < 2 ^ 32 - 1 }
         ensures { result ≡ (key, record blank { newest = Some slot }) }
     {
         KeyedEntry {
-            key: key.key,
-            newest: slot,
-            drawn: 0,
-            last: 0,
+            key: Halves::of(key.key),
+            last: Halves::of(0),
+            newest: slot as u32,
+            drawn: NO_SLOT,
             table: key.table,
-            has_newest: true,
             ended: false,
-            has_drawn: false,
             has_last: false,
         }
     }
 
     #[inline(always)]
     pub(crate) fn new(key: Key, entry: Entry) -> KeyedEntry
+        requires { IsTrue (are_kept entry) }
         ensures { result ≡ (key, entry) }
     {
         KeyedEntry {
-            key: key.key,
-            newest: entry.newest.unwrap_or(0),
-            drawn: entry.drawn.unwrap_or(0),
-            last: entry.last.unwrap_or(0),
+            key: Halves::of(key.key),
+            last: Halves::of(entry.last.unwrap_or(0)),
+            newest: kept(entry.newest),
+            drawn: kept(entry.drawn),
             table: key.table,
-            has_newest: entry.newest.is_some(),
             ended: entry.ended,
-            has_drawn: entry.drawn.is_some(),
             has_last: entry.last.is_some(),
         }
     }
@@ -125,30 +178,31 @@ impl KeyedEntry {
     {
         Key {
             table: self.table,
-            key: self.key,
+            key: self.key.number(),
         }
     }
 
     #[inline(always)]
     pub(crate) fn entry(&self) -> Entry
-        ensures { result ≡ self.now.1 }
+        ensures value { result ≡ self.now.1 }
+        ensures kept { IsTrue (are_kept result) }
     {
         Entry {
-            newest: self.has_newest.then_some(self.newest),
+            newest: slot_of(self.newest),
             ended: self.ended,
-            drawn: self.has_drawn.then_some(self.drawn),
-            last: self.has_last.then_some(self.last),
+            drawn: slot_of(self.drawn),
+            last: self.has_last.then_some(self.last.number()),
         }
     }
 
     // The version that a drawn commit wrote, and its timestamp.
     #[inline(always)]
     pub(crate) fn draw(&mut self, slot: Option<SlotNo>, ts: Ts)
+        requires { IsTrue (is_kept slot) }
         ensures { self.new ≡ (self.old.0, record self.old.1 { drawn = slot; last = Some ts }) }
     {
-        self.drawn = slot.unwrap_or(0);
-        self.has_drawn = slot.is_some();
-        self.last = ts;
+        self.drawn = kept(slot);
+        self.last = Halves::of(ts);
         self.has_last = true;
     }
 }

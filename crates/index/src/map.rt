@@ -98,6 +98,7 @@ impl Index {
     ghost use Rattle.base.specs.declared.key.Key.{Key as KeyValue};
     ghost use Rattle.base.specs.declared.fault.Fault.TheVariants.{OutOfMemory};
     ghost use Rattle.index.specs.Entries.{blank, entry_at, has_room, IsAt, ArePlaced, live_of, head_of, Sets, KeepsRoom, GainsRoom, LosesRoom, covered, forgotten};
+    ghost use Rattle.index.specs.Keyed.{is_kept, are_kept};
 
     /// An index without versions.
     pub fn new(alloc: Global) -> Index
@@ -171,7 +172,8 @@ impl Index {
     #[inline(always)]
     fn entry_in(&self, place: usize, key: Key) -> Entry
         requires { IsAt self.now place key }
-        ensures { result ≡ entry_at self.now key }
+        ensures value { result ≡ entry_at self.now key }
+        ensures kept { IsTrue (are_kept result) }
     {
         self.entries[place].entry()
     }
@@ -244,7 +246,8 @@ impl Index {
     // Sets the entry at the place of the key.
     #[inline(always)]
     fn set_in(&mut self, place: usize, key: Key, entry: Entry)
-        requires { IsAt self.old place key }
+        requires place { IsAt self.old place key }
+        requires kept { IsTrue (are_kept entry) }
         ensures sets { Sets self.old self.new key entry }
         ensures room { KeepsRoom self.old self.new }
         ensures place { IsAt self.new place key }
@@ -257,7 +260,8 @@ impl Index {
     // In the entry at the place of the key, the version that a drawn commit wrote, and its timestamp.
     #[inline(always)]
     fn draw_in(&mut self, place: usize, key: Key, slot: Option<SlotNo>, ts: Ts)
-        requires { IsAt self.old place key }
+        requires place { IsAt self.old place key }
+        requires kept { IsTrue (is_kept slot) }
         ensures sets { Sets self.old self.new key (record (entry_at self.old key) { drawn = slot; last = Some ts }) }
         ensures room { KeepsRoom self.old self.new }
     {
@@ -332,7 +336,10 @@ impl Index {
         slot: Option<SlotNo>,
         ts: Ts,
     ) -> Option<SlotNo>
-        requires { IsTrue (has_room self.old key) }
+        requires room { IsTrue (has_room self.old key) }
+
+        // There are never as many slots.
+        requires slot { IsTrue (is_kept slot) }
         ensures live { result ≡ live_of (entry_at self.old key) }
 
         // Every other entry is as it was. It takes no memory.
@@ -352,7 +359,8 @@ impl Index {
     /// Returns the slot of the version that was the newest before.
     #[inline(always)]
     pub fn cover(&mut self, key: Key, near: Option<usize>, slot: Option<SlotNo>) -> Option<SlotNo>
-        requires { IsTrue (has_room self.old key) }
+        requires room { IsTrue (has_room self.old key) }
+        requires slot { IsTrue (is_kept slot) }
         ensures newest { result ≡ (entry_at self.old key).newest }
 
         // Every other entry is as it was. It takes no memory.

@@ -1,6 +1,5 @@
-use Rattle.std.proofs.Common.{◌≡◌, ℕ, Some, None, cond, sym, ◌∙◌, ap, refl, arith, Bool, false}
+use Rattle.std.proofs.Common.{◌≡◌, ℕ, None, cond, sym, ◌∙◌, ap, Bool, false}
 use Rattle.std.specs.Prelude.{Option, is_some}
-use Rattle.base.specs.declared.key.Key.{Key}
 use Rattle.base.specs.Keys.{key_eq, lookup_key}
 use Rattle.base.proofs.KeyOrder.{looked-up}
 use Rattle.base.proofs.Keys.{key_eq-swap}

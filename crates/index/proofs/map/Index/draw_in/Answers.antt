@@ -22,7 +22,7 @@ drawn inside place key x y slot t at is made = grind (arith, get_or_from_slice_g
 pub invariant_of-self : goal.invariant_of-self
 invariant_of-self c =
     let entries = c.self.inside.entries.items in
-    let at = here c.args.self.now entries c.args.place c.args.key c.self.view_is c.requires in
+    let at = here c.args.self.now entries c.args.place c.args.key c.self.view_is c.requires.place in
     let is = drawn entries c.args.place c.args.key c.index_mut.result.now c.draw.new.self c.args.slot c.args.ts at c.index_mut.ensures.value c.draw.ensures in (
       subst (λ (y : Key × Entry). ArePlaced c.self.inside.places.entries (set entries c.args.place y)) is
           (set-placed c.self.inside.places.entries entries c.self.invariant.0 c.args.key c.args.place at (with_draw c.args.slot c.args.ts (entry_at entries c.args.key))),
@@ -32,7 +32,7 @@ invariant_of-self c =
 pub returns-clause-sets : goal.returns-clause-sets
 returns-clause-sets c =
     let entries = c.self.inside.entries.items in
-    let at = here c.args.self.now entries c.args.place c.args.key c.self.view_is c.requires in
+    let at = here c.args.self.now entries c.args.place c.args.key c.self.view_is c.requires.place in
     let changed = subst (λ (y : Key × Entry). Sets entries (set entries c.args.place y) c.args.key (with_draw c.args.slot c.args.ts (entry_at entries c.args.key)))
     (drawn entries c.args.place c.args.key c.index_mut.result.now c.draw.new.self c.args.slot c.args.ts at c.index_mut.ensures.value c.draw.ensures)
     (set-sets c.self.inside.places.entries entries c.self.invariant.0 c.args.key c.args.place at (with_draw c.args.slot c.args.ts (entry_at entries c.args.key))) in
@@ -41,7 +41,7 @@ returns-clause-sets c =
 pub returns-clause-room : goal.returns-clause-room
 returns-clause-room c =
     let entries = c.self.inside.entries.items in
-    let at = here c.args.self.now entries c.args.place c.args.key c.self.view_is c.requires in
+    let at = here c.args.self.now entries c.args.place c.args.key c.self.view_is c.requires.place in
     let changed = subst (λ (y : Key × Entry). KeepsRoom entries (set entries c.args.place y))
     (drawn entries c.args.place c.args.key c.index_mut.result.now c.draw.new.self c.args.slot c.args.ts at c.index_mut.ensures.value c.draw.ensures)
     (set-keeps c.self.inside.places.entries entries c.self.invariant.0 c.args.key c.args.place at (with_draw c.args.slot c.args.ts (entry_at entries c.args.key))) in

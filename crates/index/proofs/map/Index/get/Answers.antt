@@ -17,7 +17,7 @@ returns-then-place-len-clause-at c =
     let counted : c.len.result ≡ length entries = search rules in
     subst (λ (es : List (Key × Entry)). IsAt es c.args.place c.key.result) c.self.view_is
     (at-place c.self.inside.places.entries entries c.self.invariant.0 c.key.result c.args.place c.entry.result
-    (read-at entries c.len.result c.args.place c.index-found.result.now c.key.result c.entry.result counted c.if-place-len.true c.index-found.ensures c.key.ensures c.entry.ensures))
+    (read-at entries c.len.result c.args.place c.index-found.result.now c.key.result c.entry.result counted c.if-place-len.true c.index-found.ensures c.key.ensures c.entry.ensures.value))
 
 pub returns-then-place-len-clause-entry : goal.returns-then-place-len-clause-entry
 returns-then-place-len-clause-entry c =
@@ -25,7 +25,7 @@ returns-then-place-len-clause-entry c =
     let counted : c.len.result ≡ length entries = search rules in
     subst (λ (es : List (Key × Entry)). c.entry.result ≡ entry_at es c.key.result) c.self.view_is
     (sym (ap (λ (o : Option Entry). unwrap_or o blank) (is-at c.self.inside.places.entries entries c.self.invariant.0 c.key.result c.args.place c.entry.result
-    (read-at entries c.len.result c.args.place c.index-found.result.now c.key.result c.entry.result counted c.if-place-len.true c.index-found.ensures c.key.ensures c.entry.ensures))))
+    (read-at entries c.len.result c.args.place c.index-found.result.now c.key.result c.entry.result counted c.if-place-len.true c.index-found.ensures c.key.ensures c.entry.ensures.value))))
 
 pub returns-else-place-len-clause-none : goal.returns-else-place-len-clause-none
 returns-else-place-len-clause-none c =

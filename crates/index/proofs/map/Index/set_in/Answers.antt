@@ -27,13 +27,13 @@ index_mut-requires c = grind (arith, within, here)
 
 pub overflow_sub-self : goal.overflow_sub-self
 overflow_sub-self c =
-    (counted c.self.inside.live c.live_number-before.result (cond (is_some (live_of c.args.entry)) 1 0) c.args.self.now c.self.inside.entries.items c.args.place c.args.key c.entry_in.result c.args.entry (c.args.key, c.args.entry) c.self.view_is c.self.invariant.1 c.requires
-    c.entry_in.ensures refl c.live_number-before.ensures refl).0
+    (counted c.self.inside.live c.live_number-before.result (cond (is_some (live_of c.args.entry)) 1 0) c.args.self.now c.self.inside.entries.items c.args.place c.args.key c.entry_in.result c.args.entry (c.args.key, c.args.entry) c.self.view_is c.self.invariant.1 c.requires.place
+    c.entry_in.ensures.value refl c.live_number-before.ensures refl).0
 
 pub invariant_of-self : goal.invariant_of-self
 invariant_of-self c = (
   grind (arith, set-placed, here),
-  (counted c.self.inside.live c.live_number-before.result c.live_number.result c.args.self.now c.self.inside.entries.items c.args.place c.args.key c.entry_in.result c.args.entry c.new.result c.self.view_is c.self.invariant.1 c.requires c.entry_in.ensures c.new.ensures
+  (counted c.self.inside.live c.live_number-before.result c.live_number.result c.args.self.now c.self.inside.entries.items c.args.place c.args.key c.entry_in.result c.args.entry c.new.result c.self.view_is c.self.invariant.1 c.requires.place c.entry_in.ensures.value c.new.ensures
       c.live_number-before.ensures c.live_number.ensures).1,
 )
 

@@ -61,7 +61,7 @@ overflow_sub-self c =
     let entries = c.self.inside.entries.items in
     let at = here c.args.self.now entries c.args.place c.args.key c.self.view_is c.requires in
     (less c.self.inside.live c.live_number.result entries c.swap_remove-removed.new.self.items c.args.place c.swap_remove-removed.result c.entry.result c.self.invariant.1 (within entries c.args.place c.args.key at) c.swap_remove-removed.ensures.value c.swap_remove-removed.ensures.items
-    c.entry.ensures c.live_number.ensures).0
+    c.entry.ensures.value c.live_number.ensures).0
 
 pub invariant_of-self : goal.invariant_of-self
 invariant_of-self c =
@@ -73,7 +73,7 @@ invariant_of-self c =
       removed-placed places entries c.self.invariant.0 c.args.key c.args.place at c.key-moved.result c.index.result.now.1 last c.swap_remove-removed.new.self.items
           (left-is entries c.swap_remove-removed.new.self.items c.args.place c.swap_remove-removed.result (c.key-moved.result, c.index.result.now.1) last c.swap_remove-removed.ensures.items) c.give_place.new.places.entries
           (places-left places c.args.key c.key-moved.result c.args.place c.give_place.new.places.entries (c.self.invariant.0.once c.args.key c.args.place (entry_at entries c.args.key) at) c.give_place.ensures),
-      (less c.self.inside.live c.live_number.result entries c.swap_remove-removed.new.self.items c.args.place c.swap_remove-removed.result c.entry.result c.self.invariant.1 (within entries c.args.place c.args.key at) c.swap_remove-removed.ensures.value c.swap_remove-removed.ensures.items c.entry.ensures c.live_number.ensures).1,
+      (less c.self.inside.live c.live_number.result entries c.swap_remove-removed.new.self.items c.args.place c.swap_remove-removed.result c.entry.result c.self.invariant.1 (within entries c.args.place c.args.key at) c.swap_remove-removed.ensures.value c.swap_remove-removed.ensures.items c.entry.ensures.value c.live_number.ensures).1,
     )
 
 pub returns-clause-entries : goal.returns-clause-entries
