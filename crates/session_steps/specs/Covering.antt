@@ -9,6 +9,7 @@ use Rattle.txn.specs.declared.drawn.DrawnCommit.{DrawnCommit}
 use Rattle.txn.specs.declared.write.Write.{Write}
 use Rattle.index.specs.declared.entry.Entry.{Entry}
 use Rattle.index.specs.Entries.{entry_at, has_room, covered, KeepsRoom}
+use Rattle.index.specs.Keyed.{is_kept}
 use Rattle.state_invariant.specs.Kept.{Keeps}
 use Rattle.device_invariant.specs.Upholds.{Upholds}
 use Rattle.session_steps.specs.declared.sessions.Sessions.{Sessions}
@@ -31,6 +32,10 @@ covered_by_commits key entry commits = fold (λ entry d. covered_by_all key entr
 -- the key of each of these writes has room in the index
 abbrev pub HasRoom : List (Key × Entry) → List Write → Type 0
 HasRoom index writes = All (λ write. has_room index write.key ≡ true) writes
+
+-- the slot of each of these writes can be kept there
+abbrev pub AreKept : List Write → Type 0
+AreKept writes = All (λ write. is_kept write.slot ≡ true) writes
 
 -- the earlier index, with these writes covered
 pub record CoversWrites (writes : List Write) (old new : List (Key × Entry)) : Type 0 where

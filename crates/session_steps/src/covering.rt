@@ -5,7 +5,7 @@ ghost use Rattle.std.specs.Prelude.{◌≡◌, ◌<◌, ℕ, IsTrue, All};
 ghost use Rattle.txn.specs.DrawnCommits.{are_numbered};
 ghost use Rattle.dirty_table.specs.Touches.{has};
 ghost use Rattle.session_steps.specs.Shows.{has_drawn_by};
-ghost use Rattle.session_steps.specs.Covering.{HasRoom, CoversWrites, CoversCommits, MarksReplaced, committed_by};
+ghost use Rattle.session_steps.specs.Covering.{HasRoom, AreKept, CoversWrites, CoversCommits, MarksReplaced, committed_by};
 
 use crate::sessions::Sessions;
 use collector::ReplacedSlots;
@@ -16,7 +16,8 @@ use txn::{DrawnCommit, WriteSet};
 
 // Covers the versions of these writes, and marks the slots of those that they replace.
 fn cover_writes(index: &mut Index, replaced: &mut ReplacedSlots, writes: &WriteSet)
-    requires { HasRoom index.old writes.now }
+    requires room { HasRoom index.old writes.now }
+    requires kept { AreKept writes.now }
     ensures covers { CoversWrites writes.now index.old index.new }
     ensures marks { MarksReplaced replaced.old replaced.new index.old index.new }
 {
@@ -35,6 +36,7 @@ fn cover_commits(
     ruling: &Record,
 ) -> SessionSet
     requires room { All (λ d. HasRoom index.old d.writes) commits.now }
+    requires kept { All (λ d. AreKept d.writes) commits.now }
     requires numbered { IsTrue (are_numbered commits.now) }
     ensures index { CoversCommits (committed_by ruling.now commits.now) index.old index.new }
     ensures marks { MarksReplaced replaced.old replaced.new index.old index.new }

@@ -1,14 +1,22 @@
-use Rattle.std.proofs.Common.{◌∙◌, ◌++◌, [], sym, ap, subst, take, ℕ, List}
-use Rattle.std.specs.Prelude.{Option}
+use Rattle.std.proofs.Common.{◌≡◌, true, ◌∙◌, ◌++◌, [], sym, ap, subst, take, ℕ, List, rules}
+use Rattle.std.specs.Prelude.{Option, Some}
+use Rattle.std.proofs.lemmas.Option.{slice_get-get_or}
 use Rattle.std.specs.Option.{option_map_or}
 use Rattle.index.specs.declared.entry.Entry.{Entry}
 use Rattle.index.specs.Entries.{entry_at, live_of}
 use Rattle.txn.specs.declared.write.Write.{Write}
 use Rattle.txn.specs.WriteSets.{IsRising, write_of}
-use Rattle.session_steps.specs.Drawing.{own_lines, ended_lines, touched_lines}
-use Rattle.session_steps.proofs.draws.Notes.{note-next, live-drawn}
+use Rattle.session_steps.specs.Drawing.{own_lines, ended_lines, touched_lines, fits_touched}
+use Rattle.session_steps.proofs.draws.Notes.{note-next, live-drawn, kept-at}
 use Rattle.session_steps.proofs.TouchedLines.{touches-more}
 use Rattle.session_steps.proofs.touching.draw_writes.Goals as goal
+
+pub draw-ended-requires-clause-slot : goal.draw-ended-requires-clause-slot
+draw-ended-requires-clause-slot c =
+    let writes = c.as_slice-write-items.result.now in
+    kept-at c.args.geometry c.args.index.now writes c.loop-write.write-index c.write-item.result (search rules)
+    (subst (λ (ws : List Write). fits_touched c.args.geometry c.args.index.now ws ≡ true) (sym c.as_slice-write-items.ensures.slice) c.requires.fits)
+    (slice_get-get_or writes c.loop-write.write-index c.write-item.result c.loop-write-test.true ∙ ap (λ (w : Write). Some w) (sym c.write-item.is))
 
 pub loop-write-preserved : goal.loop-write-preserved
 loop-write-preserved c =

@@ -1,4 +1,4 @@
-use Rattle.std.proofs.Common.{◌≡◌, ℕ, true, List, subst, sym, rules}
+use Rattle.std.proofs.Common.{◌≡◌, ℕ, true, List, subst, sym, rules, get_or}
 use Rattle.std.specs.Prelude.{All, Option}
 use Rattle.std.proofs.Math.Bool.{Bool-set}
 use Rattle.std.proofs.Math.Logic.{∥∥₁_elim}
@@ -10,6 +10,7 @@ use Rattle.session_steps.specs.Shows.{has_drawn_by, plain_of, HoldsDrawn}
 use Rattle.txn.specs.declared.transaction.Transaction.{Transaction}
 use Rattle.session_steps.specs.Covering.{CoversCommits, HasCovered, committed_by, left_by}
 use Rattle.gap_list.proofs.Tidy.{well_formed-tidy}
+use Rattle.session_steps.proofs.draws.Notes.{kept-all}
 use Rattle.session_steps.proofs.covers.Batch.{has-covered, shows-covered}
 use Rattle.session_steps.proofs.sessions.Sessions.cover.Goals as goal
 
@@ -17,6 +18,13 @@ pub cover_commits-sessions-requires-clause-room : goal.cover_commits-sessions-re
 cover_commits-sessions-requires-clause-room c = λ k d lt k' d' lt'.
     ∥∥₁_elim c.requires (Bool-set _ _) (λ some.
     (subst (λ (ds : List DrawnCommit). All (HoldsDrawn c.args.self.now (plain_of c.args.self.now some.0)) ds) (sym c.as_slice-commits.ensures.commits) some.2.agrees.drawn k d lt).room k' d' lt')
+
+pub cover_commits-sessions-requires-clause-kept : goal.cover_commits-sessions-requires-clause-kept
+cover_commits-sessions-requires-clause-kept c = λ k d lt k' d' lt'.
+    let commit = get_or c.as_slice-commits.result.now k d in
+    ∥∥₁_elim c.requires (Bool-set _ _) (λ some.
+    kept-all (plain_of c.args.self.now some.0) commit.timestamp commit.writes some.2.keeps.numbers.layout
+    (subst (λ (ds : List DrawnCommit). All (HoldsDrawn c.args.self.now (plain_of c.args.self.now some.0)) ds) (sym c.as_slice-commits.ensures.commits) some.2.agrees.drawn k d lt).writes k' d' lt')
 
 pub snapshot-requires : goal.snapshot-requires
 snapshot-requires c = ∥∥₁_elim c.requires (Bool-set _ _) (λ some.
