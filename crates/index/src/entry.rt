@@ -123,6 +123,8 @@ pub struct KeyedEntry {
     has_last: bool,
 }
 
+const _: () = prove!(size_of::<KeyedEntry>() == 28);
+
 impl Model for KeyedEntry {
     ghost use Rattle.base.specs.declared.key.Key.{Key};
     ghost use Rattle.index.specs.declared.entry.Entry.{Entry};

@@ -4,7 +4,7 @@ use Rattle.std.specs.List.{filter_map}
 use Rattle.base.specs.declared.key.Key.{Key}
 use Rattle.base.specs.Keys.{lookup_key}
 use Rattle.base.specs.Images.{Image}
-use Rattle.recovery.specs.declared.slots.SlotReading.{SlotReading}
+use Rattle.recovery.specs.declared.slots.SlotContent.{SlotContent}
 use Rattle.recovery.specs.declared.slots.SlotContent.TheVariants.{Live}
 use Rattle.recovery.specs.declared.rows.LiveSlot.{LiveSlot}
 use Rattle.recovery.specs.declared.holding.Held.{Held}
@@ -18,8 +18,8 @@ placed n [] = []
 placed n (s ∷ live) = (s.key, n) ∷ placed (suc n) live
 
 -- the keys of the live versions that were read, in order of the slots
-abbrev pub held_keys : List SlotReading → List Key
-held_keys = filter_map (λ reading. held_key reading.found)
+abbrev pub held_keys : List SlotContent → List Key
+held_keys = filter_map held_key
 
 -- keys with their places in the list, from a number on
 abbrev pub numbered : ℕ → List Key → List (Key × ℕ)
@@ -32,8 +32,8 @@ pub record HavePlaces (live : List LiveSlot) (places : List (Key × ℕ)) : Type
   pub once : (s : LiveSlot) (place : ℕ) → slice_get live place ≡ Some s → lookup_key places s.key ≡ Some place
 
 -- each slot below a number in which a live version was found is one of these
-abbrev pub HasEach : List SlotReading → ℕ → List LiveSlot → Type 0
-HasEach readings n live = (slot : ℕ) (reading : SlotReading) (key : Key) → slot < n → slice_get readings slot ≡ Some reading → reading.found ≡ Live key
+abbrev pub HasEach : List SlotContent → ℕ → List LiveSlot → Type 0
+HasEach readings n live = (slot : ℕ) (reading : SlotContent) (key : Key) → slot < n → slice_get readings slot ≡ Some reading → reading ≡ Live key
     → (place : ℕ) × ((s : LiveSlot) × (slice_get live place ≡ Some s) × (s.slot ≡ slot) × (s.key ≡ key))
 
 -- none of the first `slots` slots is bad, these are free, and the others have these places
@@ -44,9 +44,9 @@ pub record AreHeld (image : Image) (slots : ℕ) (held : Held) : Type 0 where
   pub placed_so : HavePlaces held.live.items held.places.entries
 
 -- which slots are free and which are live, if none is bad, and whether each holds by itself what it should
-pub record AreFindings (readings : List SlotReading) (findings : Findings) : Type 0 where
+pub record AreFindings (readings : List SlotContent) (findings : Findings) : Type 0 where
   pub free : (image : Image) → AreReadings image readings → findings.free.items ≡ free_below image (length readings)
   pub live : (image : Image) → AreReadings image readings → findings.live.items ≡ live_below image (length readings)
   pub each : HasEach readings (length readings) findings.live.items
   pub keys : map (λ s. s.key) findings.live.items ≡ held_keys readings
-  pub are_fit : IsTrue findings.are_fit ↔ All (λ reading. is_unfit reading.found ≡ false) readings
+  pub are_fit : IsTrue findings.are_fit ↔ All (λ reading. is_unfit reading ≡ false) readings

@@ -8,3 +8,5 @@ pub mod Fresh
 pub mod Words
 pub mod ImageDevice
 pub mod Read
+pub mod Readings
+pub mod Kept

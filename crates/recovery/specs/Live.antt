@@ -1,12 +1,12 @@
 -- The live slots of an image.
 use Rattle.std.specs.Prelude.{ℕ, List, [], ◌∷◌, flat_map, if◌then◌else◌}
 use Rattle.std.specs.List.{range_with_len}
-use Rattle.base.specs.Images.{Image, ruling, key_of, begin_of, is_shown}
+use Rattle.base.specs.Images.{Image, ruling, key_of, is_shown}
 use Rattle.recovery.specs.declared.rows.LiveSlot.{LiveSlot}
 
--- a slot, with its key and its begin
+-- a slot, with its key
 abbrev pub live_at : Image → ℕ → LiveSlot
-live_at image slot = record { key = key_of image slot; slot = slot; begin = begin_of image slot }
+live_at image slot = record { key = key_of image slot; slot = slot }
 
 -- the live ones below a number, in order
 unfoldable pub live_below : Image → ℕ → List LiveSlot

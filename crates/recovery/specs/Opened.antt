@@ -45,10 +45,10 @@ pub record IsExamined (image : Image) (layout : Layout) (r : Record) (gaps : Opt
 unfoldable pub Examined : Image → Layout → Record → Option (List Gap) → List Bool → List LiveSlot → Type 0
 Examined image layout r gaps free live = IsExamined image layout r gaps free live
 
--- what was examined of an image that opens, with the places of its keys and what a sweep stores in
-pub record HasExamined (image : Image) (found : ExaminedValue) : Type 0 where
-  pub examined : Examined image found.geometry found.ruling found.gaps found.free.items found.live.items
-  pub placed : HavePlaces found.live.items found.places.entries
+-- what was examined of an image that opens, with these live slots, the places of its keys and what a sweep stores in
+pub record HasExamined (image : Image) (found : ExaminedValue) (live : List LiveSlot) : Type 0 where
+  pub examined : Examined image found.geometry found.ruling found.gaps found.free.items live
+  pub placed : HavePlaces live found.places.entries
   pub hits : AreHits image found.geometry found.gaps found.hits.items
 
 -- which slots are free when the image is opened: those that aren't live

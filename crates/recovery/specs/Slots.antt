@@ -11,9 +11,8 @@ use Rattle.base.specs.Keys.{key_eq}
 use Rattle.base.specs.Layout.{Layout}
 use Rattle.base.specs.Records.{Record}
 use Rattle.base.specs.Search.{first_below}
-use Rattle.base.specs.Images.{Image, layout_of, ruling, begin_of, end_of, key_of, is_ahead, is_shown, is_misfit, is_bad_slot}
+use Rattle.base.specs.Images.{Image, layout_of, ruling, key_of, is_ahead, is_shown, is_misfit, is_bad_slot}
 use Rattle.recovery.specs.declared.slots.SlotContent.{SlotContent}
-use Rattle.recovery.specs.declared.slots.SlotReading.{SlotReading}
 use Rattle.recovery.specs.declared.slots.SlotContent.TheVariants.{Bad, Live, Free}
 
 -- the image has this layout, and this record rules it
@@ -44,13 +43,9 @@ held_key (Live key) = Some key
 held_key Free = None
 held_key Bad = None
 
--- what one reading of a slot gives
-unfoldable pub reading_in : Image → ℕ → SlotReading
-reading_in image slot = record { begin = begin_of image slot; end = end_of image slot; found = found_in image slot }
-
 -- what is read of each slot below a number, in order
-unfoldable pub readings_below : Image → ℕ → List SlotReading
-readings_below image n = map (reading_in image) (range_with_len 0 n)
+unfoldable pub readings_below : Image → ℕ → List SlotContent
+readings_below image n = map (found_in image) (range_with_len 0 n)
 
 -- free when the image is opened: not live
 unfoldable pub is_free : Image → ℕ → Bool
@@ -69,7 +64,7 @@ unfoldable pub bad_below : Image → ℕ → Option ℕ
 bad_below image n = first_below n (is_bad_slot (ruling image) image)
 
 -- these are the readings of as many slots of the image, of which none is bad
-pub record AreReadings (image : Image) (readings : List SlotReading) : Type 0 where
+pub record AreReadings (image : Image) (readings : List SlotContent) : Type 0 where
   pub all : readings ≡ readings_below image (length readings)
   pub good : bad_below image (length readings) ≡ None
 

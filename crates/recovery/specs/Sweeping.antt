@@ -11,19 +11,18 @@ use Rattle.pmem.specs.Device.{Device}
 use Rattle.pmem.specs.Trace.{Operation, fence_op}
 use Rattle.pmem.specs.Words.{value_of}
 use Rattle.version_slot.specs.Operations.{sweep_operations}
-use Rattle.recovery.specs.declared.slots.SlotReading.{SlotReading}
 
 -- the timestamp is in a gap with which opening goes on after the record
 abbrev pub lies : Record → ℕ → Bool
 lies r t = is_in (opened_gaps r) t
 
--- the begin or the end that was read is in a gap
-abbrev pub is_hit_by : Record → SlotReading → Bool
-is_hit_by r reading = lies r reading.begin || lies r reading.end
+-- the begin or the end of the slot is in a gap
+abbrev pub hits : Image → ℕ → Bool
+hits image slot = lies_in_gap image 0 slot || lies_in_gap image 1 slot
 
 -- the slots below a number, each with a begin or an end in a gap or not
 unfoldable pub hits_below : Image → ℕ → List Bool
-hits_below image n = map (λ slot. lies_in_gap image 0 slot || lies_in_gap image 1 slot) (range_with_len 0 n)
+hits_below image n = map (hits image) (range_with_len 0 n)
 
 -- these are all slots that are hit, if there are more gaps than a record holds
 unfoldable pub AreHits : Image → Layout → Option (List Gap) → List Bool → Type 0

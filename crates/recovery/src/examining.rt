@@ -2,17 +2,17 @@
 //! refused, the image is as it was. What is wrong with the log comes first, since the log says how the slots are to be
 //! read.
 
-ghost use Rattle.std.specs.Prelude.{◌≡◌, ◌+◌, ◌*◌, ◌^◌, ◌<◌, ◌≤◌, ◌||◌, nat_le, None, map, IfOk, IfErr};
+ghost use Rattle.std.specs.Prelude.{◌≡◌, ◌+◌, ◌*◌, ◌^◌, ◌<◌, ◌≤◌, ◌||◌, nat_le, None, IfOk, IfErr};
 ghost use Rattle.pmem.specs.Words.{image_of};
-ghost use Rattle.recovery.specs.Gaps.{MayRule, few_gaps};
-ghost use Rattle.recovery.specs.Held.{HavePlaces};
-ghost use Rattle.recovery.specs.Sweeping.{is_hit_by, AreHits};
-ghost use Rattle.recovery.specs.Opened.{Examined as IsExaminedAs, HasExamined, Refuses};
+ghost use Rattle.base.specs.Images.{IsRuledBy};
+ghost use Rattle.recovery.specs.Gaps.{few_gaps};
+ghost use Rattle.recovery.specs.Sweeping.{hits_below};
+ghost use Rattle.recovery.specs.Opened.{HasExamined, Refuses};
 ghost use Rattle.recovery.specs.Read.{AreOf, IsLogRefusal, ReportsLogFault};
 
 use crate::gaps::opened_gaps;
 use crate::holding::{Held, held_slots};
-use crate::rows::LiveSlot;
+use crate::rows::KeptSlot;
 use crate::slots::{SlotReading, read_slots};
 use crate::sweeping::hit_slots;
 use base::fault::Fault;
@@ -34,11 +34,18 @@ pub struct Examined {
     pub gaps: Option<Gaps>,
     /// Whether each slot is free.
     pub free: Vec<bool>,
-    pub live: Vec<LiveSlot>,
-    /// For each key, the place of its slot in `live`.
+    /// For each key, the place of its slot among those that aren't free.
     pub places: BTreeMap<Key, u32, Global>,
     /// Whether the begin or the end of each slot is in a gap; empty if there are at most eight.
     pub hits: Vec<bool>,
+}
+
+/// An image that opens.
+#[derive(Drop)]
+pub struct Found {
+    pub examined: Examined,
+    /// The slots that aren't free, in their order.
+    pub live: Vec<KeptSlot>,
 }
 
 /// What was read of an image whose log has no fault: its layout, the record that rules it, and each slot once.
@@ -78,13 +85,17 @@ pub fn read<R: Threads + Sync, D: Pmem + Sync>(
 
 impl Readings {
     ghost use Rattle.std.specs.Prelude.{◌≡◌, IfOk, IfErr};
-    ghost use Rattle.base.specs.Images.{Image};
 
     /// Tests, in order, all that opening needs of the slots that were read, and returns what opening gets from them.
-    pub fn examine<R: Threads + Sync>(&self, rt: &R, alloc: Global) -> Result<Examined, Fault>
-        requires read { (image : Image) × AreOf image self.now }
-        ensures ok { IfOk result (λ found. (image : Image) → AreOf image self.now → HasExamined image found) }
-        ensures fault { IfErr result (λ fault. (image : Image) → AreOf image self.now → Refuses image fault) }
+    pub fn examine<R: Threads + Sync, D: Pmem>(
+        &self,
+        rt: &R,
+        alloc: Global,
+        device: &D,
+    ) -> Result<Found, Fault>
+        requires read { AreOf (image_of (D.state device.now)) self.now }
+        ensures ok { IfOk result (λ found. HasExamined (image_of (D.state device.now)) found.examined found.live.items) }
+        ensures fault { IfErr result (Refuses (image_of (D.state device.now))) }
     {
         let held = match held_slots(rt, alloc, self.geometry, self.slots.as_slice()) {
             Ok(held) => held,
@@ -93,8 +104,9 @@ impl Readings {
         if is_near_limit(self.geometry, self.ruling) {
             return Err(Fault::TimestampsOut);
         }
-        match gather(alloc, self, held) {
-            Ok(examined) => Ok(examined),
+        let Held { free, live, places } = held;
+        match gather(alloc, device, self, free, places) {
+            Ok(examined) => Ok(Found { examined, live }),
             Err(_) => Err(Fault::OutOfMemory),
         }
     }
@@ -105,11 +117,10 @@ pub fn examine<R: Threads + Sync, D: Pmem + Sync>(
     rt: &R,
     alloc: Global,
     device: &D,
-) -> Result<Examined, Fault>
-    // The image has no fault that opening reports, and this is what opening needs of it.
-    ensures ok { IfOk result (λ found. IsExaminedAs (image_of (D.state device.now)) found.geometry found.ruling found.gaps found.free.items found.live.items) }
-    ensures places { IfOk result (λ found. HavePlaces found.live.items found.places.entries) }
-    ensures hits { IfOk result (λ found. AreHits (image_of (D.state device.now)) found.geometry found.gaps found.hits.items) }
+) -> Result<Found, Fault>
+    // The image has no fault that opening reports, and this is what opening needs of it: the layout, the record that rules, the gaps,
+    // the free slots and the live ones, the place of each key among these, and the slots that a sweep stores in.
+    ensures ok { IfOk result (λ found. HasExamined (image_of (D.state device.now)) found.examined found.live.items) }
 
     // At Err it is the first fault that opening reports, or OutOfMemory.
     ensures fault { IfErr result (Refuses (image_of (D.state device.now))) }
@@ -121,33 +132,38 @@ pub fn examine<R: Threads + Sync, D: Pmem + Sync>(
         Ok(readings) => readings,
         Err(fault) => return Err(fault),
     };
-    match readings.examine(rt, alloc) {
+    match readings.examine(rt, alloc, device) {
         Ok(found) => Ok(found),
         Err(fault) => Err(fault),
     }
 }
 
-// What the readings give to opening when their slots hold this.
-fn gather(alloc: Global, readings: &Readings, held: Held) -> Result<Examined, AllocError>
-    requires { MayRule readings.now.ruling }
+// What the readings give to opening when these slots are free and the keys of the others have these places.
+fn gather<D: Pmem>(
+    alloc: Global,
+    device: &D,
+    readings: &Readings,
+    free: Vec<bool>,
+    places: BTreeMap<Key, u32, Global>,
+) -> Result<Examined, AllocError>
+    requires { IsRuledBy readings.now.geometry readings.now.ruling (image_of (D.state device.now)) }
     ensures layout { IfOk result (λ examined. examined.geometry ≡ readings.now.geometry) }
     ensures rules { IfOk result (λ examined. examined.ruling ≡ readings.now.ruling) }
     ensures gaps { IfOk result (λ examined. examined.gaps ≡ few_gaps readings.now.ruling) }
-    ensures held { IfOk result (λ examined. record { free = examined.free; live = examined.live; places = examined.places } ≡ held) }
-    ensures hits { IfOk result (λ examined. examined.gaps ≡ None → examined.hits.items ≡ map (is_hit_by readings.now.ruling) readings.now.slots.items) }
+    ensures free { IfOk result (λ examined. examined.free ≡ free) }
+    ensures places { IfOk result (λ examined. examined.places ≡ places) }
+    ensures hits { IfOk result (λ examined. examined.gaps ≡ None → examined.hits.items ≡ hits_below (image_of (D.state device.now)) readings.now.geometry.slots) }
 {
     let gaps = opened_gaps(readings.ruling);
     let hits = match gaps {
         Some(_) => Vec::new(alloc),
-        None => hit_slots(alloc, readings.ruling, readings.slots.as_slice())?,
+        None => hit_slots(alloc, device, readings.geometry, readings.ruling)?,
     };
-    let Held { free, live, places } = held;
     Ok(Examined {
         geometry: readings.geometry,
         ruling: readings.ruling,
         gaps,
         free,
-        live,
         places,
         hits,
     })

@@ -8,7 +8,7 @@ ghost use Rattle.base.specs.Images.{Image};
 ghost use Rattle.recovery.specs.Slots.{AreReadings, HasKeys, IsVisitFault, IsSlotsFault, found_in, readings_below, free_below, bad_below, held_key, is_bad, is_unfit, key_cmp};
 ghost use Rattle.recovery.specs.Held.{AreHeld, AreFindings, held_keys, numbered};
 
-use crate::rows::{LiveSlot, live_slots};
+use crate::rows::{KeptSlot, live_slots};
 use crate::slots::{SlotContent, SlotReading};
 use base::fault::Fault;
 use base::geometry::Geometry;
@@ -24,7 +24,7 @@ pub struct Held {
     /// Whether each slot is free.
     pub free: Vec<bool>,
     /// The others, in their order.
-    pub live: Vec<LiveSlot>,
+    pub live: Vec<KeptSlot>,
     /// For each key, the place of its slot in `live`.
     pub places: BTreeMap<Key, u32, Global>,
 }
@@ -72,7 +72,7 @@ struct Findings {
     // Whether each slot is free.
     free: Vec<bool>,
     // Those that hold a live version, in their order.
-    live: Vec<LiveSlot>,
+    live: Vec<KeptSlot>,
     // Whether each slot holds by itself what it should.
     are_fit: bool,
 }
@@ -105,6 +105,7 @@ fn side_by_side<R: Threads + Sync>(
         ensures { IfOk result (λ places. IsFromIterResult key_cmp (numbered 0 (held_keys readings.entry.now)) places) }
     { places_of(alloc, readings) };
     let listed = move || -> Result<Findings, AllocError>
+        requires { length readings.now < 2 ^ 32 }
         ensures { IfOk result (AreFindings readings.entry.now) }
     { findings_of(alloc, readings) };
     let (findings, places) = join(rt, listed, keyed);
@@ -112,6 +113,7 @@ fn side_by_side<R: Threads + Sync>(
 }
 
 fn findings_of(alloc: Global, readings: &[SlotReading]) -> Result<Findings, AllocError>
+    requires { length readings.now < 2 ^ 32 }
     ensures { IfOk result (AreFindings readings.now) }
 {
     let free = free_slots(alloc, readings)?;
@@ -135,8 +137,8 @@ fn places_of(
         .iter()
         .filter_map(
             |reading: &SlotReading| -> Option<Key>
-                ensures { result ≡ held_key reading.now.found }
-            { reading.found.key() },
+                ensures { result ≡ held_key reading.now }
+            { reading.key() },
         )
         .zip(0..readings.len() as u32)
         .collect(alloc)
@@ -144,9 +146,9 @@ fn places_of(
 
 // Whether each slot holds by itself what it should.
 fn are_fit(readings: &[SlotReading]) -> bool
-    ensures { IsTrue result ↔ All (λ reading. is_unfit reading.found ≡ false) readings.now }
+    ensures { IsTrue result ↔ All (λ reading. is_unfit reading ≡ false) readings.now }
 {
-    readings.iter().all(|reading| !reading.found.is_unfit())
+    readings.iter().all(|reading| !reading.is_unfit())
 }
 
 // Which slots are free, if none is bad.
@@ -155,7 +157,7 @@ fn free_slots(alloc: Global, readings: &[SlotReading]) -> Result<Vec<bool>, Allo
 {
     let mut free = Vec::with_capacity(alloc, readings.len())?;
     for slot in 0..readings.len() {
-        free.push(!readings[slot].found.is_live())?;
+        free.push(!readings[slot].is_live())?;
     }
     Ok(free)
 }
@@ -168,7 +170,8 @@ fn find_bad(alloc: Global, geometry: Geometry, readings: &[SlotReading]) -> Resu
 {
     let mut seen = BTreeSet::new(alloc);
     for slot in 0..geometry.slots() {
-        match visit(geometry, slot, &readings[slot as usize].found, &mut seen) {
+        let found = readings[slot as usize].content();
+        match visit(geometry, slot, &found, &mut seen) {
             Ok(()) => {}
             Err(fault) => return Err(fault),
         }

@@ -17,9 +17,9 @@ mod slots;
 mod sweeping;
 mod updating;
 
-pub use examining::{Examined, Readings, examine, read};
+pub use examining::{Examined, Found, Readings, examine, read};
 pub use formatting::{format, format_new};
 pub use opening::{Opened, OpenedImage, open, open_device};
 pub use reading::{ImageContents, read_image};
-pub use rows::LiveSlot;
+pub use rows::{KeptSlot, LiveSlot};
 pub use slots::{SlotContent, SlotReading};

@@ -15,9 +15,10 @@ ghost use Rattle.recovery.specs.Held.{HavePlaces};
 ghost use Rattle.recovery.specs.Sweeping.{AreHits};
 ghost use Rattle.recovery.specs.Opened.{Examined as IsExaminedAs, HasOpened, IsCutShort, IsRefusal, IsUpdatedFirst, gap_operations, today_operations};
 ghost use Rattle.recovery.specs.Read.{ReportsLogFault};
+ghost use Rattle.recovery.specs.declared.rows.LiveSlot.{LiveSlot};
 
-use crate::examining::{Examined, examine};
-use crate::rows::LiveSlot;
+use crate::examining::{Examined, Found, examine};
+use crate::rows::KeptSlot;
 use crate::sweeping::sweep;
 use crate::updating::update;
 use base::fault::Fault;
@@ -43,7 +44,7 @@ pub struct Opened<D: Pmem> {
     /// Whether each slot is free.
     pub free: Vec<bool>,
     /// The slots that aren't free, in their order.
-    pub live: Vec<LiveSlot>,
+    pub live: Vec<KeptSlot>,
 }
 
 /// Opens a device at rest, and returns it if opening is refused. More than eight gaps are swept before the record is
@@ -57,7 +58,7 @@ pub fn open<R: Threads + Sync, D: Pmem + Drop + Send + Sync>(
 
     // The image has no fault that opening reports. The record is the next one: persisted is one below the old dirty timestamp,
     // dirty a window above the old dirty timestamp. It has the joined gaps, or none if there are more than eight. The next
-    // timestamp is the old dirty one. The slots that aren't live are free, and of each live one its key and its begin are
+    // timestamp is the old dirty one. The slots that aren't live are free, and of each live one its key is
     // returned. That record alone rules. The superblock is settled as it was, and so is each slot, except that if gaps are swept,
     // each begin and end that is in a gap is settled at 0. As many stores, flushes and fences were made as `opening_counts` says.
     // Without a sweep these are 32, 5 and 2. With one there are as many more stores and flushes as words and lines are swept, and
@@ -86,23 +87,24 @@ pub fn open<R: Threads + Sync, D: Pmem + Drop + Send + Sync>(
 {
     let mut device = device;
     match open_device(rt, alloc, &mut device) {
-        Ok(
-            OpenedImage {
+        Ok(opened) => {
+            let (life, live) = opened;
+            let OpenedImage {
+                geometry,
+                ruling,
+                next,
+                free,
+                places: _,
+            } = life;
+            Ok(Opened {
+                device,
                 geometry,
                 ruling,
                 next,
                 free,
                 live,
-                places: _,
-            },
-        ) => Ok(Opened {
-            device,
-            geometry,
-            ruling,
-            next,
-            free,
-            live,
-        }),
+            })
+        }
         Err(fault) => Err((fault, device)),
     }
 }
@@ -114,22 +116,21 @@ pub struct OpenedImage {
     pub ruling: Record,
     pub next: u64,
     pub free: Vec<bool>,
-    pub live: Vec<LiveSlot>,
-    /// For each key, the place of its slot in `live`.
+    /// For each key, the place of its slot among those that aren't free.
     pub places: BTreeMap<Key, u32, Global>,
 }
 
-/// The same, for a device that stays where it is.
+/// The same, for a device that stays where it is, and the slots that aren't free, in their order.
 pub fn open_device<R: Threads + Sync, D: Pmem + Sync>(
     rt: &R,
     alloc: Global,
     device: &mut D,
-) -> Result<OpenedImage, Fault>
+) -> Result<(OpenedImage, Vec<KeptSlot>), Fault>
     requires { IsAtRest (D.state device.old) }
 
     // As for `open`, and each key of a live slot has this place.
-    ensures ok { IfOk result (λ life. HasOpened (D.state device.old) (D.state device.new) life.geometry life.ruling life.next life.free.items life.live.items) }
-    ensures places { IfOk result (λ life. HavePlaces life.live.items life.places.entries) }
+    ensures ok { IfOk result (λ life. HasOpened (D.state device.old) (D.state device.new) life.0.geometry life.0.ruling life.0.next life.0.free.items life.1.items) }
+    ensures places { IfOk result (λ life. HavePlaces life.1.items life.0.places.entries) }
     ensures fault { IfErr result (IsRefusal (opening_fault (image_of (D.state device.old))) (D.state device.old) (D.state device.new)) }
     ensures log { IfErr result (ReportsLogFault (image_of (D.state device.old))) }
     ensures images { (history drawn : List Commit) (next : ℕ) → Stands (image_of (D.state device.old)) history drawn next
@@ -140,18 +141,23 @@ pub fn open_device<R: Threads + Sync, D: Pmem + Sync>(
         Ok(found) => found,
         Err(fault) => return Err(fault),
     };
-    found.open(device)
+    let Found { examined, live } = found;
+    match examined.open(device) {
+        Ok(life) => Ok((life, live)),
+        Err(fault) => Err(fault),
+    }
 }
 
 impl Examined {
     /// Opens the device that was examined. It takes no memory: it fails if an operation fails, and only then.
     pub fn open<D: Pmem>(self, device: &mut D) -> Result<OpenedImage, Fault>
         requires at_rest { IsAtRest (D.state device.old) }
-        requires examined { IsExaminedAs (image_of (D.state device.old)) self.geometry self.ruling self.gaps self.free.items self.live.items }
+        requires examined { (live : List LiveSlot) × IsExaminedAs (image_of (D.state device.old)) self.geometry self.ruling self.gaps self.free.items live }
         requires hits { AreHits (image_of (D.state device.old)) self.geometry self.gaps self.hits.items }
 
-        // As for `open`.
-        ensures ok { IfOk result (λ life. HasOpened (D.state device.old) (D.state device.new) life.geometry life.ruling life.next life.free.items life.live.items) }
+        // As for `open`, with the live slots that were found.
+        ensures ok { IfOk result (λ life. (live : List LiveSlot) → IsExaminedAs (image_of (D.state device.old)) self.geometry self.ruling self.gaps self.free.items live
+            → HasOpened (D.state device.old) (D.state device.new) life.geometry life.ruling life.next life.free.items live) }
 
         // Each key of a live slot has this place.
         ensures places { IfOk result (λ life. life.places ≡ self.places) }
@@ -176,14 +182,13 @@ impl Examined {
 
     // The same, for an image of the current version.
     fn open_today<D: Pmem>(self, device: &mut D) -> Result<OpenedImage, Fault>
-        requires examined { IsExaminedAs (image_of (D.state device.old)) self.geometry self.ruling self.gaps self.free.items self.live.items }
+        requires examined { (live : List LiveSlot) × IsExaminedAs (image_of (D.state device.old)) self.geometry self.ruling self.gaps self.free.items live }
         requires hits { AreHits (image_of (D.state device.old)) self.geometry self.gaps self.hits.items }
         ensures ok { IfOk result (λ life. life ≡ record {
           geometry = self.geometry;
           ruling = opening_record self.geometry self.ruling (gaps_kept (opened_gaps self.ruling));
           next = self.ruling.dirty;
           free = self.free;
-          live = self.live;
           places = self.places;
         }) }
         ensures places { IfOk result (λ life. life.places ≡ self.places) }
@@ -230,7 +235,7 @@ fn keep_gaps<D: Pmem>(
 }
 
 fn begun(found: Examined, target: Record) -> OpenedImage
-    ensures { result ≡ record { geometry = found.geometry; ruling = target; next = found.ruling.dirty; free = found.free; live = found.live; places = found.places } }
+    ensures { result ≡ record { geometry = found.geometry; ruling = target; next = found.ruling.dirty; free = found.free; places = found.places } }
 {
     let next = found.ruling.dirty();
     let Examined {
@@ -238,7 +243,6 @@ fn begun(found: Examined, target: Record) -> OpenedImage
         ruling: _,
         gaps: _,
         free,
-        live,
         places,
         hits: _,
     } = found;
@@ -247,7 +251,6 @@ fn begun(found: Examined, target: Record) -> OpenedImage
         ruling: target,
         next,
         free,
-        live,
         places,
     }
 }

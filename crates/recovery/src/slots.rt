@@ -5,8 +5,8 @@ ghost use Rattle.std.specs.Prelude.{◌≡◌, ◌+◌, ◌&&◌, ◌<◌, ◌�
 ghost use Rattle.base.specs.Layout.{total_words};
 ghost use Rattle.base.specs.Records.{is_committed};
 ghost use Rattle.pmem.specs.Words.{image_of};
-ghost use Rattle.recovery.specs.Slots.{IsUnder, reading_in, readings_below};
-ghost use Rattle.recovery.specs.declared.slots.SlotReading.{SlotReading as SlotReadingValue};
+ghost use Rattle.recovery.specs.Slots.{IsUnder, found_in, readings_below};
+ghost use Rattle.recovery.specs.declared.slots.SlotContent.{SlotContent as SlotContentValue};
 
 use base::Ts;
 use base::geometry::Geometry;
@@ -15,6 +15,7 @@ use log_area::Record;
 use pmem::Pmem;
 use rayon::slice::par_chunks_mut_for_each;
 use std::alloc::{AllocError, Global};
+use std::marker::Model;
 use std::thread::Threads;
 
 /// What a slot holds by itself.
@@ -25,41 +26,103 @@ pub enum SlotContent {
     Bad,
 }
 
-impl SlotContent {
-    ghost use Rattle.std.specs.Prelude.{◌≡◌};
+// Which of them a slot holds.
+#[derive(Clone, Copy)]
+enum Kind {
+    Free,
+    Live,
+    Bad,
+}
+
+/// What one reading of a slot gives, in as little memory as possible: there is one for each slot.
+#[derive(Drop)]
+pub struct SlotReading {
+    // Those of the key, if the slot is live.
+    key: u64,
+    table: u16,
+    kind: Kind,
+}
+
+const _: () = prove!(size_of::<SlotReading>() == 16);
+
+impl Model for SlotReading {
+    ghost use Rattle.recovery.specs.declared.slots.SlotContent.{SlotContent};
+
+    ghost Value = { SlotContent };
+
+    ghost use Rattle.recovery.specs.Readings.{content_in};
+
+    ghost view = { content_in };
+}
+
+impl SlotReading {
     ghost use Rattle.recovery.specs.Slots.{is_held, is_unfit, held_key};
+    ghost use Rattle.recovery.specs.Readings.{content_of, no_key};
+
+    #[inline(always)]
+    fn of(found: SlotContent) -> SlotReading
+        ensures { result ≡ found }
+    {
+        match found {
+            SlotContent::Free => SlotReading::without_key(Kind::Free),
+            SlotContent::Live(key) => SlotReading {
+                key: key.key,
+                table: key.table,
+                kind: Kind::Live,
+            },
+            SlotContent::Bad => SlotReading::without_key(Kind::Bad),
+        }
+    }
+
+    #[inline(always)]
+    fn without_key(kind: Kind) -> SlotReading
+        ensures { result ≡ content_of kind no_key }
+    {
+        SlotReading {
+            key: 0,
+            table: 0,
+            kind,
+        }
+    }
+
+    /// What the slot holds.
+    #[inline(always)]
+    pub fn content(&self) -> SlotContent
+        ensures { result ≡ self.now }
+    {
+        match self.kind {
+            Kind::Free => SlotContent::Free,
+            Kind::Live => SlotContent::Live(Key {
+                table: self.table,
+                key: self.key,
+            }),
+            Kind::Bad => SlotContent::Bad,
+        }
+    }
 
     // Whether it is bad by itself.
     pub(crate) fn is_unfit(&self) -> bool
         ensures { result ≡ is_unfit self.now }
     {
-        matches!(self, SlotContent::Bad)
+        matches!(self.content(), SlotContent::Bad)
     }
 
     // Whether a live version is there.
     pub(crate) fn is_live(&self) -> bool
         ensures { result ≡ is_held self.now }
     {
-        matches!(self, SlotContent::Live(_))
+        matches!(self.content(), SlotContent::Live(_))
     }
 
     // The key of the live version that is there.
     pub(crate) fn key(&self) -> Option<Key>
         ensures { result ≡ held_key self.now }
     {
-        match self {
-            SlotContent::Live(key) => Some(*key),
+        match self.content() {
+            SlotContent::Live(key) => Some(key),
             SlotContent::Free | SlotContent::Bad => None,
         }
     }
-}
-
-/// What one reading of a slot gives: the timestamps in its begin and its end, and what it holds.
-#[derive(Clone, Copy, Debug)]
-pub struct SlotReading {
-    pub begin: Ts,
-    pub end: Ts,
-    pub found: SlotContent,
 }
 
 // Whether a version with this begin and this end is live under the record.
@@ -70,39 +133,23 @@ fn is_shown(ruling: Record, begin: Ts, end: Ts) -> bool
 }
 
 // What a slot holds, of an image that has this layout and that this record rules.
-fn look<D: Pmem>(device: &D, geometry: Geometry, ruling: Record, slot: u64) -> SlotReading
+fn look<D: Pmem>(device: &D, geometry: Geometry, ruling: Record, slot: u64) -> SlotContent
     requires size { (D.state device.now).words ≡ total_words geometry }
     requires under { IsUnder geometry ruling (image_of (D.state device.now)) }
     requires slot { slot < geometry.slots }
-    ensures { result ≡ reading_in (image_of (D.state device.now)) slot }
+    ensures { result ≡ found_in (image_of (D.state device.now)) slot }
 {
     let begin = version_slot::begin(device, geometry, slot);
     let end = version_slot::end(device, geometry, slot);
     if begin >= ruling.dirty() || end >= ruling.dirty() {
-        return SlotReading {
-            begin,
-            end,
-            found: SlotContent::Bad,
-        };
+        return SlotContent::Bad;
     }
     if !is_shown(ruling, begin, end) {
-        return SlotReading {
-            begin,
-            end,
-            found: SlotContent::Free,
-        };
+        return SlotContent::Free;
     }
     match version_slot::read_key(device, geometry, slot) {
-        Some(key) => SlotReading {
-            begin,
-            end,
-            found: SlotContent::Live(key),
-        },
-        None => SlotReading {
-            begin,
-            end,
-            found: SlotContent::Bad,
-        },
+        Some(key) => SlotContent::Live(key),
+        None => SlotContent::Bad,
     }
 }
 
@@ -121,11 +168,10 @@ pub fn read_slots<R: Threads + Sync, D: Pmem + Sync>(
     requires size { (D.state device.now).words ≡ total_words geometry }
     requires under { IsUnder geometry ruling (image_of (D.state device.now)) }
 
-    // Of each slot, in their order: its begin, its end, and that it is free, holds a live version, with its key, or is bad,
-    // whatever other slots hold.
+    // Of each slot, in their order: that it is free, holds a live version, with its key, or is bad, whatever other slots hold.
     ensures { IfOk result (λ readings. readings.items ≡ readings_below (image_of (D.state device.now)) geometry.slots) }
 {
-    let mut readings = vec![in alloc; UNREAD; geometry.slots() as usize]?;
+    let mut readings = unread(alloc, geometry.slots() as usize)?;
     read_into(rt, device, geometry, ruling, readings.as_mut_slice());
     Ok(readings)
 }
@@ -141,7 +187,7 @@ fn read_into<R: Threads + Sync, D: Pmem + Sync>(
     requires under { IsUnder geometry ruling (image_of (D.state device.now)) }
     requires all { length readings.old ≡ geometry.slots }
     ensures len { length readings.new ≡ length readings.old }
-    ensures each { (k : ℕ) (d : SlotReadingValue) → k < length readings.old → get_or readings.new k d ≡ reading_in (image_of (D.state device.now)) k }
+    ensures each { (k : ℕ) (d : SlotContentValue) → k < length readings.old → get_or readings.new k d ≡ found_in (image_of (D.state device.now)) k }
 {
     par_chunks_mut_for_each(
         rt,
@@ -149,19 +195,23 @@ fn read_into<R: Threads + Sync, D: Pmem + Sync>(
         CHUNK,
         |first: usize, chunk: &mut [SlotReading]|
             requires { (first + length chunk.now ≤ geometry.slots) × ((D.state device.now).words ≡ total_words geometry) × IsUnder geometry ruling (image_of (D.state device.now)) }
-            ensures { (k : ℕ) (d : SlotReadingValue) → k < length chunk.old → get_or chunk.new k d ≡ reading_in (image_of (D.state device.entry.now)) (first + k) }
+            ensures { (k : ℕ) (d : SlotContentValue) → k < length chunk.old → get_or chunk.new k d ≡ found_in (image_of (D.state device.entry.now)) (first + k) }
         {
             read_chunk(device, geometry, ruling, first, chunk);
         },
     );
 }
 
-// A placeholder for a reading that is still to be made.
-const UNREAD: SlotReading = SlotReading {
-    begin: 0,
-    end: 0,
-    found: SlotContent::Bad,
-};
+// Placeholders for as many readings that are still to be made.
+fn unread(alloc: Global, count: usize) -> Result<Vec<SlotReading>, AllocError>
+    ensures { IfOk result (λ readings. readings.len ≡ count) }
+{
+    let mut readings = Vec::with_capacity(alloc, count)?;
+    for _ in 0..count {
+        readings.push(SlotReading::of(SlotContent::Bad))?;
+    }
+    Ok(readings)
+}
 
 // Reads as many slots as there are readings, from the first on.
 fn read_chunk<D: Pmem>(
@@ -174,9 +224,9 @@ fn read_chunk<D: Pmem>(
     requires size { (D.state device.now).words ≡ total_words geometry }
     requires under { IsUnder geometry ruling (image_of (D.state device.now)) }
     requires within { first + length readings.old ≤ geometry.slots }
-    ensures { (k : ℕ) (d : SlotReadingValue) → k < length readings.old → get_or readings.new k d ≡ reading_in (image_of (D.state device.now)) (first + k) }
+    ensures { (k : ℕ) (d : SlotContentValue) → k < length readings.old → get_or readings.new k d ≡ found_in (image_of (D.state device.now)) (first + k) }
 {
     for place in 0..readings.len() {
-        readings[place] = look(device, geometry, ruling, (first + place) as u64);
+        readings[place] = SlotReading::of(look(device, geometry, ruling, (first + place) as u64));
     }
 }

@@ -2,7 +2,7 @@
 //! persists before a record without gaps is written: under a record that drops a gap, a timestamp that is in it would count as
 //! committed.
 
-ghost use Rattle.std.specs.Prelude.{◌≡◌, ◌+◌, ◌<◌, ◌||◌, IfOk, IfErr, OnOk, OnErr, map};
+ghost use Rattle.std.specs.Prelude.{◌≡◌, ◌+◌, ◌<◌, ◌||◌, IfOk, IfErr, OnOk, OnErr};
 ghost use Rattle.base.specs.Actors.{committer};
 ghost use Rattle.base.specs.Layout.{total_words};
 ghost use Rattle.base.specs.Records.{opened_gaps};
@@ -11,10 +11,9 @@ ghost use Rattle.pmem.specs.Trace.{Runs, StopsWithin};
 ghost use Rattle.pmem.specs.Words.{value_of, image_of};
 ghost use Rattle.version_slot.specs.Operations.{sweep_operations, zero_operations};
 ghost use Rattle.recovery.specs.Gaps.{MayRule};
-ghost use Rattle.recovery.specs.Sweeping.{is_hit_by, hits_below, whole_sweep};
+ghost use Rattle.recovery.specs.Sweeping.{hits, hits_below, whole_sweep};
 
 use crate::gaps::lies_in_gap;
-use crate::slots::SlotReading;
 use base::actor::Actor;
 use base::fault::Fault;
 use base::geometry::Geometry;
@@ -22,20 +21,32 @@ use log_area::Record;
 use pmem::Pmem;
 use std::alloc::{AllocError, Global};
 
-// Whether a sweep stores 0 in each slot, by what was read of it.
-pub fn hit_slots(
+// Whether a sweep stores 0 in each slot.
+pub fn hit_slots<D: Pmem>(
     alloc: Global,
+    device: &D,
+    geometry: Geometry,
     ruling: Record,
-    readings: &[SlotReading],
 ) -> Result<Vec<bool>, AllocError>
-    requires { MayRule ruling }
-    ensures { IfOk result (λ hits. hits.items ≡ map (is_hit_by ruling) readings.now) }
+    requires rules { IsRuledBy geometry ruling (image_of (D.state device.now)) }
+    ensures { IfOk result (λ hits. hits.items ≡ hits_below (image_of (D.state device.now)) geometry.slots) }
 {
     let mut hits = Vec::new(alloc);
-    for reading in readings {
-        hits.push(lies_in_gap(ruling, reading.begin) || lies_in_gap(ruling, reading.end))?;
+    for slot in 0..geometry.slots() {
+        hits.push(is_hit(device, geometry, ruling, slot))?;
     }
     Ok(hits)
+}
+
+// Whether it does in this one.
+fn is_hit<D: Pmem>(device: &D, geometry: Geometry, ruling: Record, slot: u64) -> bool
+    requires rules { IsRuledBy geometry ruling (image_of (D.state device.now)) }
+    requires slot { slot < geometry.slots }
+    ensures { result ≡ hits (image_of (D.state device.now)) slot }
+{
+    let begin = version_slot::begin(device, geometry, slot);
+    let end = version_slot::end(device, geometry, slot);
+    lies_in_gap(ruling, begin) || lies_in_gap(ruling, end)
 }
 
 /// Stores 0 in each begin and each end that is in a gap with which the image is opened, flushes the first lines of

@@ -54,7 +54,7 @@ module _ (image : Image) (up : OpensUpdated image) where
   unfolding live_below
   live-same n =
       ap (λ (r : Record). flat_map (λ slot. cond (is_shown r (updated image) slot) (live_at (updated image) slot ∷ []) []) (range_with_len 0 n)) up.ruled
-      ∙ (λ i. flat_map (λ slot. cond (up.shown (ruling image) slot i) ((let l : LiveSlot = record { key = up.keys slot i; slot = slot; begin = up.begins slot i } in l) ∷ []) []) (range_with_len 0 n))
+      ∙ (λ i. flat_map (λ slot. cond (up.shown (ruling image) slot i) ((let l : LiveSlot = record { key = up.keys slot i; slot = slot } in l) ∷ []) []) (range_with_len 0 n))
 
   rules-updated : (layout : Layout) (r : Record) → IsRuledBy layout r image → IsRuledBy (opened_layout layout) r (updated image)
   rules-updated layout r rules = grind (arith, whole-of, opens-sound) steps 800000

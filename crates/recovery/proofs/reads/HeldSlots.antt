@@ -31,7 +31,6 @@ use Rattle.version_slot.specs.declared.words.Slot.{Slot}
 use Rattle.version_slot.specs.Words.{IsSlot, slot_at}
 use Rattle.recovery.specs.declared.slots.SlotContent.{SlotContent}
 use Rattle.recovery.specs.declared.slots.SlotContent.TheVariants.{Bad, Live, Free}
-use Rattle.recovery.specs.declared.slots.SlotReading.{SlotReading}
 use Rattle.recovery.specs.declared.rows.LiveSlot.{LiveSlot}
 use Rattle.recovery.specs.Live.{live_at, live_below}
 use Rattle.recovery.specs.Read.{rows_below}
@@ -87,9 +86,9 @@ one-held : (o : Option Key) (keys : List Key) (n : ℕ) → length keys ≤ n �
 one-held (Some key) keys n le = omega (arith, le)
 one-held None keys n le = omega (arith, le)
 
-pub held-few : (readings : List SlotReading) → length (held_keys readings) ≤ length readings
+pub held-few : (readings : List SlotContent) → length (held_keys readings) ≤ length readings
 held-few [] = omega arith
-held-few (reading ∷ readings) = one-held (held_key reading.found) (held_keys readings) (length readings) (held-few readings)
+held-few (reading ∷ readings) = one-held (held_key reading) (held_keys readings) (length readings) (held-few readings)
 
 pub placed-numbered : (n : ℕ) (live : List LiveSlot) → numbered n (map (λ (s : LiveSlot). s.key) live) ≡ placed n live
 placed-numbered n [] = refl
@@ -215,23 +214,23 @@ distinct-good image n good = IsDistinct-from_AllPairs same-key (map (λ (s : Liv
 
 -- ---- what was found of all slots
 
-module _ (image : Image) (n : ℕ) (readings : List SlotReading) (are : readings ≡ readings_below image n) (fit : All (λ reading. is_unfit reading.found ≡ false) readings) where
+module _ (image : Image) (n : ℕ) (readings : List SlotContent) (are : readings ≡ readings_below image n) (fit : All (λ reading. is_unfit reading ≡ false) readings) where
   size : length readings ≡ n
-  size = ap (λ (xs : List SlotReading). length xs) are ∙ readings-size image n
+  size = ap (λ (xs : List SlotContent). length xs) are ∙ readings-size image n
 
-  found-so : (slot : ℕ) (d : SlotReading) → slot < n → (P : SlotContent → Type 0) → ((get_or readings slot d).found ≡ Free → P Free) → ((key : Key) → (get_or readings slot d).found ≡ Live key → P (Live key)) → P (get_or readings slot d).found
+  found-so : (slot : ℕ) (d : SlotContent) → slot < n → (P : SlotContent → Type 0) → ((get_or readings slot d) ≡ Free → P Free) → ((key : Key) → (get_or readings slot d) ≡ Live key → P (Live key)) → P (get_or readings slot d)
   found-so slot d lt P free live = grind (arith, size) steps 800000
 
   -- a live version was found in each slot that is shown
-  held-at : (slot : ℕ) (d : SlotReading) → slot < n → is_shown (ruling image) image slot ≡ true → (get_or readings slot d).found ≡ Live (key_of image slot)
+  held-at : (slot : ℕ) (d : SlotContent) → slot < n → is_shown (ruling image) image slot ≡ true → (get_or readings slot d) ≡ Live (key_of image slot)
   held-at slot d lt shown =
       found-so slot d lt (λ f. f ≡ Live (key_of image slot))
       (λ is. absurd (true≢false (sym shown ∙ hidden-here image slot (found-free image slot (sym is ∙ found-at image n slot d readings are lt)).0)))
       (λ key is. ap (λ (k : Key). Live k) (found-live image slot key (sym is ∙ found-at image n slot d readings are lt)).2)
 
   module _ (live : List LiveSlot) (places : List (Key × ℕ)) (each : HasEach readings n live) (placed-so : HavePlaces live places) where
-    none : SlotReading
-    none = record { begin = 0; end = 0; found = Free }
+    none : SlotContent
+    none = Free
 
     read : (slot : ℕ) → slot < n → slice_get readings slot ≡ Some (get_or readings slot none)
     read slot lt = slice_get-get_or readings slot none (omega (arith, lt, size))
@@ -266,44 +265,44 @@ module _ (image : Image) (n : ℕ) (readings : List SlotReading) (are : readings
 
 -- ---- one slot after the other
 
-pub keys-none : (readings : List SlotReading) → held_keys (take 0 readings) ≡ []
+pub keys-none : (readings : List SlotContent) → held_keys (take 0 readings) ≡ []
 keys-none [] = refl
 keys-none (r ∷ readings) = refl
 
-held-keys-more : (readings : List SlotReading) (n : ℕ) (d : SlotReading) → n < length readings → held_keys (take (n + 1) readings) ≡ held_keys (take n readings) ++ held_keys (get_or readings n d ∷ [])
-held-keys-more readings n d lt = ap held_keys (take_more readings n d lt) ∙ filter_map-append (λ (reading : SlotReading). held_key reading.found) (take n readings) (get_or readings n d ∷ [])
+held-keys-more : (readings : List SlotContent) (n : ℕ) (d : SlotContent) → n < length readings → held_keys (take (n + 1) readings) ≡ held_keys (take n readings) ++ held_keys (get_or readings n d ∷ [])
+held-keys-more readings n d lt = ap held_keys (take_more readings n d lt) ∙ filter_map-append (λ (reading : SlotContent). held_key reading) (take n readings) (get_or readings n d ∷ [])
 
-module _ (readings : List SlotReading) (n : ℕ) (d : SlotReading) (lt : n < length readings) (live : List LiveSlot) (keys : map (λ (s : LiveSlot). s.key) live ≡ held_keys (take n readings)) where
-  pub keys-live : (s : LiveSlot) (key : Key) → s.key ≡ key → (get_or readings n d).found ≡ Live key → map (λ (s : LiveSlot). s.key) (live ++ s ∷ []) ≡ held_keys (take (n + 1) readings)
+module _ (readings : List SlotContent) (n : ℕ) (d : SlotContent) (lt : n < length readings) (live : List LiveSlot) (keys : map (λ (s : LiveSlot). s.key) live ≡ held_keys (take n readings)) where
+  pub keys-live : (s : LiveSlot) (key : Key) → s.key ≡ key → (get_or readings n d) ≡ Live key → map (λ (s : LiveSlot). s.key) (live ++ s ∷ []) ≡ held_keys (take (n + 1) readings)
   keys-live s key is found =
       keys-more live s
       ∙ (λ i. keys i ++ is i ∷ [])
       ∙ ap (λ (f : SlotContent). held_keys (take n readings) ++ cons_option (held_key f) []) (sym found)
       ∙ sym (held-keys-more readings n d lt)
 
-  pub keys-dead : ((key : Key) → (get_or readings n d).found ≡ Live key → ⊥) → map (λ (s : LiveSlot). s.key) live ≡ held_keys (take (n + 1) readings)
-  keys-dead dead = keys ∙ sym (held-keys-more readings n d lt ∙ by (get_or readings n d).found refl)
+  pub keys-dead : ((key : Key) → (get_or readings n d) ≡ Live key → ⊥) → map (λ (s : LiveSlot). s.key) live ≡ held_keys (take (n + 1) readings)
+  keys-dead dead = keys ∙ sym (held-keys-more readings n d lt ∙ by (get_or readings n d) refl)
     where
-      by : (f : SlotContent) → (get_or readings n d).found ≡ f → held_keys (take n readings) ++ cons_option (held_key (get_or readings n d).found) [] ≡ held_keys (take n readings)
+      by : (f : SlotContent) → (get_or readings n d) ≡ f → held_keys (take n readings) ++ cons_option (held_key (get_or readings n d)) [] ≡ held_keys (take n readings)
       by (Live key) is = absurd (dead key is)
       by Free is = ap (λ (f : SlotContent). held_keys (take n readings) ++ cons_option (held_key f) []) is ∙ append-nil (held_keys (take n readings))
       by Bad is = ap (λ (f : SlotContent). held_keys (take n readings) ++ cons_option (held_key f) []) is ∙ append-nil (held_keys (take n readings))
 
-pub each-none : (readings : List SlotReading) (live : List LiveSlot) → HasEach readings 0 live
+pub each-none : (readings : List SlotContent) (live : List LiveSlot) → HasEach readings 0 live
 each-none readings live slot reading key lt at found = absurd (omega (arith, lt))
 
-module _ (readings : List SlotReading) (n : ℕ) (d reading : SlotReading) (is : reading ≡ get_or readings n d) (live : List LiveSlot) (each : HasEach readings n live) where
-  this-found : (slot : ℕ) (r : SlotReading) (key : Key) → slot ≡ n → slice_get readings slot ≡ Some r → r.found ≡ Live key → reading.found ≡ Live key
+module _ (readings : List SlotContent) (n : ℕ) (d reading : SlotContent) (is : reading ≡ get_or readings n d) (live : List LiveSlot) (each : HasEach readings n live) where
+  this-found : (slot : ℕ) (r : SlotContent) (key : Key) → slot ≡ n → slice_get readings slot ≡ Some r → r ≡ Live key → reading ≡ Live key
   this-found slot r key this at found =
-      ap (λ (x : SlotReading). x.found) (is ∙ get_or_from_slice_get readings n r d (subst (λ (k : ℕ). slice_get readings k ≡ Some r) this at)) ∙ found
+      (is ∙ get_or_from_slice_get readings n r d (subst (λ (k : ℕ). slice_get readings k ≡ Some r) this at)) ∙ found
 
-  pub each-more : (s : LiveSlot) (key : Key) → s.slot ≡ n → s.key ≡ key → reading.found ≡ Live key → HasEach readings (n + 1) (live ++ s ∷ [])
+  pub each-more : (s : LiveSlot) (key : Key) → s.slot ≡ n → s.key ≡ key → reading ≡ Live key → HasEach readings (n + 1) (live ++ s ∷ [])
   each-more s key here key-is held slot r k lt at found = elim (cases_below slot n (omega (arith, lt))) [
     | inl before ↦ let was = each slot r k before at found in (was.0, (was.1.0, get-before live s was.1.0 was.0 was.1.1, was.1.2, was.1.3))
     | inr this ↦ grind (arith, this-found slot r k this at found, get-last live s)
   ]
 
-  pub each-skip : ((key : Key) → reading.found ≡ Live key → ⊥) → HasEach readings (n + 1) live
+  pub each-skip : ((key : Key) → reading ≡ Live key → ⊥) → HasEach readings (n + 1) live
   each-skip dead slot r k lt at found = elim (cases_below slot n (omega (arith, lt))) [
     | inl before ↦ each slot r k before at found
     | inr this ↦ absurd (dead k (this-found slot r k this at found))
@@ -337,13 +336,13 @@ free-found image slot a is good = grind (arith, found-free, found-live, found-ba
 
 -- ---- all that is held
 
-module _ (image : Image) (n : ℕ) (readings : List SlotReading) (are : readings ≡ readings_below image n) (live : Vec LiveSlot Global) (places : BTreeMap Key ℕ)
+module _ (image : Image) (n : ℕ) (readings : List SlotContent) (are : readings ≡ readings_below image n) (live : Vec LiveSlot Global) (places : BTreeMap Key ℕ)
     (listed : (i : Image) → AreReadings i readings → live.items ≡ live_below i (length readings)) (made : IsFromIterResult key_cmp (placed 0 live.items) places) where
   count : length readings ≡ n
-  count = ap (λ (xs : List SlotReading). length xs) are ∙ readings-size image n
+  count = ap (λ (xs : List SlotContent). length xs) are ∙ readings-size image n
 
   -- if there are as many keys as live slots, and no slot is bad by itself, no slot is bad
-  pub none-bad : length places.entries ≡ length live.items → All (λ reading. is_unfit reading.found ≡ false) readings → HasEach readings (length readings) live.items → bad_below image n ≡ None
+  pub none-bad : length places.entries ≡ length live.items → All (λ reading. is_unfit reading ≡ false) readings → HasEach readings (length readings) live.items → bad_below image n ≡ None
   none-bad size fit each =
       all-good image n readings are fit live.items places.entries (subst (λ (k : ℕ). HasEach readings k live.items) count each) (have-places live.items places made (counted live.items places made size))
 

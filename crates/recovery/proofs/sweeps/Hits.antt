@@ -1,32 +1,44 @@
 -- Which slots a sweep stores in, and that it leaves the others as they are.
-use Rattle.std.proofs.Common.{◌≡◌, ℕ, ◌+◌, ◌*◌, ◌<◌, Bool, ◌||◌, List, map, get_or, length, sym, ◌∙◌, ap, subst, arith}
+use Rattle.std.proofs.Common.{◌≡◌, ℕ, ◌+◌, ◌*◌, ◌<◌, Bool, ◌||◌, List, [], ◌∷◌, ◌++◌, map, get_or, length, refl, sym, lit<, ◌∙◌, ap, subst, arith}
 use Rattle.std.specs.Prelude.{Option, None}
 use Rattle.std.specs.List.{range_with_len}
-use Rattle.std.proofs.lemmas.List.FromFn.{length-map-range_with_len, get_or-map-range_with_len}
-use Rattle.std.proofs.lemmas.Simd.{map-map}
+use Rattle.std.proofs.lemmas.List.FromFn.{map-range_with_len_more, length-map-range_with_len, get_or-map-range_with_len}
 use Rattle.base.specs.declared.gap.Gap.{Gap}
-use Rattle.base.specs.Layout.{Layout, slot_start, slot_words, opened_version, opened_layout}
+use Rattle.base.specs.Layout.{Layout, total_words, slot_start, slot_words, opened_version, opened_layout}
 use Rattle.base.proofs.Layouts.{opened-words}
 use Rattle.machine.specs.Laws.{OpensUpdated}
 use Rattle.base.specs.Records.{Record, is_in, opened_gaps}
-use Rattle.base.specs.Images.{Image, layout_of, ruling, slot_word, begin_of, end_of}
+use Rattle.base.specs.Images.{Image, layout_of, slot_word, IsRuledBy}
 use Rattle.machine.specs.Openings.{lies_in_gap, updated}
-use Rattle.recovery.specs.declared.slots.SlotReading.{SlotReading}
-use Rattle.recovery.specs.Slots.{reading_in, readings_below}
-use Rattle.recovery.specs.Sweeping.{is_hit_by, hits_below, AreHits}
+use Rattle.pmem.specs.Device.{Device}
+use Rattle.pmem.specs.Words.{value_of, image_of}
+use Rattle.version_slot.specs.Words.{slot_at}
+use Rattle.recovery.proofs.reads.Visits.{word-same}
+use Rattle.recovery.proofs.openings.Devices.{under}
+use Rattle.recovery.specs.Sweeping.{hits, hits_below, AreHits}
 
--- ---- by what was read
+-- ---- of all slots
 
-pub hits-are : (image : Image) (r : Record) (n : ℕ) (readings : List SlotReading) → ruling image ≡ r → readings ≡ readings_below image n → map (is_hit_by r) readings ≡ hits_below image n
-unfolding readings_below hits_below reading_in
-hits-are image r n readings ruled are =
-    ap (map (is_hit_by r)) are ∙ map-map (is_hit_by r) (reading_in image) (range_with_len 0 n)
-    ∙ (λ i. map (λ slot. is_in (opened_gaps (sym ruled i)) (begin_of image slot) || is_in (opened_gaps (sym ruled i)) (end_of image slot)) (range_with_len 0 n))
+pub hits-none : (image : Image) → hits_below image 0 ≡ []
+unfolding hits_below
+hits-none image = refl
 
-pub are-hits : (image : Image) (layout : Layout) (r : Record) (gaps : Option (List Gap)) (readings : List SlotReading) (hits : List Bool) → ruling image ≡ r → readings ≡ readings_below image layout.slots
-    → (gaps ≡ None → hits ≡ map (is_hit_by r) readings) → AreHits image layout gaps hits
+pub hits-more : (image : Image) (slot : ℕ) → hits_below image (slot + 1) ≡ hits_below image slot ++ hits image slot ∷ []
+unfolding hits_below
+hits-more image slot = map-range_with_len_more (hits image) 0 slot slot (omega arith)
+
+pub are-hits : (image : Image) (layout : Layout) (gaps : Option (List Gap)) (hits : List Bool) → (gaps ≡ None → hits ≡ hits_below image layout.slots) → AreHits image layout gaps hits
 unfolding AreHits
-are-hits image layout r gaps readings hits ruled are by_readings many = by_readings many ∙ hits-are image r layout.slots readings ruled are
+are-hits image layout gaps hits many = many
+
+-- the slot of a device whose begin or end is in a gap
+pub hit-here : (device : Device) (layout : Layout) (r : Record) (slot begin end : ℕ) → device.words ≡ total_words layout → IsRuledBy layout r (image_of device) → slot < layout.slots
+    → begin ≡ slot_at layout slot (value_of device) 0 → end ≡ slot_at layout slot (value_of device) 1 → (is_in (opened_gaps r) begin || is_in (opened_gaps r) end) ≡ hits (image_of device) slot
+hit-here device layout r slot begin end size rules h begun ended =
+    let read = under layout r (image_of device) rules in
+    let begin-same = begun ∙ sym (word-same device layout r slot size read h 0 (lit< tt)) in
+    let end-same = ended ∙ sym (word-same device layout r slot size read h 1 (lit< tt)) in
+    λ i. is_in (opened_gaps (sym rules.by_record i)) (begin-same i) || is_in (opened_gaps (sym rules.by_record i)) (end-same i)
 
 pub where-many : (image : Image) (layout : Layout) (gaps : Option (List Gap)) (hits : List Bool) → AreHits image layout gaps hits → gaps ≡ None → hits ≡ hits_below image layout.slots
 unfolding AreHits

@@ -12,7 +12,7 @@ pub loop-slot-preserved : goal.loop-slot-preserved
 loop-slot-preserved c = λ image are.
     let slot = c.loop-slot.slot in
     let within : slot < length c.args.readings.now = omega (arith, c.loop-slot-test.true) in
-    let found = found-at image (length c.args.readings.now) slot _ c.args.readings.now are.all within in
+    let found = c.index-readings-slot.is ∙ found-at image (length c.args.readings.now) slot _ c.args.readings.now are.all within in
     c.in_ok-push.ensures.items
     ∙ (λ i. c.loop-slot.invariant image are i ++ (ap not c.is_live.ensures ∙ free-found image slot _ found (good-at image (length c.args.readings.now) slot are.good within)) i ∷ [])
     ∙ sym (free-more image slot)

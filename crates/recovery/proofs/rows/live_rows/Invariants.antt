@@ -4,5 +4,5 @@ use Rattle.pmem.specs.Words.{image_of}
 use Rattle.recovery.proofs.reads.HeldSlots.{row-in}
 use Rattle.recovery.proofs.rows.live_rows.Given as goal
 
-abbrev pub invariant-loop-found : goal.invariant-loop-found
-invariant-loop-found g l = l.rows.items ≡ map (row-in (image_of (g.D.Pmem.state l.device))) (take l.found-index l.live)
+abbrev pub invariant-loop-kept : goal.invariant-loop-kept
+invariant-loop-kept g l = l.rows.items ≡ map (row-in (image_of (g.D.Pmem.state l.device))) (take l.kept-index l.live)

@@ -1,7 +1,7 @@
-use Rattle.std.proofs.Common.{◌≡◌, map}
-use Rattle.std.specs.Prelude.{take}
-use Rattle.recovery.specs.Sweeping.{is_hit_by}
+use Rattle.std.proofs.Common.{◌≡◌}
+use Rattle.pmem.specs.Words.{image_of}
+use Rattle.recovery.specs.Sweeping.{hits_below}
 use Rattle.recovery.proofs.sweeping.hit_slots.Given as goal
 
-abbrev pub invariant-loop-reading : goal.invariant-loop-reading
-invariant-loop-reading l = l.hits.items ≡ map (is_hit_by l.ruling) (take l.reading-index l.readings)
+abbrev pub invariant-loop-slot : goal.invariant-loop-slot
+invariant-loop-slot g l = l.hits.items ≡ hits_below (image_of (g.D.Pmem.state l.device)) l.slot
