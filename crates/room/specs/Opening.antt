@@ -1,5 +1,5 @@
 -- What opening makes of a device and its volatile state.
-use Rattle.std.specs.Prelude.{◌≡◌, ℕ, Bool, List, map, Some, None}
+use Rattle.std.specs.Prelude.{◌≡◌, ℕ, ◌-◌, ◌^◌, ◌<◌, Bool, List, map, Some, None, All}
 use Rattle.base.specs.declared.key.Key.{Key}
 use Rattle.base.specs.Images.{Image}
 use Rattle.base.specs.Layout.{Layout}
@@ -17,10 +17,15 @@ use Rattle.room.specs.declared.volatile.VolatileState.{VolatileState}
 abbrev pub entry_of : LiveSlot → Key × Entry
 entry_of s = (s.key, record blank { newest = Some s.slot })
 
+-- the number of each of these slots is small enough for an entry
+abbrev pub AreFew : List LiveSlot → Type 0
+AreFew live = All (λ s. s.slot < 2 ^ 32 - 1) live
+
 -- what opening needs of an image, and the entries of the versions that it found live
 pub record HasLearnt (image : Image) (learnt : Learnt) : Type 0 where
-  pub found : HasExamined image learnt.found
-  pub entries_are : learnt.entries ≡ map entry_of learnt.found.live.items
+  pub live : List LiveSlot
+  pub found : HasExamined image learnt.found live
+  pub entries_are : learnt.entries ≡ map entry_of live
 
 -- the device was opened, the sessions show each state in which a life begins on it so, no batch is pending, and none waits to
 -- be handed out

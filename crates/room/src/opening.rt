@@ -9,7 +9,7 @@ ghost use Rattle.machine.specs.Openings.{StandsOpening};
 ghost use Rattle.pmem.specs.Words.{LeavesOnly, IsAtRest, image_of};
 ghost use Rattle.recovery.specs.Opened.{IsRefusal, IsUpdatedFirst, MakesOpening, Refuses};
 ghost use Rattle.recovery.specs.Read.{ReportsLogFault};
-ghost use Rattle.room.specs.Opening.{HasBegun, HasLearnt, entry_of};
+ghost use Rattle.room.specs.Opening.{AreFew, HasBegun, HasLearnt, entry_of};
 
 use crate::room::Room;
 use crate::volatile::VolatileState;
@@ -18,7 +18,7 @@ use collector::ReplacedSlots;
 use dirty_table::DirtyTable;
 use index::{HintedEntries, Index, KeyedEntry};
 use pmem::Pmem;
-use recovery::{Examined, LiveSlot, examine};
+use recovery::{Examined, Found, KeptSlot, examine};
 use session_steps::Sessions;
 use slot_alloc::SlotAlloc;
 use std::alloc::{AllocError, Global};
@@ -164,34 +164,44 @@ fn learn<R: Threads + Sync, D: Pmem + Sync>(
         Ok(found) => found,
         Err(fault) => return Err(fault),
     };
-    match hinted_entries(alloc, found.live.as_slice(), found.free.len()) {
-        Ok(entries) => Ok(Learnt { found, entries }),
+    let Found { examined, live } = found;
+    match hinted_entries(alloc, live, examined.free.len()) {
+        Ok(entries) => Ok(Learnt {
+            found: examined,
+            entries,
+        }),
         Err(_) => Err(Fault::OutOfMemory),
     }
 }
 
-// The entries of the keys whose versions are live, with hints for as many keys as there are slots: there are seldom more.
+// The entries of the keys whose versions are live, with room and hints for as many keys as there are slots: there are seldom more. The
+// list of the live slots is freed before memory is taken for the hints.
 fn hinted_entries(
     alloc: Global,
-    live: &[LiveSlot],
+    live: Vec<KeptSlot>,
     slots: usize,
 ) -> Result<HintedEntries, AllocError>
-    ensures { IfOk result (λ entries. entries ≡ map entry_of live.now) }
+    requires { AreFew live.items }
+    ensures { IfOk result (λ entries. entries ≡ map entry_of live.items) }
 {
-    let entries = entries_of(alloc, live)?;
+    let entries = entries_of(alloc, live, slots)?;
     HintedEntries::of(alloc, entries, slots)
 }
 
 /// The entries of the keys whose versions are live, in the order of their slots: each with its key, and its slot as the key's
-/// newest version. It reads no slot.
-fn entries_of(alloc: Global, live: &[LiveSlot]) -> Result<Vec<KeyedEntry>, AllocError>
-    ensures { IfOk result (λ entries. entries.items ≡ map entry_of live.now) }
+/// newest version. It reads no slot. There is room for as many entries as there are slots.
+fn entries_of(
+    alloc: Global,
+    live: Vec<KeptSlot>,
+    slots: usize,
+) -> Result<Vec<KeyedEntry>, AllocError>
+    requires { AreFew live.items }
+    ensures { IfOk result (λ entries. entries.items ≡ map entry_of live.items) }
 {
-    live.iter()
-        .map(
-            |found: &LiveSlot| -> KeyedEntry
-                ensures { result ≡ entry_of found.now }
-            { KeyedEntry::live(found.key, found.slot) },
-        )
-        .collect(alloc)
+    let mut entries = Vec::with_capacity(alloc, slots)?;
+    for kept in live.as_slice() {
+        let found = kept.live();
+        entries.push(KeyedEntry::live(found.key, found.slot))?;
+    }
+    Ok(entries)
 }

@@ -12,7 +12,7 @@ use base::key::Key;
 use base::step::Step;
 use pmem::Pmem;
 use pmem_model::SimPmem;
-use recovery::{LiveSlot, open};
+use recovery::{KeptSlot, LiveSlot, open};
 use room::{Room, Visit};
 use slot_alloc::SlotAlloc;
 use std::alloc::Global;
@@ -76,9 +76,10 @@ fn opening_lists_the_live_slots(rt: HostRuntime) -> Result<(), Fault> {
     let live = |key, slot| LiveSlot {
         key: Key { table: 1, key },
         slot,
-        begin: 2,
     };
-    assert!(rt; opened.live.as_slice() == [live(7, 1), live(8, 2)].as_slice());
+    let found = opened.live.iter().map(KeptSlot::live).collect(rt.alloc());
+    let found: Vec<LiveSlot> = found.or(Err(Fault::OutOfMemory))?;
+    assert!(rt; found.as_slice() == [live(7, 1), live(8, 2)].as_slice());
     Ok(())
 }
 

@@ -1,8 +1,8 @@
 -- What opening gives is shown.
-use Rattle.std.proofs.Common.{◌≡◌, ℕ, ◌+◌, ◌*◌, ◌<◌, ◌≤◌, Bool, true, false, cond, not, ◌&&◌, List, [], length, get_or, map, refl, sym, ◌∙◌, ap, subst, nat_lt, nat_le, ◌^◌, arith}
+use Rattle.std.proofs.Common.{◌≡◌, ℕ, zero, suc, ◌∷◌, ◌+◌, ◌*◌, ◌<◌, ◌≤◌, Bool, true, false, cond, not, ◌&&◌, List, [], length, get_or, map, refl, sym, ◌∙◌, ap, subst, nat_lt, ◌^◌, arith}
 use Rattle.std.specs.Prelude.{slice_get, Option, Some, None, is_none, is_some}
-use Rattle.std.specs.List.{range_with_len}
-use Rattle.std.proofs.lemmas.Bool.{and_parts, leb-true, lt-ltb, false≢true}
+use Rattle.std.specs.List.{range_with_len, Contains}
+use Rattle.std.proofs.lemmas.Bool.{lt-ltb, false≢true}
 use Rattle.std.proofs.lemmas.Option.{slice_get-get_or}
 use Rattle.std.proofs.lemmas.List.FromFn.{length-map-range_with_len, get_or-map-range_with_len}
 use Rattle.base.specs.declared.key.Key.{Key}
@@ -44,7 +44,8 @@ use Rattle.room.specs.declared.volatile.VolatileState.{VolatileState}
 use Rattle.room.specs.declared.room.Room.{Room}
 use Rattle.room.specs.Committing.{HoldsCycle, Shows as CommitterShows}
 use Rattle.room.specs.Steps.{ShowsAs}
-use Rattle.room.specs.Opening.{HasBegun}
+use Rattle.room.specs.Opening.{AreFew, HasBegun}
+use Rattle.room.proofs.openings.LiveIndex.{live-in}
 use Rattle.room.specs.Room.{Shows}
 use Rattle.room.proofs.Rooms.{shown-stands, shown-clear}
 
@@ -217,6 +218,20 @@ module _ (old new : Device) (layout : Layout) (r : Record) (next : ℕ) (free : 
         (subst (λ (l : Layout). HoldsRecord l state_opened.ruling new) (sym layout-is) (subst (λ (x : Record). HoldsRecord layout x new) (sym ruling-is) opened.holds))
 
 -- ---- what was examined
+
+-- the numbers of the live slots are few
+pub are-few : (image : Image) (layout : Layout) (r : Record) (gaps : Option (List Gap)) (free : List Bool) (live : List LiveSlot) → Examined image layout r gaps free live → AreFew live
+are-few image layout r gaps free live ex = λ k d lt.
+    let known = is image layout r gaps free live ex in
+    let few = few_slots (layout_of image) (size-of image known.rules.geometry).0 in
+    let same = ap (λ (l : Layout). l.slots) known.rules.laid_out in
+    let here = live-in image layout.slots (get_or live k d) (subst (λ (l : List LiveSlot). Contains l (get_or live k d)) known.live_are (k, lt, get_or-same live k d lt)) in
+    omega (arith, few, same, here.0)
+  where
+    get_or-same : (live : List LiveSlot) (k : ℕ) (d : LiveSlot) → k < length live → get_or live k (get_or live k d) ≡ get_or live k d
+    get_or-same [] k d lt = absurd (omega (arith, lt))
+    get_or-same (x ∷ live) zero d lt = refl
+    get_or-same (x ∷ live) (suc k) d lt = get_or-same live k d (omega (arith, lt))
 
 module _ (old : Device) (layout : Layout) (r : Record) (gaps : Option (List Gap)) (free : List Bool) (live : List LiveSlot) (ex : Examined (image_of old) layout r gaps free live) where
   rules : IsRuledBy layout r (image_of old)
