@@ -3,3 +3,4 @@ pub mod Reading
 pub mod Walking
 pub mod Counting
 pub mod Keyed
+pub mod Placed

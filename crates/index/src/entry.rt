@@ -86,14 +86,14 @@ fn slot_of(number: u32) -> Option<SlotNo>
 
 /// A number in two halves, so that what holds it needn't stand at a multiple of eight bytes.
 #[derive(Clone, Copy)]
-struct Halves {
+pub(crate) struct Halves {
     low: u32,
     high: u32,
 }
 
 impl Halves {
     #[inline(always)]
-    fn of(number: u64) -> Halves
+    pub(crate) fn of(number: u64) -> Halves
         ensures { joined result ≡ number }
     {
         Halves {
@@ -103,7 +103,7 @@ impl Halves {
     }
 
     #[inline(always)]
-    fn number(self) -> u64
+    pub(crate) fn number(self) -> u64
         ensures { result ≡ joined self }
     {
         u64::from(self.high) * (1 << 32) + u64::from(self.low)

@@ -1,5 +1,6 @@
 use crate::entry::{Entry, KeyedEntry};
 use crate::hints::{blank_hints, hint_for, note, widen};
+use crate::placed::PlacedKey;
 use base::fault::Fault;
 use base::key::Key;
 use base::{SlotNo, Ts};
@@ -70,7 +71,7 @@ pub struct Index {
     // Each with its key. An entry stays at its place, except that the last one moves to that of an entry that is taken out.
     pub(crate) entries: Vec<KeyedEntry>,
     // The place of each key's entry.
-    pub(crate) places: BTreeMap<Key, u32, Global>,
+    pub(crate) places: BTreeMap<PlacedKey, u32, Global>,
     // Places at which entries may be: tried first, with a search if the entry isn't there.
     hints: Vec<u32>,
     // How many of the keys have a covered row.
@@ -113,7 +114,7 @@ impl Index {
     }
 
     /// An index with exactly these entries, at these places. It takes no memory.
-    pub fn of(listed: HintedEntries, places: BTreeMap<Key, u32, Global>) -> Index
+    pub fn of(listed: HintedEntries, places: BTreeMap<PlacedKey, u32, Global>) -> Index
         requires { ArePlaced places.entries listed }
         ensures { result ≡ listed }
     {
@@ -148,7 +149,7 @@ impl Index {
         ensures some { IfSome result (λ place. IsAt self.now place key) }
         ensures none { IfNone result (has_room self.now key ≡ false) }
     {
-        match self.places.get(&key) {
+        match self.places.get(&PlacedKey::of(key)) {
             Some(place) => Some(*place as usize),
             None => None,
         }
@@ -286,7 +287,7 @@ impl Index {
         if widen(&mut self.hints, self.entries.as_slice()).is_err() {
             return Err(Fault::OutOfMemory);
         }
-        let Ok(_) = self.places.insert(key, small) else {
+        let Ok(_) = self.places.insert(PlacedKey::of(key), small) else {
             return Err(Fault::OutOfMemory);
         };
         self.entries
@@ -468,18 +469,20 @@ ghost use Rattle.base.specs.Keys.{key_eq, lookup_key};
 ghost use Rattle.base.specs.declared.key.Key.{Key as KeyValue};
 
 // Takes a key out, and gives its place to the key that moves there. That one has a place, so this takes no memory.
-fn give_place(places: &mut BTreeMap<Key, u32, Global>, key: Key, moved: Key)
+fn give_place(places: &mut BTreeMap<PlacedKey, u32, Global>, key: Key, moved: Key)
     requires key { IsSome (lookup_key places.old.entries key) }
     requires moved { IsSome (lookup_key places.old.entries moved) }
     ensures { (k : KeyValue) → lookup_key places.new.entries k ≡ (if key_eq key k then None else (if key_eq moved k then lookup_key places.old.entries key else lookup_key places.old.entries k)) }
 {
-    let Some(place) = places.remove(&key) else {
+    let from = PlacedKey::of(key);
+    let Some(place) = places.remove(&from) else {
         unreachable!()
     };
     if moved == key {
         return;
     }
-    let Ok(_) = places.insert(moved, place) else {
+    let to = PlacedKey::of(moved);
+    let Ok(_) = places.insert(to, place) else {
         unreachable!()
     };
 }

@@ -58,16 +58,14 @@ impl Index {
             });
         }
         for (key, place) in self.places.range(range.bounds()) {
-            let newest = self.entry(*key, Some(*place as usize)).newest;
-            if let Some(found) = follow(device, geometry, snapshot, newest, *key) {
-                let Ok(_) = rows.insert(*key, found.row) else {
+            let key = key.key();
+            let newest = self.entry(key, Some(*place as usize)).newest;
+            if let Some(found) = follow(device, geometry, snapshot, newest, key) {
+                let Ok(_) = rows.insert(key, found.row) else {
                     return Err(AllocError);
                 };
                 if limit <= rows.len() {
-                    return Ok(Part {
-                        rows,
-                        reached: *key,
-                    });
+                    return Ok(Part { rows, reached: key });
                 }
             }
         }
@@ -105,16 +103,14 @@ impl Index {
             });
         }
         for (key, place) in self.places.range(range.bounds()).rev() {
-            let newest = self.entry(*key, Some(*place as usize)).newest;
-            if let Some(found) = follow(device, geometry, snapshot, newest, *key) {
-                let Ok(_) = rows.insert(*key, found.row) else {
+            let key = key.key();
+            let newest = self.entry(key, Some(*place as usize)).newest;
+            if let Some(found) = follow(device, geometry, snapshot, newest, key) {
+                let Ok(_) = rows.insert(key, found.row) else {
                     return Err(AllocError);
                 };
                 if limit <= rows.len() {
-                    return Ok(Part {
-                        rows,
-                        reached: *key,
-                    });
+                    return Ok(Part { rows, reached: key });
                 }
             }
         }

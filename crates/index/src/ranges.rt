@@ -7,6 +7,7 @@ ghost use Rattle.base.specs.declared.key.Key.{Key as KeyValue};
 ghost use Rattle.index.specs.Reading.{CountsAs, ShowsTables, HasRows, contains, ranged, bounds_of, IsForward};
 
 use crate::map::Index;
+use crate::placed::PlacedKey;
 use crate::walking::follow;
 use base::fault::Fault;
 use base::geometry::Geometry;
@@ -55,16 +56,19 @@ impl KeyRange {
     }
 
     // The bounds of its keys.
-    pub(crate) fn bounds(self) -> (Bound<Key>, Bound<Key>)
+    pub(crate) fn bounds(self) -> (Bound<PlacedKey>, Bound<PlacedKey>)
         ensures { result ≡ bounds_of self }
     {
         match self {
             KeyRange::All => (Bound::Unbounded, Bound::Unbounded),
             KeyRange::Within { table, lo, hi } => (
-                Bound::Included(Key { table, key: lo }),
-                Bound::Included(Key { table, key: hi }),
+                Bound::Included(PlacedKey::of(Key { table, key: lo })),
+                Bound::Included(PlacedKey::of(Key { table, key: hi })),
             ),
-            KeyRange::Between { first, last } => (Bound::Included(first), Bound::Included(last)),
+            KeyRange::Between { first, last } => (
+                Bound::Included(PlacedKey::of(first)),
+                Bound::Included(PlacedKey::of(last)),
+            ),
         }
     }
 }
@@ -113,9 +117,10 @@ impl Index {
             return Ok(seen);
         }
         for (key, place) in self.places.range(range.bounds()) {
-            let newest = self.entry(*key, Some(*place as usize)).newest;
-            if let Some(found) = follow(device, geometry, snapshot, newest, *key) {
-                let Ok(_) = seen.insert(*key, found.row) else {
+            let key = key.key();
+            let newest = self.entry(key, Some(*place as usize)).newest;
+            if let Some(found) = follow(device, geometry, snapshot, newest, key) {
+                let Ok(_) = seen.insert(key, found.row) else {
                     return Err(AllocError);
                 };
             }

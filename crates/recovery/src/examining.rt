@@ -18,7 +18,7 @@ use crate::sweeping::hit_slots;
 use base::fault::Fault;
 use base::gap::Gaps;
 use base::geometry::Geometry;
-use base::key::Key;
+use index::PlacedKey;
 use log_area::{Record, latest};
 use pmem::Pmem;
 use std::alloc::{AllocError, Global};
@@ -35,7 +35,7 @@ pub struct Examined {
     /// Whether each slot is free.
     pub free: Vec<bool>,
     /// For each key, the place of its slot among those that aren't free.
-    pub places: BTreeMap<Key, u32, Global>,
+    pub places: BTreeMap<PlacedKey, u32, Global>,
     /// Whether the begin or the end of each slot is in a gap; empty if there are at most eight.
     pub hits: Vec<bool>,
 }
@@ -144,7 +144,7 @@ fn gather<D: Pmem>(
     device: &D,
     readings: &Readings,
     free: Vec<bool>,
-    places: BTreeMap<Key, u32, Global>,
+    places: BTreeMap<PlacedKey, u32, Global>,
 ) -> Result<Examined, AllocError>
     requires { IsRuledBy readings.now.geometry readings.now.ruling (image_of (D.state device.now)) }
     ensures layout { IfOk result (λ examined. examined.geometry ≡ readings.now.geometry) }

@@ -13,6 +13,7 @@ use crate::slots::{SlotContent, SlotReading};
 use base::fault::Fault;
 use base::geometry::Geometry;
 use base::key::Key;
+use index::PlacedKey;
 use rayon::join;
 use std::alloc::{AllocError, Global};
 use std::collections::{BTreeMap, BTreeSet};
@@ -26,7 +27,7 @@ pub struct Held {
     /// The others, in their order.
     pub live: Vec<KeptSlot>,
     /// For each key, the place of its slot in `live`.
-    pub places: BTreeMap<Key, u32, Global>,
+    pub places: BTreeMap<PlacedKey, u32, Global>,
 }
 
 // This is decided by what was read of the slots. The lowest bad slot is reported. A slot is bad by itself, or if a lower one has its key:
@@ -91,7 +92,7 @@ fn side_by_side<R: Threads + Sync>(
     rt: &R,
     alloc: Global,
     readings: &[SlotReading],
-) -> Result<(BTreeMap<Key, u32, Global>, Findings), AllocError>
+) -> Result<(BTreeMap<PlacedKey, u32, Global>, Findings), AllocError>
     requires { length readings.now < 2 ^ 32 }
     ensures places { IfOk result (λ made. IsFromIterResult key_cmp (numbered 0 (held_keys readings.now)) made.0) }
     ensures findings { IfOk result (λ made. AreFindings readings.now made.1) }
@@ -100,7 +101,7 @@ fn side_by_side<R: Threads + Sync>(
         let places = places_of(alloc, readings)?;
         return Ok((places, findings_of(alloc, readings)?));
     }
-    let keyed = move || -> Result<BTreeMap<Key, u32, Global>, AllocError>
+    let keyed = move || -> Result<BTreeMap<PlacedKey, u32, Global>, AllocError>
         requires { length readings.now < 2 ^ 32 }
         ensures { IfOk result (λ places. IsFromIterResult key_cmp (numbered 0 (held_keys readings.entry.now)) places) }
     { places_of(alloc, readings) };
@@ -129,16 +130,16 @@ fn findings_of(alloc: Global, readings: &[SlotReading]) -> Result<Findings, Allo
 fn places_of(
     alloc: Global,
     readings: &[SlotReading],
-) -> Result<BTreeMap<Key, u32, Global>, AllocError>
+) -> Result<BTreeMap<PlacedKey, u32, Global>, AllocError>
     requires { length readings.now < 2 ^ 32 }
     ensures { IfOk result (λ places. IsFromIterResult key_cmp (numbered 0 (held_keys readings.now)) places) }
 {
     readings
         .iter()
         .filter_map(
-            |reading: &SlotReading| -> Option<Key>
+            |reading: &SlotReading| -> Option<PlacedKey>
                 ensures { result ≡ held_key reading.now }
-            { reading.key() },
+            { reading.placed_key() },
         )
         .zip(0..readings.len() as u32)
         .collect(alloc)

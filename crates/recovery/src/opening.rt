@@ -24,8 +24,8 @@ use crate::updating::update;
 use base::fault::Fault;
 use base::gap::Gaps;
 use base::geometry::Geometry;
-use base::key::Key;
 use base::longs::Longs;
+use index::PlacedKey;
 use log_area::{Record, write_record};
 use pmem::Pmem;
 use std::alloc::Global;
@@ -117,7 +117,7 @@ pub struct OpenedImage {
     pub next: u64,
     pub free: Vec<bool>,
     /// For each key, the place of its slot among those that aren't free.
-    pub places: BTreeMap<Key, u32, Global>,
+    pub places: BTreeMap<PlacedKey, u32, Global>,
 }
 
 /// The same, for a device that stays where it is, and the slots that aren't free, in their order.

@@ -11,6 +11,7 @@ ghost use Rattle.recovery.specs.declared.slots.SlotContent.{SlotContent as SlotC
 use base::Ts;
 use base::geometry::Geometry;
 use base::key::Key;
+use index::PlacedKey;
 use log_area::Record;
 use pmem::Pmem;
 use rayon::slice::par_chunks_mut_for_each;
@@ -115,11 +116,11 @@ impl SlotReading {
     }
 
     // The key of the live version that is there.
-    pub(crate) fn key(&self) -> Option<Key>
+    pub(crate) fn placed_key(&self) -> Option<PlacedKey>
         ensures { result ≡ held_key self.now }
     {
         match self.content() {
-            SlotContent::Live(key) => Some(key),
+            SlotContent::Live(key) => Some(PlacedKey::of(key)),
             SlotContent::Free | SlotContent::Bad => None,
         }
     }

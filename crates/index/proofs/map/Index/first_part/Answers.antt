@@ -1,4 +1,4 @@
-use Rattle.std.proofs.Common.{◌≡◌, inr, ℕ, ◌≤◌, true, List, ◌++◌, map, Some, None, cond, sym, ◌∙◌, ap, subst}
+use Rattle.std.proofs.Common.{◌≡◌, ◌∷◌, inr, ℕ, ◌≤◌, true, List, ◌++◌, map, Some, None, cond, sym, ◌∙◌, ap, subst}
 use Rattle.std.specs.BTreeMap.{get}
 use Rattle.std.specs.BTreeMap.Range.{entries_between}
 use Rattle.std.specs.declared.ops.Bound.TheVariants.{Included}
@@ -20,9 +20,9 @@ use Rattle.index.proofs.map.Index.first_part.Goals as goal
 pub loop-key-preserved-else-limit-len : goal.loop-key-preserved-else-limit-len
 loop-key-preserved-else-limit-len g c = λ counts tables agree linked shows.
     let image = image_of (g.D.Pmem.state c.args.device.now) in
-    let key = c.in-Some.key.now in
+    let key = c.key-key.result in
     let e : Key × ℕ = (key, c.in-Some.place.now) in
-    let more = rest_more deref_pair c.loop-key.key-iterator c.next.new.self c.next.result _ c.in-Some.is c.next.ensures.steps in
+    let more = rest_more deref_pair c.loop-key.key-iterator c.next.new.self c.next.result _ c.in-Some.is c.next.ensures.steps ∙ (λ i. (sym c.key-key.ensures i, c.in-Some.place.now) ∷ c.next.new.self) in
     let so_far = subst (λ (rest : List (Key × ℕ)). HasUpTo tables c.into_iter-key-iterator.result rest (get key_cmp c.loop-key.rows)) more (c.loop-key.invariant counts tables agree linked shows) in
     let told = c.in-Some-follow.ensures.tables counts tables agree (subst (λ (x : Entry). IsLinked c.args.snapshot.now image key x.newest) (sym c.entry-newest.ensures) (linked key)) shows in
     put-in tables c.into_iter-key-iterator.result e c.next.new.self (get key_cmp c.loop-key.rows) so_far (get key_cmp c.insert.new.self) c.in-Some-follow.found.row (sym told)
@@ -31,9 +31,9 @@ loop-key-preserved-else-limit-len g c = λ counts tables agree linked shows.
 pub loop-key-preserved : goal.loop-key-preserved
 loop-key-preserved g c = λ counts tables agree linked shows.
     let image = image_of (g.D.Pmem.state c.args.device.now) in
-    let key = c.in-Some.key.now in
+    let key = c.key-key.result in
     let e : Key × ℕ = (key, c.in-Some.place.now) in
-    let more = rest_more deref_pair c.loop-key.key-iterator c.next.new.self c.next.result _ c.in-Some.is c.next.ensures.steps in
+    let more = rest_more deref_pair c.loop-key.key-iterator c.next.new.self c.next.result _ c.in-Some.is c.next.ensures.steps ∙ (λ i. (sym c.key-key.ensures i, c.in-Some.place.now) ∷ c.next.new.self) in
     let so_far = subst (λ (rest : List (Key × ℕ)). HasUpTo tables c.into_iter-key-iterator.result rest (get key_cmp c.loop-key.rows)) more (c.loop-key.invariant counts tables agree linked shows) in
     let told = c.in_default.ensures.tables counts tables agree (subst (λ (x : Entry). IsLinked c.args.snapshot.now image key x.newest) (sym c.entry-newest.ensures) (linked key)) shows in
     passed-over tables c.into_iter-key-iterator.result e c.next.new.self (get key_cmp c.loop-key.rows) so_far (sym told)
@@ -41,9 +41,9 @@ loop-key-preserved g c = λ counts tables agree linked shows.
 pub returns-then-limit-len-clause-rows : goal.returns-then-limit-len-clause-rows
 returns-then-limit-len-clause-rows g c = λ counts tables agree linked shows.
     let image = image_of (g.D.Pmem.state c.args.device.now) in
-    let key = c.in-Some.key.now in
+    let key = c.key-key.result in
     let e : Key × ℕ = (key, c.in-Some.place.now) in
-    let more = rest_more deref_pair c.loop-key.key-iterator c.next.new.self c.next.result _ c.in-Some.is c.next.ensures.steps in
+    let more = rest_more deref_pair c.loop-key.key-iterator c.next.new.self c.next.result _ c.in-Some.is c.next.ensures.steps ∙ (λ i. (sym c.key-key.ensures i, c.in-Some.place.now) ∷ c.next.new.self) in
     let so_far = subst (λ (rest : List (Key × ℕ)). HasUpTo tables c.into_iter-key-iterator.result rest (get key_cmp c.loop-key.rows)) more (c.loop-key.invariant counts tables agree linked shows) in
     let told = c.in-Some-follow.ensures.tables counts tables agree (subst (λ (x : Entry). IsLinked c.args.snapshot.now image key x.newest) (sym c.entry-newest.ensures) (linked key)) shows in
     let rows = rows-to tables c.into_iter-key-iterator.result e c.next.new.self (get key_cmp c.loop-key.rows) so_far (get key_cmp c.insert.new.self) c.in-Some-follow.found.row (sym told)
@@ -63,9 +63,9 @@ returns-then-limit-len-clause-reached g c =
     let between : c.into_iter-key-iterator.result ≡ entries_between key_cmp (Included c.args.first) (Included c.args.last) places =
     c.into_iter-key-iterator.ensures.into_iter_gives ∙ rw c.bounds.ensures at (c.range-key-items.ensures.between tt) in
     let so_far = rest_so_far deref_pair c.loop-key.yielded c.into_iter-key-iterator.result c.loop-key.key-iterator c.loop-key.yielded_by in
-    let more = rest_more deref_pair c.loop-key.key-iterator c.next.new.self c.next.result _ c.in-Some.is c.next.ensures.steps in
+    let more = rest_more deref_pair c.loop-key.key-iterator c.next.new.self c.next.result _ c.in-Some.is c.next.ensures.steps ∙ (λ i. (sym c.key-key.ensures i, c.in-Some.place.now) ∷ c.next.new.self) in
     inr (
-      entry-within c.args.first c.args.last places c.into_iter-key-iterator.result between (map deref_pair c.loop-key.yielded) (c.in-Some.key.now, c.in-Some.place.now) c.next.new.self
+      entry-within c.args.first c.args.last places c.into_iter-key-iterator.result between (map deref_pair c.loop-key.yielded) (c.key-key.result, c.in-Some.place.now) c.next.new.self
           (so_far ∙ ap (λ (rest : List (Key × ℕ)). map deref_pair c.loop-key.yielded ++ rest) more),
       subst (λ (n : ℕ). c.args.limit ≤ n) c.len.ensures.len c.if-limit-len.true,
     )

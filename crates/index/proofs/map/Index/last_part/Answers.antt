@@ -1,4 +1,4 @@
-use Rattle.std.proofs.Common.{◌≡◌, inr, ℕ, ◌≤◌, true, List, [], ◌∷◌, ◌++◌, append_assoc, append-nil, Some, None, cond, sym, ◌∙◌, ap, subst}
+use Rattle.std.proofs.Common.{◌≡◌, ◌∷◌, inr, ℕ, ◌≤◌, true, List, [], ◌∷◌, ◌++◌, append_assoc, append-nil, Some, None, cond, sym, ◌∙◌, ap, subst}
 use Rattle.std.specs.BTreeMap.{get, is_at}
 use Rattle.std.specs.Map.{lookup}
 use Rattle.std.specs.BTreeMap.Range.{entries_between}
@@ -26,16 +26,16 @@ loop-key-init g c = record {
 
 pub loop-key-preserved-else-limit-len : goal.loop-key-preserved-else-limit-len
 loop-key-preserved-else-limit-len g c =
-    let more = last_more deref_pair (rev_source c.loop-key.key-iterator) (rev_source c.next.new.self) c.next.result _ c.in-Some.is c.next.ensures.steps in
+    let more = last_more deref_pair (rev_source c.loop-key.key-iterator) (rev_source c.next.new.self) c.next.result _ c.in-Some.is c.next.ensures.steps ∙ (λ i. rev_source c.next.new.self ++ (sym c.key-key.ensures i, c.in-Some.place.now) ∷ []) in
     let so_far = c.loop-key.invariant.split in
-    let e : Key × ℕ = (c.in-Some.key.now, c.in-Some.place.now) in
+    let e : Key × ℕ = (c.key-key.result, c.in-Some.place.now) in
     record {
       split = (e ∷ so_far.0, so_far.1 ∙ (ap (λ (rest : List (Key × ℕ)). rest ++ so_far.0) more ∙ append_assoc (rev_source c.next.new.self) (e ∷ []) so_far.0));
       rows = λ counts tables agree linked shows.
           let image = image_of (g.D.Pmem.state c.args.device.now) in
-          let key = c.in-Some.key.now in
+          let key = c.key-key.result in
           let e : Key × ℕ = (key, c.in-Some.place.now) in
-          let more = last_more deref_pair (rev_source c.loop-key.key-iterator) (rev_source c.next.new.self) c.next.result _ c.in-Some.is c.next.ensures.steps in
+          let more = last_more deref_pair (rev_source c.loop-key.key-iterator) (rev_source c.next.new.self) c.next.result _ c.in-Some.is c.next.ensures.steps ∙ (λ i. rev_source c.next.new.self ++ (sym c.key-key.ensures i, c.in-Some.place.now) ∷ []) in
           let so_far = subst (λ (rest : List (Key × ℕ)). HasDownTo tables (rev_source c.into_iter-key-iterator.result) rest (get key_cmp c.loop-key.rows)) more (c.loop-key.invariant.rows counts tables agree linked shows) in
           let told = c.in-Some-follow.ensures.tables counts tables agree (subst (λ (x : Entry). IsLinked c.args.snapshot.now image key x.newest) (sym c.entry-newest.ensures) (linked key)) shows in
           put-down tables (rev_source c.into_iter-key-iterator.result) (rev_source c.next.new.self) e (get key_cmp c.loop-key.rows) so_far (get key_cmp c.insert.new.self) c.in-Some-follow.found.row (sym told)
@@ -44,16 +44,16 @@ loop-key-preserved-else-limit-len g c =
 
 pub loop-key-preserved : goal.loop-key-preserved
 loop-key-preserved g c =
-    let more = last_more deref_pair (rev_source c.loop-key.key-iterator) (rev_source c.next.new.self) c.next.result _ c.in-Some.is c.next.ensures.steps in
+    let more = last_more deref_pair (rev_source c.loop-key.key-iterator) (rev_source c.next.new.self) c.next.result _ c.in-Some.is c.next.ensures.steps ∙ (λ i. rev_source c.next.new.self ++ (sym c.key-key.ensures i, c.in-Some.place.now) ∷ []) in
     let so_far = c.loop-key.invariant.split in
-    let e : Key × ℕ = (c.in-Some.key.now, c.in-Some.place.now) in
+    let e : Key × ℕ = (c.key-key.result, c.in-Some.place.now) in
     record {
       split = (e ∷ so_far.0, so_far.1 ∙ (ap (λ (rest : List (Key × ℕ)). rest ++ so_far.0) more ∙ append_assoc (rev_source c.next.new.self) (e ∷ []) so_far.0));
       rows = λ counts tables agree linked shows.
           let image = image_of (g.D.Pmem.state c.args.device.now) in
-          let key = c.in-Some.key.now in
+          let key = c.key-key.result in
           let e : Key × ℕ = (key, c.in-Some.place.now) in
-          let more = last_more deref_pair (rev_source c.loop-key.key-iterator) (rev_source c.next.new.self) c.next.result _ c.in-Some.is c.next.ensures.steps in
+          let more = last_more deref_pair (rev_source c.loop-key.key-iterator) (rev_source c.next.new.self) c.next.result _ c.in-Some.is c.next.ensures.steps ∙ (λ i. rev_source c.next.new.self ++ (sym c.key-key.ensures i, c.in-Some.place.now) ∷ []) in
           let so_far = subst (λ (rest : List (Key × ℕ)). HasDownTo tables (rev_source c.into_iter-key-iterator.result) rest (get key_cmp c.loop-key.rows)) more (c.loop-key.invariant.rows counts tables agree linked shows) in
           let told = c.in_default.ensures.tables counts tables agree (subst (λ (x : Entry). IsLinked c.args.snapshot.now image key x.newest) (sym c.entry-newest.ensures) (linked key)) shows in
           passed-down tables (rev_source c.into_iter-key-iterator.result) (rev_source c.next.new.self) e (get key_cmp c.loop-key.rows) so_far (sym told);
@@ -62,9 +62,9 @@ loop-key-preserved g c =
 pub returns-then-limit-len-clause-rows : goal.returns-then-limit-len-clause-rows
 returns-then-limit-len-clause-rows g c = λ counts tables agree linked shows.
     let image = image_of (g.D.Pmem.state c.args.device.now) in
-    let key = c.in-Some.key.now in
+    let key = c.key-key.result in
     let e : Key × ℕ = (key, c.in-Some.place.now) in
-    let more = last_more deref_pair (rev_source c.loop-key.key-iterator) (rev_source c.next.new.self) c.next.result _ c.in-Some.is c.next.ensures.steps in
+    let more = last_more deref_pair (rev_source c.loop-key.key-iterator) (rev_source c.next.new.self) c.next.result _ c.in-Some.is c.next.ensures.steps ∙ (λ i. rev_source c.next.new.self ++ (sym c.key-key.ensures i, c.in-Some.place.now) ∷ []) in
     let so_far = subst (λ (rest : List (Key × ℕ)). HasDownTo tables (rev_source c.into_iter-key-iterator.result) rest (get key_cmp c.loop-key.rows)) more (c.loop-key.invariant.rows counts tables agree linked shows) in
     let told = c.in-Some-follow.ensures.tables counts tables agree (subst (λ (x : Entry). IsLinked c.args.snapshot.now image key x.newest) (sym c.entry-newest.ensures) (linked key)) shows in
     let rows = rows-from tables (rev_source c.into_iter-key-iterator.result) (rev_source c.next.new.self) e (get key_cmp c.loop-key.rows) so_far (get key_cmp c.insert.new.self) c.in-Some-follow.found.row (sym told)
@@ -80,9 +80,9 @@ returns-then-limit-len-clause-rows g c = λ counts tables agree linked shows.
 
 pub returns-then-limit-len-clause-reached : goal.returns-then-limit-len-clause-reached
 returns-then-limit-len-clause-reached g c =
-    let more = last_more deref_pair (rev_source c.loop-key.key-iterator) (rev_source c.next.new.self) c.next.result _ c.in-Some.is c.next.ensures.steps in
+    let more = last_more deref_pair (rev_source c.loop-key.key-iterator) (rev_source c.next.new.self) c.next.result _ c.in-Some.is c.next.ensures.steps ∙ (λ i. rev_source c.next.new.self ++ (sym c.key-key.ensures i, c.in-Some.place.now) ∷ []) in
     let so_far = c.loop-key.invariant.split in
-    let e : Key × ℕ = (c.in-Some.key.now, c.in-Some.place.now) in
+    let e : Key × ℕ = (c.key-key.result, c.in-Some.place.now) in
     let places = c.self.inside.places.entries in
     let between : rev_source c.into_iter-key-iterator.result ≡ entries_between key_cmp (Included c.args.first) (Included c.args.last) places =
     ap rev_source c.into_iter-key-iterator.ensures.into_iter_gives ∙ (c.rev-key-items.ensures.source ∙ rw c.bounds.ensures at (c.range.ensures.between tt)) in

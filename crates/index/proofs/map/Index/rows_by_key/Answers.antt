@@ -1,4 +1,4 @@
-use Rattle.std.proofs.Common.{◌≡◌, ℕ, List, Some, None, cond, sym, ◌∙◌, ap, subst}
+use Rattle.std.proofs.Common.{◌≡◌, ◌∷◌, ℕ, List, Some, None, cond, sym, ◌∙◌, ap, subst}
 use Rattle.std.specs.BTreeMap.{get}
 use Rattle.std.specs.BTreeMap.Range.{entries_between}
 use Rattle.std.specs.Map.Iter.{deref_pair}
@@ -18,9 +18,9 @@ use Rattle.index.proofs.map.Index.rows_by_key.Goals as goal
 pub loop-key-preserved-in-Ok-1 : goal.loop-key-preserved-in-Ok-1
 loop-key-preserved-in-Ok-1 g c = λ counts tables agree linked shows.
     let image = image_of (g.D.Pmem.state c.args.device.now) in
-    let key = c.in-Some.key.now in
+    let key = c.key-key.result in
     let e : Key × ℕ = (key, c.in-Some.place.now) in
-    let more = rest_more deref_pair c.loop-key.key-iterator c.next.new.self c.next.result _ c.in-Some.is c.next.ensures.steps in
+    let more = rest_more deref_pair c.loop-key.key-iterator c.next.new.self c.next.result _ c.in-Some.is c.next.ensures.steps ∙ (λ i. (sym c.key-key.ensures i, c.in-Some.place.now) ∷ c.next.new.self) in
     let so_far = subst (λ (rest : List (Key × ℕ)). HasUpTo tables c.into_iter-key-iterator.result rest (get key_cmp c.loop-key.seen)) more (c.loop-key.invariant counts tables agree linked shows) in
     let told = c.in-Some-follow.ensures.tables counts tables agree (subst (λ (x : Entry). IsLinked c.args.snapshot.now image key x.newest) (sym c.entry-newest.ensures) (linked key)) shows in
     put-in tables c.into_iter-key-iterator.result e c.next.new.self (get key_cmp c.loop-key.seen) so_far (get key_cmp c.insert.new.self) c.in-Some-follow.found.row (sym told)
@@ -29,9 +29,9 @@ loop-key-preserved-in-Ok-1 g c = λ counts tables agree linked shows.
 pub loop-key-preserved : goal.loop-key-preserved
 loop-key-preserved g c = λ counts tables agree linked shows.
     let image = image_of (g.D.Pmem.state c.args.device.now) in
-    let key = c.in-Some.key.now in
+    let key = c.key-key.result in
     let e : Key × ℕ = (key, c.in-Some.place.now) in
-    let more = rest_more deref_pair c.loop-key.key-iterator c.next.new.self c.next.result _ c.in-Some.is c.next.ensures.steps in
+    let more = rest_more deref_pair c.loop-key.key-iterator c.next.new.self c.next.result _ c.in-Some.is c.next.ensures.steps ∙ (λ i. (sym c.key-key.ensures i, c.in-Some.place.now) ∷ c.next.new.self) in
     let so_far = subst (λ (rest : List (Key × ℕ)). HasUpTo tables c.into_iter-key-iterator.result rest (get key_cmp c.loop-key.seen)) more (c.loop-key.invariant counts tables agree linked shows) in
     let told = c.in_default.ensures.tables counts tables agree (subst (λ (x : Entry). IsLinked c.args.snapshot.now image key x.newest) (sym c.entry-newest.ensures) (linked key)) shows in
     passed-over tables c.into_iter-key-iterator.result e c.next.new.self (get key_cmp c.loop-key.seen) so_far (sym told)
