@@ -338,8 +338,6 @@ impl Index {
         ts: Ts,
     ) -> Option<SlotNo>
         requires room { IsTrue (has_room self.old key) }
-
-        // There are never as many slots.
         requires slot { IsTrue (is_kept slot) }
         ensures live { result ≡ live_of (entry_at self.old key) }
 
