@@ -1,5 +1,6 @@
 pub mod Replies
 pub mod Histories
+pub mod SmallSteps
 pub mod Opening
 pub mod Ended
 pub mod Obeys

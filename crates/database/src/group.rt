@@ -22,6 +22,8 @@ fn place_of(session: u8) -> usize
 pub struct Group {
     // The place where each session waits for its reply, unless it leads.
     places: [Option<usize>; 64],
+    // How many of them wait there.
+    followers: u64,
 
     count: u64,
     // How many commits got a reply whose threads haven't come back.
@@ -37,6 +39,7 @@ impl Group {
     pub fn new() -> Group {
         Group {
             places: [None; 64],
+            followers: 0,
             count: 0,
             answered: 0,
             lingering: 0,
@@ -58,6 +61,12 @@ impl Group {
     /// This session waits at this place for its reply.
     pub fn follow(&mut self, session: u8, place: usize) {
         self.places[place_of(session)] = Some(place);
+        self.followers = self.followers.saturating_add(1);
+    }
+
+    /// Whether a session waits for its reply that doesn't lead.
+    pub fn has_followers(&self) -> bool {
+        self.followers > 0
     }
 
     /// The place where the session waits for its reply.
@@ -67,7 +76,9 @@ impl Group {
 
     /// The session got its reply.
     pub fn leave(&mut self, session: u8) {
-        self.places[place_of(session)] = None;
+        if self.places[place_of(session)].take().is_some() {
+            self.followers = self.followers.saturating_sub(1);
+        }
         self.count = self.count.saturating_sub(1);
         self.answered = self.answered.saturating_add(1);
     }

@@ -77,7 +77,7 @@ impl<D: Pmem + Drop, J: Origin> OpenedRoom<D, J> {
     {
         let returned = self.room.advance();
         self.ended = ended_by(&returned, self.ended);
-        note_tick(&mut self.log, &returned);
+        note(&mut self.log, &returned, SmallStep::Commit);
         returned
     }
 
@@ -90,7 +90,7 @@ impl<D: Pmem + Drop, J: Origin> OpenedRoom<D, J> {
         ensures log { LogsQuiet self.old.log self.new.log }
     {
         let returned = self.room.collect();
-        note_visit(&mut self.log, &returned);
+        note(&mut self.log, &returned, SmallStep::Collect);
         returned
     }
 
@@ -178,34 +178,45 @@ ghost use Rattle.std.specs.Prelude.{◌≡◌, ◌≢◌, ◌⊎◌, ◌∷◌, 
 ghost use Rattle.base.specs.declared.fault.Fault.TheVariants.{OutOfMemory};
 ghost use Rattle.base.specs.declared.step.Step.TheVariants.{Commit, Collect, Put};
 ghost use Rattle.database.specs.Histories.{Logs, made_if};
+ghost use Rattle.database.specs.SmallSteps.{whole_step};
+
+/// A step that has no row. A `Step` has room for one, so it is made only if a history is kept.
+#[derive(Clone, Copy)]
+pub enum SmallStep {
+    Begin,
+    Delete(u8, Key),
+    Draw(u8),
+    Stamp(u8),
+    Abort(u8),
+    End(u8),
+    Commit,
+    Collect,
+}
+
+impl SmallStep {
+    fn step(self) -> Step
+        ensures { result ≡ whole_step self }
+    {
+        match self {
+            SmallStep::Begin => Step::Begin,
+            SmallStep::Delete(session, key) => Step::Delete { session, key },
+            SmallStep::Draw(session) => Step::Draw { session },
+            SmallStep::Stamp(session) => Step::Stamp { session },
+            SmallStep::Abort(session) => Step::Abort { session },
+            SmallStep::End(session) => Step::End { session },
+            SmallStep::Commit => Step::Commit,
+            SmallStep::Collect => Step::Collect,
+        }
+    }
+}
 
 /// Adds a step to the history if it was made, and if one is kept.
 #[inline(always)]
-pub fn note<J: Origin, T>(log: &mut Option<Log<J>>, returned: &Result<T, Fault>, step: &Step)
-    ensures { Logs (made_if (is_ok returned.now) step.now) log.old log.new }
+pub fn note<J: Origin, T>(log: &mut Option<Log<J>>, returned: &Result<T, Fault>, step: SmallStep)
+    ensures { Logs (made_if (is_ok returned.now) (whole_step step)) log.old log.new }
 {
-    if returned.is_ok() {
-        add(log, step);
-    }
-}
-
-// Adds a tick, likewise. Most steps are ticks, and a step has room for a row: it is made only if a history is kept.
-#[inline(always)]
-fn note_tick<J: Origin>(log: &mut Option<Log<J>>, returned: &Result<Tick, Fault>)
-    ensures { Logs (made_if (is_ok returned.now) Commit) log.old log.new }
-{
-    if log.is_some() {
-        note(log, returned, &Step::Commit);
-    }
-}
-
-// Adds a visit of the collector, likewise.
-#[inline(always)]
-fn note_visit<J: Origin>(log: &mut Option<Log<J>>, returned: &Result<Visit, Fault>)
-    ensures { Logs (made_if (is_ok returned.now) Collect) log.old log.new }
-{
-    if log.is_some() {
-        note(log, returned, &Step::Collect);
+    if log.is_some() && returned.is_ok() {
+        add(log, &step.step());
     }
 }
 
@@ -220,9 +231,9 @@ pub fn note_put<J: Origin>(
 )
     ensures { Logs (made_if (is_ok returned.now) (Put session key row.now)) log.old log.new }
 {
-    if log.is_some() {
+    if log.is_some() && returned.is_ok() {
         let row = *row;
-        note(log, returned, &Step::Put { session, key, row });
+        add(log, &Step::Put { session, key, row });
     }
 }
 

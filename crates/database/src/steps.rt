@@ -10,13 +10,12 @@ ghost use Rattle.database.specs.Replies.{began_of, row_of, rows_of, done_of, dra
 ghost use Rattle.database.specs.Obeys.{Obeys, RepeatsTimes};
 ghost use Rattle.database.specs.Histories.{Logs, LogsQuiet, made_if, DrewNext, TookFree};
 
-use crate::opened::{OpenedRoom, note, note_put};
+use crate::opened::{OpenedRoom, SmallStep, note, note_put};
 use base::Ts;
 use base::fault::Fault;
 use base::key::Key;
 use base::row::Row;
 use base::rows::Rows;
-use base::step::Step;
 use history::Origin;
 use pmem::Pmem;
 use room::CommitStatus;
@@ -29,7 +28,7 @@ pub fn begin<D: Pmem + Drop, J: Origin>(room: &mut OpenedRoom<D, J>) -> Result<u
     ensures free { TookFree J.opened room.old.log result }
 {
     let returned = room.room.begin();
-    note(&mut room.log, &returned, &Step::Begin);
+    note(&mut room.log, &returned, SmallStep::Begin);
     returned
 }
 
@@ -88,7 +87,7 @@ pub fn delete<D: Pmem + Drop, J: Origin>(
     ensures log { Logs (made_if (is_ok result) (Delete session key)) room.old.log room.new.log }
 {
     let returned = room.room.delete(session, key);
-    note(&mut room.log, &returned, &Step::Delete { session, key });
+    note(&mut room.log, &returned, SmallStep::Delete(session, key));
     returned
 }
 
@@ -103,7 +102,7 @@ pub fn draw<D: Pmem + Drop, J: Origin>(
     ensures next { DrewNext J.opened room.old.log result }
 {
     let returned = room.room.draw(session);
-    note(&mut room.log, &returned, &Step::Draw { session });
+    note(&mut room.log, &returned, SmallStep::Draw(session));
     returned
 }
 
@@ -117,7 +116,7 @@ pub fn stamp<D: Pmem + Drop, J: Origin>(
     ensures log { Logs (made_if (is_ok result) (Stamp session)) room.old.log room.new.log }
 {
     let returned = room.room.stamp(session);
-    note(&mut room.log, &returned, &Step::Stamp { session });
+    note(&mut room.log, &returned, SmallStep::Stamp(session));
     returned
 }
 
@@ -155,7 +154,7 @@ pub fn abort<D: Pmem + Drop, J: Origin>(
     ensures log { Logs (made_if (is_ok result) (Abort session)) room.old.log room.new.log }
 {
     let returned = room.room.abort(session);
-    note(&mut room.log, &returned, &Step::Abort { session });
+    note(&mut room.log, &returned, SmallStep::Abort(session));
     returned
 }
 
@@ -166,7 +165,7 @@ pub fn end<D: Pmem + Drop, J: Origin>(room: &mut OpenedRoom<D, J>, session: u8) 
     ensures log { Logs (made_if (is_ok result) (End session)) room.old.log room.new.log }
 {
     let returned = room.room.end(session);
-    note(&mut room.log, &returned, &Step::End { session });
+    note(&mut room.log, &returned, SmallStep::End(session));
     returned
 }
 

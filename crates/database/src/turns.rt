@@ -184,7 +184,9 @@ impl<D: Pmem + Drop, J: Origin> Shared<D, J> {
         if !turn.is_news() {
             return;
         }
-        locked.answer_all(&mut self.enter_answers(rt));
+        if locked.group.has_followers() {
+            locked.answer_all(&mut self.enter_answers(rt));
+        }
         self.moved.notify_all();
         if locked.is_round_due() && !locked.syncs_apart {
             self.rounds.notify_all();

@@ -12,7 +12,7 @@ pub invariant_of-self : goal.invariant_of-self
 invariant_of-self g c = record {
   run = run-ticked g.D.Pmem.state c.args.self.now.room c.advance-returned.new.self c.advance-returned.result (covered_by c.advance-returned.new.self) c.ended_by-self.result c.args.self.now.run c.advance-returned.ensures.step
       c.ended_by-self.ensures.either;
-  logged = logged-led g.D.Pmem.state g.J.Origin.opened c.args.self.now.room c.advance-returned.new.self Commit (ticked c.advance-returned.result (covered_by c.advance-returned.new.self)) (made_if (is_ok c.advance-returned.result) Commit) c.args.self.now.log c.note_tick.new.log c.args.self.now.logged c.advance-returned.ensures.step c.note_tick.ensures (made-ticked c.advance-returned.result (covered_by c.advance-returned.new.self));
+  logged = logged-led g.D.Pmem.state g.J.Origin.opened c.args.self.now.room c.advance-returned.new.self Commit (ticked c.advance-returned.result (covered_by c.advance-returned.new.self)) (made_if (is_ok c.advance-returned.result) Commit) c.args.self.now.log c.note.new.log c.args.self.now.logged c.advance-returned.ensures.step c.note.ensures (made-ticked c.advance-returned.result (covered_by c.advance-returned.new.self));
 }
 
 pub returns-clause-covers : goal.returns-clause-covers
