@@ -84,7 +84,7 @@ fn slot_of(number: u32) -> Option<SlotNo>
     }
 }
 
-/// A number in two halves, so that what holds it needn't stand at a multiple of eight bytes.
+/// A number in two halves, so that a struct that has it begins at a multiple of four bytes, and isn't padded to eight.
 #[derive(Clone, Copy)]
 pub(crate) struct Halves {
     low: u32,

@@ -9,7 +9,7 @@ use base::key::Key;
 use std::cmp::Ordering;
 use std::marker::Model;
 
-/// A key in as little memory as possible, for the map of the places of entries. Ordered as keys are.
+/// A key in as little memory as possible, for the map of the places of entries. It is ordered as keys are.
 #[derive(Drop)]
 pub struct PlacedKey {
     number: Halves,
