@@ -1,4 +1,8 @@
 //! Walks over links that form a ring, and over one that leads to another key.
+
+ghost use Rattle.std.specs.Prelude.{IsTrue, Some};
+ghost use Rattle.index.specs.Keyed.{is_kept};
+
 use crate::fixture::changed_words;
 use base::fault::Fault;
 use base::geometry::Geometry;
@@ -18,7 +22,9 @@ fn walked(
     words: &[u64; 104],
     newest: u64,
     persisted: u64,
-) -> Result<Option<u8>, Fault> {
+) -> Result<Option<u8>, Fault>
+    requires { IsTrue (is_kept (Some newest)) }
+{
     let geometry = Geometry::new(4, 2, 8)?;
     if geometry.words() != 104 {
         return Err(Fault::BadGeometry);
