@@ -17,11 +17,12 @@ use Rattle.log_area.specs.Rulings.{HoldsRecord}
 use Rattle.log_area.specs.Writings.{IsOutside, begun, record_operations}
 use Rattle.recovery.specs.Gaps.{few_gaps}
 use Rattle.recovery.specs.Slots.{free_below}
-use Rattle.recovery.specs.Live.{live_below}
+use Rattle.recovery.specs.Live.{live_below, opened_slot}
 use Rattle.recovery.specs.Held.{HavePlaces}
 use Rattle.recovery.specs.Sweeping.{AreHits, is_hit, whole_sweep}
 use Rattle.recovery.specs.declared.examining.Examined.{Examined as ExaminedValue}
 use Rattle.recovery.specs.declared.rows.LiveSlot.{LiveSlot}
+use Rattle.recovery.specs.declared.rows.OpenedSlot.{OpenedSlot}
 
 -- the words after the log area are the same
 pub record HasSlotsOf (before image : Image) : Type 0 where
@@ -123,6 +124,10 @@ pub record HasOpened (old new : Device) (layout : Layout) (r : Record) (next : �
   pub superblock : (word : ℕ) → word < 8 → IsSettledAt new word (slice_index (updated (image_of old)) word)
   pub slots : (word : ℕ) → 8 + 32 * layout.places ≤ word → word < old.words → IsSettledAt new word (slice_index (opened_slots (image_of old)) word)
   pub made : MakesOpening (image_of old) old new
+
+-- the same, and each live slot is listed with its begin
+abbrev pub HasOpenedWith : Device → Device → Layout → Record → ℕ → List Bool → List OpenedSlot → Type 0
+HasOpenedWith old new layout r next free slots = (live : List LiveSlot) × HasOpened old new layout r next free live × (slots ≡ map (opened_slot (image_of old)) live)
 
 -- all of them together
 abbrev pub total : Counts → ℕ

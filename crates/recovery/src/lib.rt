@@ -19,7 +19,7 @@ mod updating;
 
 pub use examining::{Examined, Found, Readings, examine, read};
 pub use formatting::{format, format_new};
-pub use opening::{Opened, OpenedImage, open, open_device};
+pub use opening::{Opened, OpenedImage, open};
 pub use reading::{ImageContents, read_image};
-pub use rows::{KeptSlot, LiveSlot};
+pub use rows::{KeptSlot, LiveSlot, OpenedSlot};
 pub use slots::{SlotContent, SlotReading};

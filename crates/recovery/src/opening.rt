@@ -11,14 +11,13 @@ ghost use Rattle.machine.specs.Openings.{StandsOpening, gaps_kept, opening_recor
 ghost use Rattle.pmem.specs.Trace.{Runs, StopsWithin};
 ghost use Rattle.pmem.specs.Words.{LeavesOnly, IsAtRest, image_of};
 ghost use Rattle.recovery.specs.Gaps.{few_gaps};
-ghost use Rattle.recovery.specs.Held.{HavePlaces};
 ghost use Rattle.recovery.specs.Sweeping.{AreHits};
-ghost use Rattle.recovery.specs.Opened.{Examined as IsExaminedAs, HasOpened, IsCutShort, IsRefusal, IsUpdatedFirst, gap_operations, today_operations};
+ghost use Rattle.recovery.specs.Opened.{Examined as IsExaminedAs, HasOpened, HasOpenedWith, IsCutShort, IsRefusal, IsUpdatedFirst, gap_operations, today_operations};
 ghost use Rattle.recovery.specs.Read.{ReportsLogFault};
 ghost use Rattle.recovery.specs.declared.rows.LiveSlot.{LiveSlot};
 
 use crate::examining::{Examined, Found, examine};
-use crate::rows::KeptSlot;
+use crate::rows::{OpenedSlot, with_begins};
 use crate::sweeping::sweep;
 use crate::updating::update;
 use base::fault::Fault;
@@ -44,7 +43,7 @@ pub struct Opened<D: Pmem> {
     /// Whether each slot is free.
     pub free: Vec<bool>,
     /// The slots that aren't free, in their order.
-    pub live: Vec<KeptSlot>,
+    pub live: Vec<OpenedSlot>,
 }
 
 /// Opens a device at rest, and returns it if opening is refused. More than eight gaps are swept before the record is
@@ -58,12 +57,12 @@ pub fn open<R: Threads + Sync, D: Pmem + Drop + Send + Sync>(
 
     // The image has no fault that opening reports. The record is the next one: persisted is one below the old dirty timestamp,
     // dirty a window above the old dirty timestamp. It has the joined gaps, or none if there are more than eight. The next
-    // timestamp is the old dirty one. The slots that aren't live are free, and of each live one its key is
+    // timestamp is the old dirty one. The slots that aren't live are free, and of each live one its key and its begin are
     // returned. That record alone rules. The superblock is settled as it was, and so is each slot, except that if gaps are swept,
     // each begin and end that is in a gap is settled at 0. As many stores, flushes and fences were made as `opening_counts` says.
     // Without a sweep these are 32, 5 and 2. With one there are as many more stores and flushes as words and lines are swept, and
     // 3 fences. No other word outside the record's place is stored.
-    ensures ok { IfOk result (λ opened. HasOpened (D.state device) (D.state opened.device) opened.geometry opened.ruling opened.next opened.free.items opened.live.items) }
+    ensures ok { IfOk result (λ opened. HasOpenedWith (D.state device) (D.state opened.device) opened.geometry opened.ruling opened.next opened.free.items opened.live.items) }
 
     // At Err it is the first fault in the stated order, or OutOfMemory, and the device is as it was. Or it is Device: there is no
     // such fault, the failure count rose, and fewer operations were made than opening makes.
@@ -120,17 +119,14 @@ pub struct OpenedImage {
     pub places: BTreeMap<PlacedKey, u32, Global>,
 }
 
-/// The same, for a device that stays where it is, and the slots that aren't free, in their order.
-pub fn open_device<R: Threads + Sync, D: Pmem + Sync>(
+// The same, for a device that stays where it is. All memory is taken before the device is changed.
+fn open_device<R: Threads + Sync, D: Pmem + Sync>(
     rt: &R,
     alloc: Global,
     device: &mut D,
-) -> Result<(OpenedImage, Vec<KeptSlot>), Fault>
+) -> Result<(OpenedImage, Vec<OpenedSlot>), Fault>
     requires { IsAtRest (D.state device.old) }
-
-    // As for `open`, and each key of a live slot has this place.
-    ensures ok { IfOk result (λ life. HasOpened (D.state device.old) (D.state device.new) life.0.geometry life.0.ruling life.0.next life.0.free.items life.1.items) }
-    ensures places { IfOk result (λ life. HavePlaces life.1.items life.0.places.entries) }
+    ensures ok { IfOk result (λ opened. HasOpenedWith (D.state device.old) (D.state device.new) opened.0.geometry opened.0.ruling opened.0.next opened.0.free.items opened.1.items) }
     ensures fault { IfErr result (IsRefusal (opening_fault (image_of (D.state device.old))) (D.state device.old) (D.state device.new)) }
     ensures log { IfErr result (ReportsLogFault (image_of (D.state device.old))) }
     ensures images { (history drawn : List Commit) (next : ℕ) → Stands (image_of (D.state device.old)) history drawn next
@@ -142,6 +138,9 @@ pub fn open_device<R: Threads + Sync, D: Pmem + Sync>(
         Err(fault) => return Err(fault),
     };
     let Found { examined, live } = found;
+    let Ok(live) = with_begins(alloc, device, examined.geometry, live.as_slice()) else {
+        return Err(Fault::OutOfMemory);
+    };
     match examined.open(device) {
         Ok(life) => Ok((life, live)),
         Err(fault) => Err(fault),

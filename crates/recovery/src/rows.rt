@@ -1,15 +1,17 @@
 //! Opening needs only the key and the number of a slot. Rows are read only to print an image.
 
 ghost use Rattle.std.specs.Prelude.{◌≡◌, ◌<◌, ◌^◌, length, map, IfOk};
-ghost use Rattle.base.specs.Images.{Image, layout_of};
+ghost use Rattle.base.specs.Images.{Image, IsRuledBy, layout_of};
 ghost use Rattle.base.specs.Layout.{total_words};
+ghost use Rattle.base.specs.Records.{Record};
 ghost use Rattle.pmem.specs.Words.{image_of};
 ghost use Rattle.recovery.specs.Slots.{AreReadings, bad_below};
 ghost use Rattle.recovery.specs.Read.{rows_below};
 ghost use Rattle.recovery.specs.Held.{HasEach, held_keys};
-ghost use Rattle.recovery.specs.Live.{live_below};
+ghost use Rattle.recovery.specs.Live.{live_below, opened_slot};
 
 use crate::slots::{SlotContent, SlotReading};
+use base::Ts;
 use base::geometry::Geometry;
 use base::key::Key;
 use base::row::Row;
@@ -87,6 +89,45 @@ pub fn live_slots(alloc: Global, readings: &[SlotReading]) -> Result<Vec<KeptSlo
         }
     }
     Ok(live)
+}
+
+/// A live slot of a device that was opened: its version's key, its number, and the timestamp in its begin.
+#[derive(Clone, Copy, Debug, PartialEq, Eq)]
+pub struct OpenedSlot {
+    pub key: Key,
+    pub slot: u64,
+    pub begin: Ts,
+}
+
+// These slots, each with its begin. A room needs none, so they are read here once more.
+pub fn with_begins<D: Pmem>(
+    alloc: Global,
+    device: &D,
+    geometry: Geometry,
+    live: &[KeptSlot],
+) -> Result<Vec<OpenedSlot>, AllocError>
+    requires rules { (ruling : Record) × IsRuledBy geometry ruling (image_of (D.state device.now)) }
+    requires live { live.now ≡ live_below (image_of (D.state device.now)) geometry.slots }
+    ensures { IfOk result (λ opened. opened.items ≡ map (opened_slot (image_of (D.state device.now))) live.now) }
+{
+    let mut opened = Vec::with_capacity(alloc, live.len())?;
+    for kept in live {
+        opened.push(with_begin(device, geometry, kept.live()))?;
+    }
+    Ok(opened)
+}
+
+// The slot with its begin.
+fn with_begin<D: Pmem>(device: &D, geometry: Geometry, live: LiveSlot) -> OpenedSlot
+    requires rules { (ruling : Record) × IsRuledBy geometry ruling (image_of (D.state device.now)) }
+    requires slot { live.slot < geometry.slots }
+    ensures { result ≡ opened_slot (image_of (D.state device.now)) live }
+{
+    OpenedSlot {
+        key: live.key,
+        slot: live.slot,
+        begin: version_slot::begin(device, geometry, live.slot),
+    }
 }
 
 // The keys and rows of the live versions, in order of the slots.

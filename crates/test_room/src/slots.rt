@@ -12,7 +12,7 @@ use base::key::Key;
 use base::step::Step;
 use pmem::Pmem;
 use pmem_model::SimPmem;
-use recovery::{KeptSlot, LiveSlot, open};
+use recovery::{OpenedSlot, open};
 use room::{Room, Visit};
 use slot_alloc::SlotAlloc;
 use std::alloc::Global;
@@ -73,13 +73,12 @@ fn opening_lists_the_live_slots(rt: HostRuntime) -> Result<(), Fault> {
         Ok(opened) => opened,
         Err((fault, _device)) => return Err(fault),
     };
-    let live = |key, slot| LiveSlot {
+    let live = |key, slot| OpenedSlot {
         key: Key { table: 1, key },
         slot,
+        begin: 2,
     };
-    let found = opened.live.iter().map(KeptSlot::live).collect(rt.alloc());
-    let found: Vec<LiveSlot> = found.or(Err(Fault::OutOfMemory))?;
-    assert!(rt; found.as_slice() == [live(7, 1), live(8, 2)].as_slice());
+    assert!(rt; opened.live.as_slice() == [live(7, 1), live(8, 2)].as_slice());
     Ok(())
 }
 

@@ -349,6 +349,10 @@ module _ (image : Image) (n : ℕ) (readings : List SlotContent) (are : readings
   pub are-held : bad_below image n ≡ None → (free : Vec Bool Global) → ((i : Image) → AreReadings i readings → free.items ≡ free_below i (length readings)) → AreHeld image n (record { free = free; live = live; places = places })
   are-held good free freed = grind (arith, count, have-places, distinct-good, are-readings) steps 800000
 
+-- the number of a live slot is below that of the slots
+pub live-within : (image : Image) (n i : ℕ) (d : LiveSlot) (live : List LiveSlot) → live ≡ live_below image n → i < length live → (get_or live i d).slot < n
+live-within image n i d live are lt = (live-in image n i (get_or live i d) (ap (λ (xs : List LiveSlot). slice_get xs i) (sym are) ∙ slice_get-get_or live i d lt)).0
+
 -- ---- the rows of live slots, read one after the other
 
 module _ (device : Device) (layout : Layout) (size : device.words ≡ total_words layout) (live : List LiveSlot) (live-is : live ≡ live_below (image_of device) layout.slots)
