@@ -35,13 +35,6 @@ impl Model for Cycle {
     ghost invariant = { λ c. IsTrue (is_counted c.stage) };
 }
 
-/// A batch that is covered, and the record that covered it.
-#[derive(Drop)]
-pub struct Covered {
-    pub batch: Batch,
-    pub record: Record,
-}
-
 impl Cycle {
     ghost use Rattle.std.specs.Prelude.{◌≡◌, ◌≢◌, ◌↔◌, ◌+◌, ◌*◌, ◌^◌, ◌<◌, ◌≤◌, ◌&&◌, ℕ, nat_eq, [], length, map, Some, None, IsTrue, IfOk, IfErr, OnOk, OnErr};
     ghost use Rattle.std.specs.List.{list_any};
@@ -188,16 +181,19 @@ impl Cycle {
         }
     }
 
-    /// The batch and the record that covered it, once its last operation was made.
+    /// The record that is written.
     #[inline(always)]
-    pub fn finish(self) -> Covered
-        ensures batch { result.batch ≡ self.batch }
-        ensures record { result.record ≡ self.writing.target }
+    pub fn record(&self) -> Record
+        ensures { result ≡ self.now.writing.target }
     {
-        let record = self.writing.target();
-        Covered {
-            batch: self.batch,
-            record,
-        }
+        self.writing.target()
+    }
+
+    /// The batch, which is covered once the last operation was made.
+    #[inline(always)]
+    pub fn into_batch(self) -> Batch
+        ensures { result ≡ self.batch }
+    {
+        self.batch
     }
 }

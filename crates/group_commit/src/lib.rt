@@ -8,6 +8,6 @@ mod law;
 mod stage;
 
 pub use batch::is_idle;
-pub use cycle::{Covered, Cycle};
+pub use cycle::Cycle;
 pub use law::ticks_are_counted;
 pub use stage::CycleStage;

@@ -1,5 +1,5 @@
 -- Visits that pass, as a run of the room.
-use Rattle.std.proofs.Common.{◌≡◌, ◌+◌, ◌<◌, ◌≤◌, ℕ, zero, suc, Bool, false, List, [], ◌∷◌, map, refl, sym, ◌∙◌, ap, subst, arith}
+use Rattle.std.proofs.Common.{◌≡◌, ◌+◌, ℕ, zero, suc, Bool, false, List, [], ◌∷◌, map, sym, ◌∙◌, ap, subst, arith}
 use Rattle.std.specs.Prelude.{Option, Some, None, Contains}
 use Rattle.std.proofs.Math.Logic.{∥∥₁_map}
 use Rattle.base.specs.declared.fault.Fault.TheVariants.{Device as DeviceFault}
@@ -18,9 +18,9 @@ use Rattle.session_steps.specs.declared.sessions.Sessions.{Sessions}
 use Rattle.session_steps.specs.Collecting.{passed, PassesTo, Passes}
 use Rattle.room.specs.declared.room.Room.{Room}
 use Rattle.room.specs.declared.volatile.VolatileState.{VolatileState}
-use Rattle.room.specs.Committing.{HoldsCycle, ShowsIn, Shows as CommitterShows}
+use Rattle.room.specs.Committing.{HoldsCycle, Shows as CommitterShows}
 use Rattle.room.specs.Steps.{ShowsAs}
-use Rattle.room.specs.Room.{Shows, RunsTo, place_of}
+use Rattle.room.specs.Room.{Shows, place_of}
 use Rattle.room.specs.Runs.{LeadsAlong, visited_from}
 use Rattle.room.proofs.Rooms.{shown-stands, shown-clear}
 use Rattle.room.proofs.Runs.{along-at}

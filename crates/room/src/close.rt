@@ -145,7 +145,7 @@ impl VolatileState {
         let numbers = self.sessions.numbers();
         let mut cycle = Cycle::closing(
             alloc,
-            &numbers,
+            numbers,
             self.sessions.has_swept(),
             self.sessions.drawn(),
         );

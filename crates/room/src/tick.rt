@@ -70,10 +70,10 @@ impl VolatileState {
         let numbers = self.sessions.numbers();
         let drawn = self.sessions.drawn();
         let swept = self.sessions.has_swept();
-        if is_idle(&numbers, swept, drawn) {
+        if is_idle(numbers, swept, drawn) {
             return Ok(false);
         }
-        match Cycle::begin(alloc, &numbers, swept, drawn) {
+        match Cycle::begin(alloc, numbers, swept, drawn) {
             Ok(cycle) => {
                 self.cycle = Some(cycle);
                 Ok(true)
@@ -117,8 +117,7 @@ impl VolatileState {
         let Some(cycle) = self.cycle.take() else {
             unreachable!()
         };
-        let covered = cycle.finish();
-        self.sessions.cover(covered.record);
-        self.covered = Some(covered.batch);
+        self.sessions.cover(&cycle.record());
+        self.covered = Some(cycle.into_batch());
     }
 }

@@ -46,8 +46,8 @@ impl VolatileState {
     }
 
     // The layout, the record that rules, and the timestamp that is drawn next.
-    pub(crate) fn numbers(&self) -> Numbers
-        ensures { result ≡ self.now.sessions.numbers }
+    pub(crate) fn numbers(&self) -> &Numbers
+        ensures { result.now ≡ self.now.sessions.numbers }
     {
         self.sessions.numbers()
     }

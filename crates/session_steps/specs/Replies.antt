@@ -17,6 +17,12 @@ abbrev pub read : Result (Option (List ℕ)) Fault → SessionReply
 read (Ok row) = Row row
 read (Err fault) = Refused fault
 
+-- the row in its place, if one was found there
+abbrev pub found_in : List ℕ → Result Bool Fault → Result (Option (List ℕ)) Fault
+found_in row (Ok true) = Ok (Some row)
+found_in row (Ok false) = Ok None
+found_in row (Err fault) = Err fault
+
 -- the rows that were read
 abbrev pub scanned : Result (List (Key × List ℕ)) Fault → SessionReply
 scanned (Ok rows) = Rows rows

@@ -57,19 +57,19 @@ impl Sessions {
 
     /// Covers the drawn commits that the record commits, which rules from now on. It takes no memory.
     #[inline(always)]
-    pub fn cover(&mut self, ruling: Record)
-        requires { ∥ MayCoverSome self.old ruling ∥₁ }
+    pub fn cover(&mut self, ruling: &Record)
+        requires { ∥ MayCoverSome self.old ruling.now ∥₁ }
 
         // The drawn commits that the record commits are covered: the sessions show the covered state whenever the device upholds
         // it.
-        ensures drawn { self.new.drawn.commits ≡ left_by ruling self.old.drawn.commits }
-        ensures covers { Covers self.old self.new ruling }
-        ensures shows { ShowsCovered self.old self.new ruling }
+        ensures drawn { self.new.drawn.commits ≡ left_by ruling.now self.old.drawn.commits }
+        ensures covers { Covers self.old self.new ruling.now }
+        ensures shows { ShowsCovered self.old self.new ruling.now }
     {
         let commits = self.drawn.as_slice();
-        let sessions = cover_commits(&mut self.index, &mut self.replaced, commits, &ruling);
+        let sessions = cover_commits(&mut self.index, &mut self.replaced, commits, ruling);
         self.dirty.forget(&sessions);
-        self.numbers.record = ruling;
+        self.numbers.record = *ruling;
         self.drawn
             .cover(&self.numbers.snapshot(), &mut self.transactions);
     }

@@ -7,10 +7,10 @@ impl Sessions {
     ghost use Rattle.std.specs.Prelude.{◌≡◌};
 
     /// The layout, the record that rules, and the timestamp that is drawn next.
-    pub fn numbers(&self) -> Numbers
-        ensures { result ≡ self.now.numbers }
+    pub fn numbers(&self) -> &Numbers
+        ensures { result.now ≡ self.now.numbers }
     {
-        self.numbers
+        &self.numbers
     }
 
     /// The commits that are drawn and not covered, in the order in which they were drawn.

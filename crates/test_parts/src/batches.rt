@@ -8,7 +8,7 @@ use base::gap::Gaps;
 use base::geometry::Geometry;
 use base::key::Key;
 use base::longs::Longs;
-use group_commit::{Covered, Cycle, is_idle};
+use group_commit::{Cycle, is_idle};
 use log_area::Record;
 use snapshot::Numbers;
 use std::alloc::Global;
@@ -84,15 +84,6 @@ fn begin(alloc: Global, numbers: &Numbers, drawn: &DrawnCommits) -> Result<Cycle
     Cycle::begin(alloc, numbers, false, drawn)
 }
 
-// What such a cycle covers.
-fn covered_by(alloc: Global, numbers: &Numbers, drawn: &DrawnCommits) -> Result<Covered, Fault>
-    requires numbered { numbers.now.record.gate < 2 ^ 62 }
-    requires countable { numbers.now.next ≤ 2 ^ 62 }
-{
-    let cycle = begin(alloc, numbers, drawn)?;
-    Ok(cycle.finish())
-}
-
 #[test]
 fn a_batch_takes_the_stamped_commits(rt: HostRuntime) -> Result<(), Fail> {
     let numbers = Numbers {
@@ -105,14 +96,15 @@ fn a_batch_takes_the_stamped_commits(rt: HostRuntime) -> Result<(), Fail> {
     assert!(rt; !is_idle(&numbers, false, &drawn));
     let cycle = begin(rt.alloc(), &numbers, &drawn)?;
     assert!(rt; !cycle.is_done());
-    let covered = cycle.finish();
-    assert_eq!(rt; covered.batch.commits().len(), 1);
-    assert_eq!(rt; covered.batch.from(), 1);
-    assert_eq!(rt; covered.batch.stamp(), 2);
-    assert_eq!(rt; covered.batch.persisted(), 5);
-    assert_eq!(rt; covered.record.persisted(), 5);
-    assert_eq!(rt; covered.record.dirty(), 12);
-    assert!(rt; covered.record.longs().as_slice().is_empty());
+    let record = cycle.record();
+    assert_eq!(rt; record.persisted(), 5);
+    assert_eq!(rt; record.dirty(), 12);
+    assert!(rt; record.longs().as_slice().is_empty());
+    let batch = cycle.into_batch();
+    assert_eq!(rt; batch.commits().len(), 1);
+    assert_eq!(rt; batch.from(), 1);
+    assert_eq!(rt; batch.stamp(), 2);
+    assert_eq!(rt; batch.persisted(), 5);
     Ok(())
 }
 
@@ -124,10 +116,10 @@ fn a_close_takes_all_that_is_drawn(rt: HostRuntime) -> Result<(), Fail> {
         next: 8,
     };
     let drawn = drawn_by(rt.alloc(), &[(2, 5, 1), (4, 7, 1)])?;
-    let closing = Cycle::closing(rt.alloc(), &numbers, false, &drawn).finish();
-    assert_eq!(rt; closing.record.gate(), 2);
-    assert_eq!(rt; closing.record.persisted(), 7);
-    assert_eq!(rt; closing.record.dirty(), 8);
+    let closing = Cycle::closing(rt.alloc(), &numbers, false, &drawn).record();
+    assert_eq!(rt; closing.gate(), 2);
+    assert_eq!(rt; closing.persisted(), 7);
+    assert_eq!(rt; closing.dirty(), 8);
     Ok(())
 }
 
@@ -139,13 +131,15 @@ fn stamped_commits_are_covered_past_one_that_is_not(rt: HostRuntime) -> Result<(
         next: 4,
     };
     let drawn = drawn_by(rt.alloc(), &[(2, 1, 0), (3, 2, 1), (4, 3, 1)])?;
-    let covered = covered_by(rt.alloc(), &numbers, &drawn)?;
-    assert_eq!(rt; covered.batch.from(), 3);
-    assert_eq!(rt; covered.batch.commits().len(), 2);
-    assert_eq!(rt; covered.batch.longs().as_slice(), [1].as_slice());
-    assert_eq!(rt; covered.record.persisted(), 3);
-    assert_eq!(rt; covered.record.dirty(), 8);
-    assert_eq!(rt; covered.record.longs().as_slice(), [1].as_slice());
+    let cycle = begin(rt.alloc(), &numbers, &drawn)?;
+    let record = cycle.record();
+    assert_eq!(rt; record.persisted(), 3);
+    assert_eq!(rt; record.dirty(), 8);
+    assert_eq!(rt; record.longs().as_slice(), [1].as_slice());
+    let batch = cycle.into_batch();
+    assert_eq!(rt; batch.from(), 3);
+    assert_eq!(rt; batch.commits().len(), 2);
+    assert_eq!(rt; batch.longs().as_slice(), [1].as_slice());
     Ok(())
 }
 
@@ -181,9 +175,9 @@ fn assert_named_again(
     requires countable { numbers.now.next ≤ 2 ^ 62 }
 {
     assert!(rt; is_idle(numbers, false, drawn));
-    let again = covered_by(alloc, numbers, drawn)?;
-    assert_eq!(rt; again.batch.commits().len(), 0);
-    assert_eq!(rt; again.record.longs().as_slice(), [1].as_slice());
+    let again = begin(alloc, numbers, drawn)?;
+    assert_eq!(rt; again.record().longs().as_slice(), [1].as_slice());
+    assert_eq!(rt; again.into_batch().commits().len(), 0);
     Ok(())
 }
 
@@ -200,11 +194,13 @@ fn a_long_commit_is_named_until_it_is_stamped(rt: HostRuntime) -> Result<(), Fai
     assert_named_again(&rt, rt.alloc(), &numbers, &drawn)?;
     drawn.stamp(1);
     assert!(rt; !is_idle(&numbers, false, &drawn));
-    let covered = covered_by(rt.alloc(), &numbers, &drawn)?;
-    assert_eq!(rt; covered.batch.from(), 4);
-    assert_eq!(rt; covered.batch.commits().len(), 1);
-    assert!(rt; covered.batch.longs().as_slice().is_empty());
-    assert_eq!(rt; covered.record.persisted(), 3);
-    assert_eq!(rt; covered.record.dirty(), 8);
+    let cycle = begin(rt.alloc(), &numbers, &drawn)?;
+    let record = cycle.record();
+    assert_eq!(rt; record.persisted(), 3);
+    assert_eq!(rt; record.dirty(), 8);
+    let batch = cycle.into_batch();
+    assert_eq!(rt; batch.from(), 4);
+    assert_eq!(rt; batch.commits().len(), 1);
+    assert!(rt; batch.longs().as_slice().is_empty());
     Ok(())
 }

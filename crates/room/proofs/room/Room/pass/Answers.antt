@@ -1,4 +1,4 @@
-use Rattle.std.proofs.Common.{inl, inr, refl, ap}
+use Rattle.std.proofs.Common.{refl, ap}
 use Rattle.session_steps.specs.declared.sessions.Sessions.{Sessions}
 use Rattle.room.proofs.Runs.{leads-none}
 use Rattle.room.proofs.Passing.{passes-along, passed-some}

@@ -37,7 +37,7 @@ begin-requires-clause-countable c = ∥∥₁_elim c.requires.shown le_prop (λ 
 
 pub begin-requires-clause-few : goal.begin-requires-clause-few
 begin-requires-clause-few c = ∥∥₁_elim c.requires.shown le_prop (λ some.
-    let same : length (target_of c.numbers-numbers.result.geometry c.numbers-numbers.result.record c.numbers-numbers.result.next c.has_swept-swept.result (map plain_drawn c.drawn-drawn.result.now.commits)).longs ≡ length (next_record c.args.self.now.sessions).longs =
+    let same : length (target_of c.numbers-numbers.result.now.geometry c.numbers-numbers.result.now.record c.numbers-numbers.result.now.next c.has_swept-swept.result (map plain_drawn c.drawn-drawn.result.now.commits)).longs ≡ length (next_record c.args.self.now.sessions).longs =
     λ i. let n = c.numbers-numbers.ensures i in length (target_of n.geometry n.record n.next (c.has_swept-swept.ensures i) (map plain_drawn (c.drawn-drawn.ensures i).commits)).longs in
     let few = few-passed _ _ _ some.1.1 in
     omega (arith, same, few))

@@ -29,17 +29,17 @@ cover_commits-sessions-requires-clause-kept c = λ k d lt k' d' lt'.
 pub snapshot-requires : goal.snapshot-requires
 snapshot-requires c = ∥∥₁_elim c.requires (Bool-set _ _) (λ some.
     let q : State = plain_of c.args.self.now some.0 in
-    well_formed-tidy q.layout.version c.args.ruling (subst (λ (r : Record). is_well_formed q.layout.version r ≡ true) some.2.batch.target (some.2.keeps.numbers.hand some.1 some.2.batch.in_hand).formed))
+    well_formed-tidy q.layout.version c.args.ruling.now (subst (λ (r : Record). is_well_formed q.layout.version r ≡ true) some.2.batch.target (some.2.keeps.numbers.hand some.1 some.2.batch.in_hand).formed))
 
 pub returns-clause-covers : goal.returns-clause-covers
 returns-clause-covers c = λ h hand may.
-    subst (λ (ts : List (Option Transaction)). HasCovered c.args.self.now (record c.args.self.now { numbers = record { geometry = c.args.self.now.numbers.geometry; «record» = c.args.ruling; next = c.args.self.now.numbers.next }; index = c.cover_commits-sessions.new.index; dirty = c.forget.new.self; drawn = c.cover.new.self; transactions = ts; replaced = c.cover_commits-sessions.new.replaced }) h hand) (sym c.cover.ensures.transactions)
-    (has-covered c.args.self.now c.args.ruling h hand may c.cover_commits-sessions.new.index c.forget.new.self c.cover_commits-sessions.result c.cover.new.self c.cover_commits-sessions.new.replaced
-    (subst (λ (ds : List DrawnCommit). CoversCommits (committed_by c.args.ruling ds) c.args.self.now.index c.cover_commits-sessions.new.index) c.as_slice-commits.ensures.commits c.cover_commits-sessions.ensures.index) c.cover_commits-sessions.ensures.marks c.forget.ensures
-    (subst (λ (ds : List DrawnCommit). (n : ℕ) → has c.cover_commits-sessions.result n ≡ has_drawn_by (committed_by c.args.ruling ds) n) c.as_slice-commits.ensures.commits c.cover_commits-sessions.ensures.sessions) left)
+    subst (λ (ts : List (Option Transaction)). HasCovered c.args.self.now (record c.args.self.now { numbers = record { geometry = c.args.self.now.numbers.geometry; «record» = c.args.ruling.now; next = c.args.self.now.numbers.next }; index = c.cover_commits-sessions.new.index; dirty = c.forget.new.self; drawn = c.cover.new.self; transactions = ts; replaced = c.cover_commits-sessions.new.replaced }) h hand) (sym c.cover.ensures.transactions)
+    (has-covered c.args.self.now c.args.ruling.now h hand may c.cover_commits-sessions.new.index c.forget.new.self c.cover_commits-sessions.result c.cover.new.self c.cover_commits-sessions.new.replaced
+    (subst (λ (ds : List DrawnCommit). CoversCommits (committed_by c.args.ruling.now ds) c.args.self.now.index c.cover_commits-sessions.new.index) c.as_slice-commits.ensures.commits c.cover_commits-sessions.ensures.index) c.cover_commits-sessions.ensures.marks c.forget.ensures
+    (subst (λ (ds : List DrawnCommit). (n : ℕ) → has c.cover_commits-sessions.result n ≡ has_drawn_by (committed_by c.args.ruling.now ds) n) c.as_slice-commits.ensures.commits c.cover_commits-sessions.ensures.sessions) left)
   where
-    left : c.cover.new.self.commits ≡ left_by c.args.ruling c.args.self.now.drawn.commits
+    left : c.cover.new.self.commits ≡ left_by c.args.ruling.now c.args.self.now.drawn.commits
     left = search rules
 
 pub returns-clause-shows : goal.returns-clause-shows
-returns-clause-shows c = shows-covered c.args.self.now _ c.args.ruling (returns-clause-covers c)
+returns-clause-shows c = shows-covered c.args.self.now _ c.args.ruling.now (returns-clause-covers c)
