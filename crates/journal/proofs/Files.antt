@@ -12,7 +12,7 @@ use Rattle.journal.specs.InPlace.{put_over}
 use Rattle.journal.specs.Opened.{lines_found}
 use Rattle.journal.specs.Files.{magic, pass_word, pass_of, tail_of, journal_in, is_on, lines_in, IsInRun, IsStoodFor, MayBe, Opens, FoundOpens, StandsAs}
 use Rattle.journal.specs.ReadBack.{IsReadBack, StandsStill, StandsAsBefore, Covers, JournalDecides}
-use Rattle.journal.specs.States.{Knows, KnowsJournal, IsInPlace, IsOff, IsClear, Rests}
+use Rattle.journal.specs.States.{HoldsTail, HoldsZeros, Knows, KnowsJournal, IsInPlace, IsOff, IsClear, Rests}
 use Rattle.journal.specs.LinePayloads.{lines_of}
 use Rattle.journal.specs.Passes.{joined}
 use Rattle.journal.proofs.Several.{none_more}
@@ -291,6 +291,31 @@ clear-opens old new words room durable here puts = found_opens new words room du
 
 pub clear-kept : (old new : ℕ → ℕ → Type 0) (words room : ℕ) (durable : List ℕ) → IsOff old words room durable → Puts old new words (clear words room) → Keeps new words (clear words room) → IsClear new words room durable
 clear-kept old new words room durable here puts keeps = grind (arith, get_or_append_left, clear_size, get_or-append-add)
+
+-- and so if it has nothing but zeros, and this tail
+pub blank-keeps : (new : ℕ → ℕ → Type 0) (words room : ℕ) → HoldsZeros new words room → HoldsTail new words room (tail_of 0 words room true) → Keeps new words (clear words room)
+blank-keeps new words room zeros last word x above below held =
+    let at : ℕ = word - words in
+    elim (cases_lt at room) [
+      | inl lt ↦ zeros word x above (omega (arith, lt, above)) held ∙ sym (get_or_append_left (replicate room 0) (tail_of 0 words room true) 0 at (omega (arith, lt, size_zeros room)) ∙ get_or-replicate room at 0 0 lt)
+      | inr le ↦
+          let place : ℕ = at - room in
+          let is : word ≡ words + room + place = omega (arith, above, le) in
+          let here : new (words + room + place) x = subst (λ (n : ℕ). new n x) is held in
+          last place x (omega (arith, below, above, le, clear_size words room)) here ∙ sym (along (clear words room) at (room + place) (omega (arith, le)) ∙ clear_tail 0 words room place)
+    ]
+
+-- zeros that are written over stay zeros, and so do others
+pub zeros-beside : (old new : ℕ → ℕ → Type 0) (words room start : ℕ) (news : List ℕ) → Puts old new start news → ((word : ℕ) → words ≤ word → word < words + room → start ≤ word → word < start + length news → ⊥) → HoldsZeros old words room → HoldsZeros new words room
+zeros-beside old new words room start news puts beside zeros word x above below held = elim (puts word x held) [
+  | inl before ↦ zeros word x above below before
+  | inr put ↦ absurd (beside word above below put.0 put.1)
+]
+
+-- the tail that was written
+pub tail-kept : (new : ℕ → ℕ → Type 0) (words room first : ℕ) (pass : Bool) → Keeps new (words + room) (tail_of first words room pass) → HoldsTail new words room (tail_of first words room pass)
+tail-kept new words room first pass keeps place x lt held =
+    keeps (words + room + place) x (omega arith) (omega (arith, lt)) held ∙ along (tail_of first words room pass) (words + room + place - (words + room)) place (omega arith)
 
 -- ---- the journal counts
 

@@ -1,5 +1,5 @@
 -- What is known of the file of a journal between two of its writes.
-use Rattle.std.specs.Prelude.{◌≡◌, ℕ, ◌+◌, ◌<◌, Bool, true, List, ◌++◌, length, map, replicate, slice_index}
+use Rattle.std.specs.Prelude.{◌≡◌, ℕ, ◌+◌, ◌<◌, ◌≤◌, Bool, true, List, ◌++◌, length, map, replicate, slice_index}
 use Rattle.journal.specs.declared.line.Line.{Line}
 use Rattle.journal.specs.Entries.{NoneOf}
 use Rattle.journal.specs.Several.{journal}
@@ -58,3 +58,15 @@ pub record Rests (may_hold : ℕ → ℕ → Type 0) (words room : ℕ) (pass : 
   pub position_is : length (journal pass (map payloads_of_lines entries)) ≡ position
   pub none : NoneOf pass behind
   pub lines : AreLines (all_lines entries)
+
+-- nothing but 0 is found of the journal
+abbrev pub HoldsZeros : (ℕ → ℕ → Type 0) → ℕ → ℕ → Type 0
+HoldsZeros may_hold words room = (word x : ℕ) → words ≤ word → word < words + room → may_hold word x → x ≡ 0
+
+-- the tail is found only as this one
+abbrev pub HoldsTail : (ℕ → ℕ → Type 0) → ℕ → ℕ → List ℕ → Type 0
+HoldsTail may_hold words room tail = (place x : ℕ) → place < 8 → may_hold (words + room + place) x → x ≡ slice_index tail place
+
+-- The journal has nothing but zeros, and they are nothing in the pass that counts. Then nothing has to be cleared.
+abbrev pub IsBlank : (ℕ → ℕ → Type 0) → ℕ → ℕ → Bool → Type 0
+IsBlank may_hold words room pass = (pass ≡ true) × HoldsZeros may_hold words room

@@ -1,4 +1,4 @@
-ghost use Rattle.std.specs.Prelude.{◌≡◌, ℕ, ◌+◌, ◌*◌, ◌/◌, ◌%◌, ◌<◌, ◌≤◌, [], ◌∷◌, ◌↔◌, length, slice_index, IfOk, IfErr, IfSome, IsNone, OnOk, IsTrue, Some};
+ghost use Rattle.std.specs.Prelude.{◌≡◌, ℕ, ◌+◌, ◌*◌, ◌/◌, ◌%◌, ◌<◌, ◌≤◌, [], ◌∷◌, ◌↔◌, true, length, slice_index, EachIndex, IfOk, IfErr, IfSome, IsNone, OnOk, IsTrue, Some};
 ghost use Rattle.std.specs.IoError.{error_kind};
 ghost use Rattle.journal.specs.LinePayloads.{lines_of};
 ghost use Rattle.journal.specs.InPlace.{put_over};
@@ -44,6 +44,22 @@ pub(crate) fn leave_image(
     file.truncate(words);
     put_lines(file, payloads.as_slice());
     Ok(pass)
+}
+
+/// Whether a file has a journal of nothing but zeros.
+pub(crate) fn is_zeroed(file: &[u64], words: usize, room: usize) -> bool
+    ensures { result ≡ true → (word : ℕ) → words ≤ word → word < words + room → slice_index file.now word ≡ 0 }
+{
+    if words > file.len() || room > file.len() - words {
+        return false;
+    }
+    are_zero(&file[words..words + room])
+}
+
+fn are_zero(words: &[u64]) -> bool
+    ensures { IsTrue result ↔ EachIndex words.now (λ k. slice_index words.now k ≡ 0) }
+{
+    words.iter().all(|word| *word == 0)
 }
 
 // The payloads of the lines that a file has over its image.

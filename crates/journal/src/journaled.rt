@@ -8,7 +8,7 @@ ghost use Rattle.journal.specs.Tails.{BeginsAsRead, NamesAsRead, NamesBoth};
 ghost use Rattle.journal.specs.Unplaced.{IsPlacedBut};
 
 use crate::appending::begin_words;
-use crate::file_image::leave_image;
+use crate::file_image::{is_zeroed, leave_image};
 use crate::images::Images;
 use crate::position::Position;
 use crate::rewriting::{rewrite, settle};
@@ -114,6 +114,7 @@ impl<S: Storage> JournaledImages<S> {
         ensures holds { IfOk result (λ images. HoldsPart (S.may_hold (storage_of images)) words room) }
         ensures part { IfErr result (λ unopened. PartAsBefore (S.may_hold storage) (S.may_hold unopened.storage) words room) }
     {
+        let is_zeroed = is_zeroed(file.as_slice(), words, room);
         let pass = match leave_image(alloc, file, words, room) {
             Ok(pass) => pass,
             Err(error) => return Err(Unopened { error, storage }),
@@ -125,7 +126,7 @@ impl<S: Storage> JournaledImages<S> {
             });
         };
         let mut storage = storage;
-        match rewrite(alloc, &mut storage, &*file, room, pass) {
+        match rewrite(alloc, &mut storage, &*file, room, pass, pass && is_zeroed) {
             Ok(()) => Ok(JournaledImages {
                 alloc,
                 storage,

@@ -2,7 +2,7 @@ ghost use Rattle.std.specs.Prelude.{◌≡◌, ◌⊎◌, ℕ, ◌+◌, ◌*◌,
 ghost use Rattle.journal.specs.Files.{tail_of, FoundOpens};
 ghost use Rattle.journal.specs.Places.{HoldsPart, IsPart, PartAsBefore, PlacesOnly};
 ghost use Rattle.journal.specs.ReadBack.{Covers};
-ghost use Rattle.journal.specs.States.{Knows, KnowsJournal, IsInPlace, IsOff, IsClear, IsFull, Rests};
+ghost use Rattle.journal.specs.States.{HoldsTail, HoldsZeros, IsBlank, Knows, KnowsJournal, IsInPlace, IsOff, IsClear, IsFull, Rests};
 ghost use Rattle.journal.specs.Tails.{HoldsFirst, NamesBoth, NamesAsBefore};
 ghost use Rattle.journal.specs.Unplaced.{IsPlacedBut};
 
@@ -20,15 +20,19 @@ pub(crate) const MAGIC: u64 = 0x5742_4C2D_4A52_4E31;
 
 /// Brings a file to rest, with its image in place and nothing in the journal, whatever its journal held. The journal has `room`
 /// words, and `pass` is the one that it counts in. Four writes, and a wait after each: the image in place; then the journal no
-/// longer counts; it is cleared; it counts again.
+/// longer counts; it is cleared, unless it is blank; it counts again.
 pub fn rewrite<S: Storage>(
     alloc: Global,
     storage: &mut S,
     image: &Vec<u64>,
     room: usize,
     pass: bool,
+    is_blank: bool,
 ) -> io::Result<()>
     requires fits { length image.now.items + room + 8 < 2 ^ 63 }
+
+    // It is called blank only if it has nothing but zeros, in the first pass (`IsBlank`).
+    requires blank { is_blank ≡ true → IsBlank (S.may_hold storage.old) (length image.now.items) room pass }
 
     // One journal and one tail are known to be there, and a file that has them stands for this image. A word in place may be
     // found otherwise.
@@ -66,6 +70,7 @@ pub fn rewrite<S: Storage>(
         &Snapshot::of(image),
         room,
         pass,
+        is_blank,
     )
 }
 
@@ -77,8 +82,10 @@ fn bring_to_rest<S: Storage>(
     written: &Snapshot<Vec<u64>>,
     room: usize,
     pass: bool,
+    is_blank: bool,
 ) -> io::Result<()>
     requires fits { length written.now.value.items + room + 8 < 2 ^ 63 }
+    requires blank { is_blank ≡ true → IsBlank (S.may_hold storage.old) (length written.now.value.items) room pass }
     requires same { written.now.value.items ≡ image.now }
     requires known { ∥ KnowsJournal (S.may_hold storage.old) (length written.now.value.items) room pass written.now.value.items ∥₁ }
     ensures opens { ∥ Covers (S.may_hold storage.old) (length written.now.value.items) room written.now.value.items ∥₁ → FoundOpens (S.may_hold storage.new) (length written.now.value.items) room written.now.value.items }
@@ -95,7 +102,7 @@ fn bring_to_rest<S: Storage>(
     check_part(image, room)?;
     put_in_place(storage, image, written, room, pass)?;
     turn_off(storage, words, written, room, pass)?;
-    clear(alloc, storage, words, written, room)?;
+    clear(alloc, storage, words, written, room, is_blank)?;
     turn_on(storage, words, written, room)
 }
 
@@ -138,6 +145,7 @@ fn put_in_place<S: Storage>(
     ensures tail { NamesAsBefore (S.may_hold storage.old) (S.may_hold storage.new) (length written.now.value.items) room }
     ensures place { PlacesOnly (S.may_hold storage.old) (S.may_hold storage.new) written.now.value.items }
     ensures first { HoldsFirst (S.may_hold storage.old) (length written.now.value.items) room → HoldsFirst (S.may_hold storage.new) (length written.now.value.items) room }
+    ensures zeros { HoldsZeros (S.may_hold storage.old) (length written.now.value.items) room → HoldsZeros (S.may_hold storage.new) (length written.now.value.items) room }
 {
     let _ = written;
     put(storage, 0, image)
@@ -159,22 +167,26 @@ fn turn_off<S: Storage>(
     ensures tail { NamesAsBefore (S.may_hold storage.old) (S.may_hold storage.new) (length image.now.value.items) room }
     ensures place { PlacesOnly (S.may_hold storage.old) (S.may_hold storage.new) image.now.value.items }
     ensures first { pass ≡ true → HoldsFirst (S.may_hold storage.old) (length image.now.value.items) room → HoldsFirst (S.may_hold storage.new) (length image.now.value.items) room }
+    ensures zeros { HoldsZeros (S.may_hold storage.old) (length image.now.value.items) room → HoldsZeros (S.may_hold storage.new) (length image.now.value.items) room }
+    ensures last { OnOk result (HoldsTail (S.may_hold storage.new) (length image.now.value.items) room (tail_of 0 (length image.now.value.items) room pass)) }
 {
     let _ = image;
     put(storage, words + room, &tail(0, words, room, pass))
 }
 
-// Leaves nothing in it.
+// Leaves nothing in it. If nothing is there, nothing is written.
 fn clear<S: Storage>(
     alloc: Global,
     storage: &mut S,
     words: usize,
     image: &Snapshot<Vec<u64>>,
     room: usize,
+    is_blank: bool,
 ) -> io::Result<()>
     requires size { words ≡ length image.now.value.items }
     requires fits { length image.now.value.items + room + 8 < 2 ^ 63 }
     requires known { ∥ IsOff (S.may_hold storage.old) (length image.now.value.items) room image.now.value.items ∥₁ }
+    requires blank { is_blank ≡ true → HoldsZeros (S.may_hold storage.old) (length image.now.value.items) room × HoldsTail (S.may_hold storage.old) (length image.now.value.items) room (tail_of 0 (length image.now.value.items) room true) }
     ensures opens { FoundOpens (S.may_hold storage.new) (length image.now.value.items) room image.now.value.items }
     ensures done { OnOk result (∥ IsClear (S.may_hold storage.new) (length image.now.value.items) room image.now.value.items ∥₁) }
     ensures tail { NamesAsBefore (S.may_hold storage.old) (S.may_hold storage.new) (length image.now.value.items) room }
@@ -183,6 +195,9 @@ fn clear<S: Storage>(
     ensures first { HoldsFirst (S.may_hold storage.old) (length image.now.value.items) room → HoldsFirst (S.may_hold storage.new) (length image.now.value.items) room }
 {
     let _ = image;
+    if is_blank {
+        return Ok(());
+    }
     let mut rest = Vec::from_elem(alloc, 0, room)?;
     rest.extend_from_slice(&tail(0, words, room, true))?;
     put(storage, words, rest.as_slice())

@@ -1,11 +1,12 @@
-ghost use Rattle.std.specs.Prelude.{◌≡◌, ℕ, ◌≤◌, ◌<◌, ◌^◌, List, length, None, Some, IfOk};
+ghost use Rattle.std.specs.Prelude.{◌≡◌, ℕ, ◌≤◌, ◌<◌, ◌^◌, List, length, slice_index, None, Some, IfOk, OnOk};
 ghost use Rattle.journal.specs.Files.{Opens};
 ghost use Rattle.pmem.specs.Device.{restarted};
 ghost use Rattle.pmem.specs.Words.{IsAtRest, image_of};
 ghost use Rattle.pmem_file.specs.Devices.{MayFindIn, failure_of, last_image, places_of, state_of};
 ghost use Rattle.file_words.specs.Calls.{IsCutTo, held_by};
 ghost use Rattle.journal.specs.Kept.{HoldsOnly};
-ghost use Rattle.pmem_file.specs.Files.{held_in};
+ghost use Rattle.journal.specs.ReadBack.{IsReadBack};
+ghost use Rattle.pmem_file.specs.Files.{held_in, shown_in};
 ghost use Rattle.pmem_file.specs.Journaled.{places_named};
 ghost use Rattle.pmem_file.specs.Shapes.{HasItsPlaces, padded, whole};
 
@@ -17,7 +18,7 @@ use crate::shape::{Found, Shape};
 use crate::storage::FileStorage;
 use base::geometry::Geometry;
 use file_words::Account;
-use journal::{JournaledImages, write_back};
+use journal::{JournaledImages, Storage, write_back};
 use std::alloc::Global;
 use std::fs::File;
 use std::io;
@@ -134,12 +135,30 @@ fn open_found(
     ensures places { IfOk result (λ device. places_of device ≡ places_named (image_of (state_of device)) shape.places) }
 {
     let mut storage = FileStorage::new(alloc, file, held)?;
-    storage.grow(alloc, found.count(), shape.whole())?;
+    let count = found.count();
+    storage.grow(alloc, count, shape.whole())?;
     let words = found.into_words(shape)?;
-    write_back(&mut storage, shape.words, words.as_slice())?;
+    keep_behind(&mut storage, shape, count, words.as_slice())?;
     let opened = JournaledPmem::over(alloc, storage, words, shape.words, shape.room, shape.places);
     match opened {
         Ok(device) => Ok(device),
         Err(unopened) => Err(unopened.error),
     }
+}
+
+// Waits until the journal and the tail of a file persist as they were read. If it had none of them, they are new, and just written.
+fn keep_behind(
+    storage: &mut FileStorage,
+    shape: Shape,
+    count: usize,
+    words: &[u64],
+) -> io::Result<()>
+    requires size { length words.now ≡ whole shape }
+    requires new { (word x : ℕ) → count ≤ word → word < whole shape → shown_in storage.old word x → x ≡ slice_index words.now word }
+    ensures back { OnOk result (IsReadBack (held_in storage.new) shape.words shape.room words.now) }
+{
+    if count <= shape.words {
+        return storage.sync();
+    }
+    write_back(storage, shape.words, words)
 }

@@ -170,7 +170,9 @@ impl Found {
     }
 
     /// How many words there are.
-    pub(crate) fn count(&self) -> usize {
+    pub(crate) fn count(&self) -> usize
+        ensures { result ≡ length self.now.words.items }
+    {
         self.words.len()
     }
 

@@ -41,11 +41,11 @@ pub struct FileSync {
 }
 
 impl FileStorage {
-    ghost use Rattle.std.specs.Prelude.{◌≡◌, ℕ, ◌<◌, [], ◌∷◌, IfOk};
+    ghost use Rattle.std.specs.Prelude.{◌≡◌, ℕ, ◌<◌, ◌≤◌, [], ◌∷◌, IfOk, OnOk};
     ghost use Rattle.file_words.specs.Accounts.{Stopping};
     ghost use Rattle.file_words.specs.Calls.{IsCutTo, calls_of, held_by};
     ghost use Rattle.journal.specs.Lives.{IsNoMore};
-    ghost use Rattle.pmem_file.specs.Files.{calls_in, held_in};
+    ghost use Rattle.pmem_file.specs.Files.{calls_in, held_in, shown_in};
 
     /// A file of which nothing is known.
     pub(crate) fn new(alloc: Global, file: File, held: Vec<File>) -> io::Result<FileStorage>
@@ -80,7 +80,9 @@ impl FileStorage {
 
     /// Makes it `to` words long, with zeros behind those that it has, which are `from`. If these have no room on the disk, it stays
     /// as long as it was.
-    pub(crate) fn grow(&mut self, alloc: Global, from: usize, to: usize) -> io::Result<()> {
+    pub(crate) fn grow(&mut self, alloc: Global, from: usize, to: usize) -> io::Result<()>
+        ensures zeros { OnOk result ((word x : ℕ) → from ≤ word → word < to → shown_in self.new word x → x ≡ 0) }
+    {
         self.file.grow(alloc, from, to)
     }
 

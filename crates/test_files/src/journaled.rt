@@ -290,7 +290,7 @@ fn a_closed_file_begins_with_its_image(rt: HostRuntime) -> Result<(), Fault> {
 #[test]
 fn a_device_says_why_a_call_failed(rt: HostRuntime) -> Result<(), Fault> {
     let alloc = rt.alloc();
-    let storage = MemoryStorage::new(zeros(alloc)?).failing_after(8, Part::All);
+    let storage = MemoryStorage::new(zeros(alloc)?).failing_after(6, Part::All);
     let Ok(mut device) = Device::of_storage(alloc, storage, WORDS, ROOM, 2) else {
         return Err(Fault::OutOfMemory);
     };

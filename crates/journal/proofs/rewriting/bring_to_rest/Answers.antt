@@ -1,4 +1,6 @@
-use Rattle.std.proofs.Common.{inl, ℕ, List, length, sym, ap, arith}
+use Rattle.std.proofs.Common.{inl, ℕ, Bool, List, length, sym, ap, subst, arith}
+use Rattle.journal.specs.Files.{tail_of}
+use Rattle.journal.specs.States.{HoldsTail}
 use Rattle.journal.proofs.Files.{covers-opens, merely-opens, on_ok}
 use Rattle.journal.proofs.Places.{part_off, part_placed}
 use Rattle.journal.proofs.Placings.{any_ok}
@@ -43,3 +45,9 @@ turn_on-requires-clause-size g c = ap (λ (l : List ℕ). length l) (sym c.requi
 
 pub returns-clause-part : goal.returns-clause-part
 returns-clause-part g c = any_ok c.turn_on.result (rw (sym c.requires.same) at c.in_ok-check_part.ensures)
+
+pub clear-requires-clause-blank : goal.clear-requires-clause-blank
+clear-requires-clause-blank g c is =
+    let words = length c.args.written.now.value.items in
+    let blank = c.requires.blank is in
+    (c.turn_off.ensures.zeros (c.put_in_place.ensures.zeros blank.1), subst (λ (p : Bool). HoldsTail (g.S.Storage.may_hold c.turn_off.new.storage) words c.args.room (tail_of 0 words c.args.room p)) blank.0 c.in_ok-turn_off.ensures.last)

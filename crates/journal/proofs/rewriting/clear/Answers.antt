@@ -1,9 +1,30 @@
 use Rattle.std.proofs.Common.{inl, ◌≡◌, ◌++◌, ◌∙◌, length, arith}
 use Rattle.std.proofs.Math.Logic.{∥∥₁_map}
-use Rattle.journal.proofs.Files.{clear as cleared, clear-opens, clear-kept, merely-opens, on_ok}
+use Rattle.journal.proofs.Files.{blank-keeps, clear as cleared, clear-opens, clear-kept, merely-opens, on_ok}
 use Rattle.journal.proofs.Tails.{names_cleared, names_clear, first_cleared}
 use Rattle.journal.proofs.Places.{places_behind}
 use Rattle.journal.proofs.rewriting.clear.Goals as goal
+
+pub returns-then-is_blank-clause-opens : goal.returns-then-is_blank-clause-opens
+returns-then-is_blank-clause-opens g c =
+    let image = c.args.image.now.value.items in
+    let old = g.S.Storage.may_hold c.args.storage.now in
+    merely-opens old (length image) c.args.room image c.requires.known (λ known. clear-opens old old (length image) c.args.room image known (λ word x h. inl h))
+
+pub returns-then-is_blank-clause-done : goal.returns-then-is_blank-clause-done
+returns-then-is_blank-clause-done g c =
+    let image = c.args.image.now.value.items in
+    let words = length image in
+    let old = g.S.Storage.may_hold c.args.storage.now in
+    let blank = c.requires.blank c.if-is_blank.true in
+    ∥∥₁_map c.requires.known (λ known. clear-kept old old words c.args.room image known (λ word x h. inl h) (blank-keeps old words c.args.room blank.0 blank.1))
+
+pub returns-then-is_blank-clause-named : goal.returns-then-is_blank-clause-named
+returns-then-is_blank-clause-named g c =
+    let words = length c.args.image.now.value.items in
+    let old = g.S.Storage.may_hold c.args.storage.now in
+    let blank = c.requires.blank c.if-is_blank.true in
+    names_clear old words c.args.room (blank-keeps old words c.args.room blank.0 blank.1)
 
 pub returns-in_err-rest-clause-opens : goal.returns-in_err-rest-clause-opens
 returns-in_err-rest-clause-opens g c =

@@ -1,6 +1,6 @@
 use Rattle.std.proofs.Common.{length, sym, arith}
 use Rattle.std.proofs.Math.Logic.{∥∥₁_map}
-use Rattle.journal.proofs.Files.{place-opens, place-kept, merely-opens, on_ok}
+use Rattle.journal.proofs.Files.{zeros-beside, place-opens, place-kept, merely-opens, on_ok}
 use Rattle.journal.proofs.Tails.{names_before, first_before}
 use Rattle.journal.proofs.Places.{places_image}
 use Rattle.journal.proofs.rewriting.put_in_place.Goals as goal
@@ -39,3 +39,10 @@ returns-clause-place g c =
     let old = g.S.Storage.may_hold c.args.storage.now in
     let new = g.S.Storage.may_hold c.put.new.storage in
     places_image old new image (rw (sym c.requires.same) at c.put.ensures.puts)
+
+pub returns-clause-zeros : goal.returns-clause-zeros
+returns-clause-zeros g c =
+    let image = c.args.written.now.value.items in
+    let old = g.S.Storage.may_hold c.args.storage.now in
+    let new = g.S.Storage.may_hold c.put.new.storage in
+    zeros-beside old new (length image) c.args.room 0 image (rw (sym c.requires.same) at c.put.ensures.puts) (λ word above below from lt. omega (arith, above, lt))

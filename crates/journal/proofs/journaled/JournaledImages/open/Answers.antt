@@ -1,13 +1,15 @@
-use Rattle.std.proofs.Common.{◌≡◌, ◌∙◌, inl, true, false, Bool, ℕ, ◌*◌, List, length, refl, sym, ap, subst, arith}
-use Rattle.std.proofs.lemmas.Grind.{merely}
-use Rattle.journal.specs.Files.{Opens, pass_word}
-use Rattle.journal.specs.States.{KnowsJournal}
+use Rattle.std.proofs.Common.{◌≡◌, ◌∙◌, inl, true, false, Bool, ℕ, ◌+◌, ◌*◌, ◌<◌, ◌≤◌, List, length, refl, sym, ap, arith}
+use Rattle.journal.specs.Files.{pass_word}
 use Rattle.journal.proofs.Appended.{may-kept}
 use Rattle.journal.proofs.Files.{read-stands, rewritten-stands}
 use Rattle.journal.proofs.Tails.{names_read, first_read, first_pass}
 use Rattle.journal.proofs.Decides.{decides_rests}
 use Rattle.journal.proofs.Placings.{rests-placed}
 use Rattle.journal.proofs.journaled.JournaledImages.open.Goals as goal
+use Rattle.journal.proofs.journaled.JournaledImages.open.Goals.{then-pass, else-pass}
+
+false-true : false ≡ true → ⊥
+false-true is = grind (arith)
 
 pass_true : (pass : Bool) → pass_word pass ≡ 0 → pass ≡ true
 pass_true true is = refl
@@ -104,3 +106,17 @@ invariant_of-result-clause-placed g c works =
     let unplaced = c.in-Ok-new.unplaced in
     let size : 8 * length unplaced.marks.items ≡ length durable = omega (arith, c.in-Ok-new.ensures.size, c.in-Ok.ensures.file.whole, c.in-Ok.ensures.stands.size, ap (λ (l : List ℕ). length l) is) in
     rests-placed (g.S.Storage.may_hold c.rewrite.new.storage) c.args.room true unplaced.lines.items unplaced.marks.items durable c.in-Ok-new.ensures.lines size c.in-Ok-new.ensures.marks (rw (sym is) at c.in-Ok-rewrite.ensures.rests)
+
+pub rewrite-requires-clause-blank : goal.rewrite-requires-clause-blank
+rewrite-requires-clause-blank g c is = elim c.if-pass.branch [
+  | then-pass w ↦
+      let size = c.in-Ok.ensures.stands.size in
+      let zeroed = sym w.rewrite-is ∙ is in (
+        w.if-pass.true,
+        λ word x above below held.
+            let from : c.args.words ≤ word = omega (arith, size, above) in
+            let to : word < c.args.words + c.args.room = omega (arith, size, below) in
+            c.requires.back c.in-Ok.ensures.file.size word x from (omega (arith, to)) held ∙ (rw c.as_slice.ensures.value at c.is_zeroed-is_zeroed.ensures) zeroed word from to,
+      )
+  | else-pass w ↦ absurd (false-true (sym w.if-pass.false ∙ sym w.rewrite-is ∙ is))
+]
