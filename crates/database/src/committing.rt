@@ -25,16 +25,16 @@ pub fn put_collecting<D: Pmem + Drop, J: Origin>(
     room: &mut OpenedRoom<D, J>,
     session: u8,
     key: Key,
-    row: Row,
+    row: &Row,
 ) -> Result<(), Fault>
     // That one put of this session, key and row, and this put didn't lack a slot. Or a put that was refused with SlotsOut, then
     // visits of the collector, one for each slot and one that ends its round, and nothing else, then the put again. What is
     // returned is the last put's.
-    ensures steps { PutsCollecting D.state room.old.room room.new.room session key row result }
+    ensures steps { PutsCollecting D.state room.old.room room.new.room session key row.now result }
     ensures ended { room.new.ended ≡ room.old.ended }
 
     // Of the session the history then has this put, if it was made, and nothing else.
-    ensures log { LogsOwn session (made_if (is_ok result) (Put session key row)) room.old.log room.new.log }
+    ensures log { LogsOwn session (made_if (is_ok result) (Put session key row.now)) room.old.log room.new.log }
 {
     match put(room, session, key, row) {
         Ok(()) => Ok(()),
@@ -53,16 +53,16 @@ pub fn put_collecting<D: Pmem + Drop, J: Origin>(
 fn write<D: Pmem + Drop, J: Origin>(
     room: &mut OpenedRoom<D, J>,
     session: u8,
-    write: (Key, Option<Row>),
+    write: &(Key, Option<Row>),
 ) -> Result<(), Fault>
-    ensures steps { MakesWrite D.state room.old.room room.new.room session write.0 write.1 result }
+    ensures steps { MakesWrite D.state room.old.room room.new.room session write.now.0 write.now.1 result }
     ensures ended { room.new.ended ≡ room.old.ended }
-    ensures log { LogsOwn session (made_if (is_ok result) (write_step session write)) room.old.log room.new.log }
+    ensures log { LogsOwn session (made_if (is_ok result) (write_step session write.now)) room.old.log room.new.log }
 {
     let (key, row) = write;
     match row {
-        Some(row) => put_collecting(room, session, key, row),
-        None => delete(room, session, key),
+        Some(row) => put_collecting(room, session, *key, row),
+        None => delete(room, session, *key),
     }
 }
 
@@ -81,7 +81,7 @@ pub fn write_all<D: Pmem + Drop, J: Origin>(
     ensures log { LogsWrites session writes.now result room.old.log room.new.log }
 {
     for one in writes {
-        match write(room, session, *one) {
+        match write(room, session, one) {
             Ok(()) => {}
             Err(fault) => return Err(fault),
         }

@@ -76,7 +76,7 @@ impl<D: Pmem + Drop, J: Origin> OpenedRoom<D, J> {
         ensures goes_on { ((fault : Fault) → result ≡ Err fault → fault ≡ OutOfMemory) → self.new.ended ≡ self.old.ended }
     {
         let returned = self.room.advance();
-        self.ended = ended_by(&returned, self.ended);
+        keep_end(&mut self.ended, &returned);
         note(&mut self.log, &returned, SmallStep::Commit);
         returned
     }
@@ -264,16 +264,17 @@ fn add<J: Origin>(log: &mut Option<Log<J>>, step: &Step)
     }
 }
 
-// The fault that has ended the committer after a tick with this result; `before` is the one that had ended it before, if any.
-fn ended_by(returned: &Result<Tick, Fault>, before: Option<Fault>) -> Option<Fault>
-    ensures ended { (fault : Fault) → returned.now ≡ Err fault → fault ≢ OutOfMemory → result ≡ Some fault }
-    ensures goes_on { ((fault : Fault) → returned.now ≡ Err fault → fault ≡ OutOfMemory) → result ≡ before }
-    ensures either { (result ≡ before) ⊎ ((fault : Fault) × (returned.now ≡ Err fault) × (fault ≢ OutOfMemory) × (result ≡ Some fault)) }
+// Keeps why the committer has ended, if a tick with this result ended it. Most ticks don't, and leave the place alone.
+#[inline(always)]
+fn keep_end(ended: &mut Option<Fault>, returned: &Result<Tick, Fault>)
+    ensures ended { (fault : Fault) → returned.now ≡ Err fault → fault ≢ OutOfMemory → ended.new ≡ Some fault }
+    ensures goes_on { ((fault : Fault) → returned.now ≡ Err fault → fault ≡ OutOfMemory) → ended.new ≡ ended.old }
+    ensures either { (ended.new ≡ ended.old) ⊎ ((fault : Fault) × (returned.now ≡ Err fault) × (fault ≢ OutOfMemory) × (ended.new ≡ Some fault)) }
 {
     match returned {
-        Err(Fault::OutOfMemory) => before,
-        Err(fault) => Some(*fault),
-        Ok(_) => before,
+        Ok(_) => {}
+        Err(Fault::OutOfMemory) => {}
+        Err(fault) => *ended = Some(*fault),
     }
 }
 

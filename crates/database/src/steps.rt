@@ -65,14 +65,14 @@ pub fn put<D: Pmem + Drop, J: Origin>(
     room: &mut OpenedRoom<D, J>,
     session: u8,
     key: Key,
-    row: Row,
+    row: &Row,
 ) -> Result<(), Fault>
-    ensures step { Obeys D.state room.old.room room.new.room (Put session key row) done_of result }
+    ensures step { Obeys D.state room.old.room room.new.room (Put session key row.now) done_of result }
     ensures ended { room.new.ended ≡ room.old.ended }
-    ensures log { Logs (made_if (is_ok result) (Put session key row)) room.old.log room.new.log }
+    ensures log { Logs (made_if (is_ok result) (Put session key row.now)) room.old.log room.new.log }
 {
-    let returned = room.room.put(session, key, row);
-    note_put(&mut room.log, &returned, session, key, &row);
+    let returned = room.room.put(session, key, *row);
+    note_put(&mut room.log, &returned, session, key, row);
     returned
 }
 

@@ -187,7 +187,7 @@ impl<'a, D: SyncAhead + Drop, R: Wait, J: Origin> Transaction<'a, D, R, J> {
         let Some(room) = &mut locked.room else {
             unreachable!()
         };
-        let returned = put_collecting(room, self.session, key, row);
+        let returned = put_collecting(room, self.session, key, &row);
         self.keep(&locked);
         returned
     }

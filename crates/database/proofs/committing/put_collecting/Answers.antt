@@ -14,11 +14,11 @@ returns-in-SlotsOut-clause-steps g c = inr (
 )
 
 pub returns-in-Ok-clause-log : goal.returns-in-Ok-clause-log
-returns-in-Ok-clause-log g c = put-own c.args.session c.args.key c.args.row c.put.result _ c.args.room.now.log c.put.new.room.log c.in-Ok.is c.put.ensures.log
+returns-in-Ok-clause-log g c = put-own c.args.session c.args.key c.args.row.now c.put.result _ c.args.room.now.log c.put.new.room.log c.in-Ok.is c.put.ensures.log
 
 pub returns-in-SlotsOut-clause-log : goal.returns-in-SlotsOut-clause-log
 returns-in-SlotsOut-clause-log g c =
-    put-again c.args.session c.args.key c.args.row c.put.result c.in-Err.fault c.put-in-SlotsOut.result c.args.room.now.log c.put.new.room.log c.collect.new.room.log c.put-in-SlotsOut.new.room.log c.in-Err.is c.put.ensures.log c.collect.ensures.log c.put-in-SlotsOut.ensures.log
+    put-again c.args.session c.args.key c.args.row.now c.put.result c.in-Err.fault c.put-in-SlotsOut.result c.args.room.now.log c.put.new.room.log c.collect.new.room.log c.put-in-SlotsOut.new.room.log c.in-Err.is c.put.ensures.log c.collect.ensures.log c.put-in-SlotsOut.ensures.log
 
 pub returns-in_default-clause-log : goal.returns-in_default-clause-log
-returns-in_default-clause-log g c = put-own c.args.session c.args.key c.args.row c.put.result _ c.args.room.now.log c.put.new.room.log c.in-Err.is c.put.ensures.log
+returns-in_default-clause-log g c = put-own c.args.session c.args.key c.args.row.now c.put.result _ c.args.room.now.log c.put.new.room.log c.in-Err.is c.put.ensures.log

@@ -10,8 +10,8 @@ use Rattle.database.proofs.opened.OpenedRoom.tick.Goals as goal
 
 pub invariant_of-self : goal.invariant_of-self
 invariant_of-self g c = record {
-  run = run-ticked g.D.Pmem.state c.args.self.now.room c.advance-returned.new.self c.advance-returned.result (covered_by c.advance-returned.new.self) c.ended_by-self.result c.args.self.now.run c.advance-returned.ensures.step
-      c.ended_by-self.ensures.either;
+  run = run-ticked g.D.Pmem.state c.args.self.now.room c.advance-returned.new.self c.advance-returned.result (covered_by c.advance-returned.new.self) c.keep_end.new.ended c.args.self.now.run c.advance-returned.ensures.step
+      c.keep_end.ensures.either;
   logged = logged-led g.D.Pmem.state g.J.Origin.opened c.args.self.now.room c.advance-returned.new.self Commit (ticked c.advance-returned.result (covered_by c.advance-returned.new.self)) (made_if (is_ok c.advance-returned.result) Commit) c.args.self.now.log c.note.new.log c.args.self.now.logged c.advance-returned.ensures.step c.note.ensures (made-ticked c.advance-returned.result (covered_by c.advance-returned.new.self));
 }
 
