@@ -25,7 +25,7 @@ pub fn put<D: Pmem + Drop>(
     number: u64,
 ) -> Result<(), Fault> {
     let row = Row::new(&number.to_le_bytes())?;
-    room.put(session, key, row)
+    room.put(session, key, &row)
 }
 
 #[inline(never)]

@@ -71,7 +71,7 @@ pub fn put<D: Pmem + Drop, J: Origin>(
     ensures ended { room.new.ended ≡ room.old.ended }
     ensures log { Logs (made_if (is_ok result) (Put session key row.now)) room.old.log room.new.log }
 {
-    let returned = room.room.put(session, key, *row);
+    let returned = room.room.put(session, key, row);
     note_put(&mut room.log, &returned, session, key, row);
     returned
 }

@@ -1,12 +1,13 @@
 -- The calls of an account, and what they say of a word.
 use Rattle.std.specs.Prelude.{◌≡◌, ℕ, true, List, [], ◌∷◌}
-use Rattle.file_words.specs.Accounts.{Call, Writing, Syncing, Sizing, Stopping, Shown, Held, Anything, HasAfter}
-use Rattle.file_words.specs.declared.account.Account.{Account, Begun, After', Wrote', Synced', Sized'}
+use Rattle.file_words.specs.Accounts.{Call, Writing, Syncing, Sizing, Stopping, Reading, Shown, Held, Anything, HasAfter}
+use Rattle.file_words.specs.declared.account.Account.{Account, Begun, Read', After', Wrote', Synced', Sized'}
 use Rattle.file_words.specs.declared.word_file.WordFile.{WordFile}
 
 -- the last one first
 abbrev pub calls_of : Account → List Call
 calls_of Begun = []
+calls_of (Read' marker before count words room file) = Reading count.value words.value room.value file.value.items ∷ calls_of before
 calls_of (After' marker before) = Stopping ∷ calls_of before
 calls_of (Wrote' marker before start count bytes is_ok) = Writing start.value count.value bytes.value.items is_ok.value ∷ calls_of before
 calls_of (Synced' marker before is_ok) = Syncing is_ok.value ∷ calls_of before

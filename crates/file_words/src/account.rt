@@ -1,14 +1,16 @@
 ghost use Rattle.std.specs.Prelude.{◌≡◌, ◌↔◌, ℕ, [], ◌∷◌};
-ghost use Rattle.file_words.specs.Accounts.{Sizing, Stopping, Syncing, Writing};
+ghost use Rattle.file_words.specs.Accounts.{Reading, Sizing, Stopping, Syncing, Writing};
 ghost use Rattle.file_words.specs.Calls.{calls_of, held_by, shown_by};
 
 use std::snapshot::Snapshot;
 
-/// The calls that wrote to a file, synced it or changed its length, since it was opened, and in each life before of which that is
-/// known. It takes one byte, since clauses alone read the rest.
+/// What was read of a file when it was opened, and the calls that wrote to it, synced it or changed its length since, and in each
+/// life before of which that is known. It takes one byte, since clauses alone read the rest.
 #[derive(Drop)]
 pub enum Account {
     Begun,
+    /// How many words were read, how many its image has, how many its journal, and the words.
+    Read(Snapshot<Account>, Snapshot<usize>, Snapshot<usize>, Snapshot<usize>, Snapshot<Vec<u64>>),
     /// The last life of the file stopped with this account.
     After(Snapshot<Account>),
     /// The first word, how many words were written, the bytes that begin with them, and whether the write succeeded.
@@ -20,11 +22,18 @@ pub enum Account {
 }
 
 impl Account {
-    /// Of a file of which nothing is known.
-    pub(crate) fn begun() -> Account
-        ensures { calls_of result ≡ [] }
+    /// Of a file of which nothing else is known than what was read of it: the first `count` of these words.
+    pub(crate) fn read(count: usize, words: usize, room: usize, file: &Vec<u64>) -> Account
+        ensures { calls_of result ≡ Reading count words room file.now.items ∷ [] }
     {
-        Account::Begun
+        let begun = Account::Begun;
+        Account::Read(
+            Snapshot::of(&begun),
+            Snapshot::of(&count),
+            Snapshot::of(&words),
+            Snapshot::of(&room),
+            Snapshot::of(file),
+        )
     }
 
     /// Of a file whose last life stopped with this account.

@@ -27,14 +27,27 @@ pub struct WordFile {
 impl WordFile {
     ghost use Rattle.std.specs.Prelude.{◌≡◌, ◌⊎◌, ℕ, ◌+◌, ◌-◌, ◌*◌, ◌<◌, ◌≤◌, [], ◌∷◌, length, slice_index, is_ok, IfOk, OnOk};
     ghost use Rattle.journal.specs.Files.{IsInRun};
-    ghost use Rattle.file_words.specs.Accounts.{Sizing, Stopping, Syncing, Writing};
+    ghost use Rattle.file_words.specs.Accounts.{IsReadInPlace, Reading, Sizing, Stopping, Syncing, Writing};
     ghost use Rattle.file_words.specs.Calls.{IsCutTo, account_of, calls_of, held_by, shown_by};
 
-    /// A file on which no call was made yet, and of which nothing is known.
-    pub fn new(alloc: Global, file: File) -> io::Result<WordFile>
-        ensures { IfOk result (λ made. calls_of (account_of made) ≡ []) }
+    /// A file of which `count` words were read, the first of these, and nothing else is known: it has an image of `words`, and a
+    /// journal of `room` behind it, as far as these were read. It is trusted of the caller that they were read since it was opened.
+    /// It is trusted of the system, and of whoever wrote the file, that a sync which succeeds then leaves on the disk what was read in
+    /// place, except in the lines of the journal's entries: that no sync of these words failed and was ignored.
+    pub fn read(
+        alloc: Global,
+        file: File,
+        count: usize,
+        words: usize,
+        room: usize,
+        found: &Vec<u64>,
+    ) -> io::Result<WordFile>
+        ensures calls { IfOk result (λ made. calls_of (account_of made) ≡ Reading count words room found.now.items ∷ []) }
+
+        // A word that was read in place (`IsReadInPlace`) is shown only as it was read.
+        ensures shown { IfOk result (λ made. (word x : ℕ) → IsReadInPlace count words room found.now.items word → shown_by (account_of made) word x → x ≡ slice_index found.now.items word) }
     {
-        WordFile::with_account(alloc, file, Account::begun())
+        WordFile::with_account(alloc, file, Account::read(count, words, room, found))
     }
 
     /// A file whose last life stopped with this account. It is trusted of the caller that it is the same file.

@@ -6,12 +6,12 @@ use Rattle.std.proofs.lemmas.Bool.{cases_lt}
 use Rattle.std.proofs.lemmas.List.{ext_get_or}
 use Rattle.std.proofs.lemmas.List.FromFn.{get_or-map-range_with_len, length-map-range_with_len}
 use Rattle.std.specs.List.{range_with_len}
-use Rattle.journal.specs.Files.{lines_in, FoundOpens, IsFile, Opens}
+use Rattle.journal.specs.Files.{lines_in, FoundOpens, IsFile, Opens, StandsAs}
 use Rattle.journal.specs.InPlace.{put_over}
 use Rattle.journal.specs.Kept.{HoldsOnly, IsFound}
 use Rattle.journal.specs.Lives.{IsLeft, IsNoMore, StandsForNoOther}
 use Rattle.journal.specs.Places.{PartAsBefore}
-use Rattle.journal.specs.ReadBack.{IsReadWord, JournalDecides, StandsAsBefore}
+use Rattle.journal.specs.ReadBack.{IsReadWord, JournalDecides, StandsStill}
 use Rattle.journal.specs.States.{Rests}
 use Rattle.journal.specs.Tails.{NamesAsRead}
 use Rattle.journal.proofs.Settled.{equal_out}
@@ -106,12 +106,17 @@ read_within before old new words room file found within puts word x h = elim (pu
   | inr read ↦ subst (λ (v : ℕ). before word v) (sym read.2) (found.each word (omega (arith, read.1, found.size)))
 ]
 
+-- of the words in place that were left the journal's lines make the same as of those that were read
+pub left_still : (before now : ℕ → ℕ → Type 0) (words room : ℕ) (file : List ℕ) → IsFound before (words + room + 8) file → JournalDecides before words room → IsNoMore before now → StandsStill now words room file
+left_still before now words room file found decides within =
+    decided-stands_still before now words room file (image_in words room file) decides found (stands_for words room file) (λ word x lt h. within word x h)
+
 -- and opening it fails then
-module _ (before old new : ℕ → ℕ → Type 0) (words room : ℕ) (file : List ℕ) (is : IsFile words room (length file)) (found : IsFound before (words + room + 8) file) (left : IsLeft before words room) (within : IsNoMore before old) (stands : StandsAsBefore old new words room file) where
+module _ (before old new : ℕ → ℕ → Type 0) (words room : ℕ) (file : List ℕ) (is : IsFile words room (length file)) (found : IsFound before (words + room + 8) file) (left : IsLeft before words room) (within : IsNoMore before old) (stands : StandsAs new words room file) where
   opens : FoundOpens new words room (image_in words room file)
   opens =
       let image = image_in words room file in
-      stands (decided-stands_still before old words room file image left.decides found (stands_for words room file) (λ word x lt h. within word x h)) is image (stands_for words room file)
+      stands is image (stands_for words room file)
 
   pub stopped_stands : StandsForNoOther before new words room
   stopped_stands image stood =

@@ -11,7 +11,7 @@ use Rattle.journal.specs.Entries.{NoneOf}
 use Rattle.journal.specs.InPlace.{put_over}
 use Rattle.journal.specs.Opened.{lines_found}
 use Rattle.journal.specs.Files.{magic, pass_word, pass_of, tail_of, journal_in, is_on, lines_in, IsInRun, IsStoodFor, MayBe, Opens, FoundOpens, StandsAs}
-use Rattle.journal.specs.ReadBack.{IsReadBack, StandsStill, StandsAsBefore, Covers, JournalDecides}
+use Rattle.journal.specs.ReadBack.{IsReadBack, StandsStill, Covers, JournalDecides}
 use Rattle.journal.specs.States.{HoldsTail, HoldsZeros, Knows, KnowsJournal, IsInPlace, IsOff, IsClear, Rests}
 use Rattle.journal.specs.LinePayloads.{lines_of}
 use Rattle.journal.specs.Passes.{joined}
@@ -186,24 +186,22 @@ read-covers : (may_hold : ℕ → ℕ → Type 0) (words room : ℕ) (file image
 read-covers may_hold words room file image size back still opens = record { file = file; size = size; behind = back; opens = opens; still = still }
 
 -- nothing is written to it
-pub read-stands : (may_hold : ℕ → ℕ → Type 0) (words room : ℕ) (file : List ℕ) → (length file ≡ words + room + 8 → IsReadBack may_hold words room file) → StandsAsBefore may_hold may_hold words room file
-read-stands may_hold words room file back still is_file image opens = covers-opens may_hold words room image (read-covers may_hold words room file image is_file.size (back is_file.size) still opens)
+pub read-stands : (may_hold : ℕ → ℕ → Type 0) (words room : ℕ) (file : List ℕ) → (length file ≡ words + room + 8 → IsReadBack may_hold words room file)
+    → (length file ≡ words + room + 8 → StandsStill may_hold words room file) → StandsAs may_hold words room file
+read-stands may_hold words room file back still is_file image opens = covers-opens may_hold words room image (read-covers may_hold words room file image is_file.size (back is_file.size) (still is_file.size) opens)
 
 -- it is brought to rest, or a write fails
-pub rewritten-stands : (old new : ℕ → ℕ → Type 0) (words room : ℕ) (file image : List ℕ) → length file ≡ words + room + 8 → (length file ≡ words + room + 8 → IsReadBack old words room file) → Opens words room file image
-    → (∥ Covers old words room image ∥₁ → FoundOpens new words room image) → StandsAsBefore old new words room file
-rewritten-stands old new words room file image size back opens each still =
-    opened-stands new words room file image opens (each (merely (read-covers old words room file image size (back size) still opens)))
+pub rewritten-stands : (old new : ℕ → ℕ → Type 0) (words room : ℕ) (file image : List ℕ) → length file ≡ words + room + 8 → (length file ≡ words + room + 8 → IsReadBack old words room file)
+    → (length file ≡ words + room + 8 → StandsStill old words room file) → Opens words room file image → (∥ Covers old words room image ∥₁ → FoundOpens new words room image) → StandsAs new words room file
+rewritten-stands old new words room file image size back still opens each =
+    opened-stands new words room file image opens (each (merely (read-covers old words room file image size (back size) (still size) opens)))
 
 -- if nothing but what was read may be found of the whole file
 pub held-back : (may_hold : ℕ → ℕ → Type 0) (words room : ℕ) (file : List ℕ) → HoldsOnly may_hold (length file) file → length file ≡ words + room + 8 → IsReadBack may_hold words room file
 held-back may_hold words room file holds size word x le lt h = holds word x (omega (arith, lt, size)) h
 
-held-still : (may_hold : ℕ → ℕ → Type 0) (words room : ℕ) (file : List ℕ) → HoldsOnly may_hold (length file) file → length file ≡ words + room + 8 → StandsStill may_hold words room file
+pub held-still : (may_hold : ℕ → ℕ → Type 0) (words room : ℕ) (file : List ℕ) → HoldsOnly may_hold (length file) file → length file ≡ words + room + 8 → StandsStill may_hold words room file
 held-still may_hold words room file holds size word x lt h = ap (λ (v : ℕ). put_over (lines_in words room file) word v) (holds word x (omega (arith, lt, size)) h)
-
-pub held-stands : (before now : ℕ → ℕ → Type 0) (words room : ℕ) (file : List ℕ) → HoldsOnly before (length file) file → StandsAsBefore before now words room file → StandsAs now words room file
-held-stands before now words room file holds stands is_file = stands (held-still before words room file holds is_file.size) is_file
 
 -- what was written back is the journal and the tail of a file of this length
 pub written-back : (may_hold : ℕ → ℕ → Type 0) (words room : ℕ) (file : List ℕ) → IsReadBack may_hold words (length file - words - 8) file → length file ≡ words + room + 8 → IsReadBack may_hold words room file

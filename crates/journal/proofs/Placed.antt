@@ -14,7 +14,7 @@ pub record IsPlacing (old now : List ℕ) (line : Line) (place : ℕ) : Type 0 w
 
 -- ---- several
 
-lines-more : (n : ℕ) (payloads : List ℕ) → lines_of (suc n) payloads ≡ lines_of n payloads ++ line_of (drop (9 * n) payloads) ∷ []
+pub lines-more : (n : ℕ) (payloads : List ℕ) → lines_of (suc n) payloads ≡ lines_of n payloads ++ line_of (drop (9 * n) payloads) ∷ []
 lines-more zero payloads = refl
 lines-more (suc n) payloads = grind (arith, drop-drop (9 * n) 9 payloads, lines-more n (drop 9 payloads))
 

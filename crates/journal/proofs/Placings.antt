@@ -8,11 +8,12 @@ use Rattle.std.proofs.lemmas.Bool.{cases_lt, cases_eq, cases_Bool, eq-eqb, false
 use Rattle.std.proofs.lemmas.List.{get_or_past}
 use Rattle.journal.specs.declared.line.Line.{Line}
 use Rattle.journal.specs.Kept.{HoldsOnly, is_put_at}
-use Rattle.journal.specs.Files.{IsInRun}
+use Rattle.journal.specs.Files.{IsInRun, Opens, lines_in}
 use Rattle.journal.specs.InPlace.{put_over}
 use Rattle.journal.specs.LinePayloads.{payloads_of_lines}
 use Rattle.journal.specs.Several.{journal}
 use Rattle.journal.specs.Opened.{all_lines}
+use Rattle.journal.specs.ReadBack.{StandsStill}
 use Rattle.journal.specs.States.{Rests}
 use Rattle.journal.specs.Changes.{AreChanged}
 use Rattle.journal.specs.Places.{PlacesOnly}
@@ -94,11 +95,11 @@ line-written line shown word x size writes at h =
 
 -- ---- of several lines of one number the last one counts
 
-over_none : (lines : List Line) (word v : ℕ) → is_put_at lines (word / 8) ≡ false → put_over lines word v ≡ v
+pub over_none : (lines : List Line) (word v : ℕ) → is_put_at lines (word / 8) ≡ false → put_over lines word v ≡ v
 over_none [] word v none = refl
 over_none (line ∷ lines) word v none = grind (arith, over_none lines word v)
 
-over_some : (lines : List Line) (word v w : ℕ) → is_put_at lines (word / 8) ≡ true → put_over lines word v ≡ put_over lines word w
+pub over_some : (lines : List Line) (word v w : ℕ) → is_put_at lines (word / 8) ≡ true → put_over lines word v ≡ put_over lines word w
 over_some [] word v w is = absurd (false≢true is)
 over_some (line ∷ lines) word v w is = grind (arith, over_some lines word v w)
 
@@ -281,6 +282,23 @@ rests-holds hold room pass durable some word x lt h = ∥∥₁_elim some (ℕ_s
 pub rests-placed : (hold : ℕ → ℕ → Type 0) (room : ℕ) (pass : Bool) (lines : List Line) (marks : List Bool) (durable : List ℕ) → lines ≡ [] → 8 * length marks ≡ length durable → ((number : ℕ) → is_marked marks number ≡ false)
     → ∥ Rests hold (length durable) room pass 0 durable ∥₁ → IsPlacedBut hold lines marks durable
 rests-placed hold room pass lines marks durable none size off some = placed-none hold lines marks durable none size off (rests-holds hold room pass durable some)
+
+-- a file was read whose words in place are known but for those of the journal's lines
+pub placed-read : (hold : ℕ → ℕ → Type 0) (words room : ℕ) (lines : List Line) (marks : List Bool) (file image : List ℕ) → lines ≡ lines_in words room file → 8 * length marks ≡ length image
+    → ((number : ℕ) → number < length marks → is_marked marks number ≡ is_put_at lines number) → Opens words room file image → StandsStill hold words room file → IsPlacedBut hold lines marks image
+placed-read hold words room lines marks file image are size marked opens still = record {
+  size = size;
+  marked = marked;
+  makes = λ word value lt put. over_some lines word value (get_or file word 0) put ∙ made word lt;
+  others = λ word x lt off held.
+      sym (over_none lines word x off)
+      ∙ ap (λ (l : List Line). put_over l word x) are
+      ∙ still word x (omega (arith, lt, opens.size)) held
+      ∙ sym (opens.each word (omega (arith, lt, opens.size)));
+}
+  where
+    made : (word : ℕ) → word < length image → put_over lines word (get_or file word 0) ≡ get_or image word 0
+    made word lt = ap (λ (l : List Line). put_over l word (get_or file word 0)) are ∙ sym (opens.each word (omega (arith, lt, opens.size)))
 
 -- ---- the lines of an entry aren't in place
 

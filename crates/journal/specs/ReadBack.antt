@@ -2,24 +2,22 @@
 use Rattle.std.specs.Prelude.{◌≡◌, ℕ, ◌+◌, ◌<◌, ◌≤◌, List, length, slice_index}
 use Rattle.journal.specs.Kept.{IsFound}
 use Rattle.journal.specs.InPlace.{put_over}
-use Rattle.journal.specs.Files.{lines_in, Opens, StandsAs}
+use Rattle.journal.specs.Files.{lines_in, Opens}
 
 -- x is this word of the file, and the word is behind an image of `words`
 abbrev pub IsReadWord : ℕ → List ℕ → ℕ → ℕ → Type 0
 IsReadWord words file word x = (words ≤ word) × (word < length file) × (x ≡ slice_index file word)
 
--- Nothing but what was read is found of the journal and the tail; of the words in place nothing is said. Opening requires this.
+-- Nothing but what was read is found of the journal and the tail; of the words in place nothing is said. Opening requires this, too.
 abbrev pub IsReadBack : (ℕ → ℕ → Type 0) → ℕ → ℕ → List ℕ → Type 0
 IsReadBack may_hold words room file = (word x : ℕ) → words ≤ word → word < words + room + 8 → may_hold word x → x ≡ slice_index file word
 
--- Whatever a word in place is found as, the lines of the journal make the same of it as of the one that was read. Then opening can't fail
--- and leave half a journal. It is so of files whose journal decides (`JournalDecides`).
+-- Whatever a word in place is found as, the lines of the journal make the same of it as of the one that was read: a word of no line is
+-- found only as it was read. Then opening can't fail and leave half a journal. It is so of files whose journal decides
+-- (`JournalDecides`). Opening requires this, and writes nothing else in place than these lines.
+-- Excluded: an opening that leaves in place what was read there and isn't on the disk.
 abbrev pub StandsStill : (ℕ → ℕ → Type 0) → ℕ → ℕ → List ℕ → Type 0
 StandsStill may_hold words room file = (word x : ℕ) → word < words → may_hold word x → put_over (lines_in words room file) word x ≡ put_over (lines_in words room file) word (slice_index file word)
-
--- if it was so before, whatever is found now stands for the image that the file stands for
-abbrev pub StandsAsBefore : (ℕ → ℕ → Type 0) → (ℕ → ℕ → Type 0) → ℕ → ℕ → List ℕ → Type 0
-StandsAsBefore before now words room file = StandsStill before words room file → StandsAs now words room file
 
 -- two files that may be found stand for the same image, if they have the same journal and the same tail
 pub record JournalDecides (may_hold : ℕ → ℕ → Type 0) (words room : ℕ) : Type 0 where

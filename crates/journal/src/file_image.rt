@@ -7,7 +7,7 @@ ghost use Rattle.journal.specs.Files.{HasTail, IsTail, IsFile, Opens, ReportsUnr
 use crate::journal::read_journal;
 use crate::line::{Line, line_of};
 use crate::rewriting::MAGIC;
-use std::alloc::Global;
+use std::alloc::{AllocError, Global};
 use std::io;
 use std::io::ErrorKind;
 
@@ -27,23 +27,38 @@ pub fn image_in(alloc: Global, file: &[u64], words: usize, room: usize) -> io::R
     Ok(image)
 }
 
-/// Leaves of a file's words the image that the file stands for. Returns the pass that its journal counts in.
+/// Leaves of a file's words the image that the file stands for. Returns the pass that its journal counts in, and the lines of its
+/// entries in their order.
 pub(crate) fn leave_image(
     alloc: Global,
     file: &mut Vec<u64>,
     words: usize,
     room: usize,
-) -> io::Result<bool>
+) -> io::Result<(bool, Vec<Line>)>
     // As for `image_in`.
     ensures file { OnOk result (IsFile words room (length file.old.items)) }
-    ensures pass { IfOk result (λ pass. slice_index file.old.items (words + room + 3) ≡ pass_word pass) }
+    ensures pass { IfOk result (λ left. slice_index file.old.items (words + room + 3) ≡ pass_word left.0) }
+    ensures lines { IfOk result (λ left. left.1.items ≡ lines_in words room file.old.items) }
     ensures stands { OnOk result (Opens words room file.old.items file.new.items) }
 {
     let payloads = payloads_in(alloc, file.as_slice(), words, room)?;
+    let lines = listed(alloc, payloads.as_slice())?;
     let pass = file[words + room + 3] == 0;
     file.truncate(words);
     put_lines(file, payloads.as_slice());
-    Ok(pass)
+    Ok((pass, lines))
+}
+
+// The lines of these payloads, as a list.
+fn listed(alloc: Global, payloads: &[u64]) -> Result<Vec<Line>, AllocError>
+    ensures { IfOk result (λ lines. lines.items ≡ lines_of (length payloads.now / 9) payloads.now) }
+{
+    let count = payloads.len() / 9;
+    let mut lines = Vec::with_capacity(alloc, count)?;
+    for at in 0..count {
+        lines.push(line_of(&payloads[9 * at..]))?;
+    }
+    Ok(lines)
 }
 
 /// Whether a file has a journal of nothing but zeros.

@@ -1,8 +1,8 @@
 ghost use Rattle.std.specs.Prelude.{◌≡◌, ℕ, List, ◌+◌, ◌*◌, ◌%◌, ◌<◌, ◌^◌, true, false, None, length, is_some, IfErr, IfOk, IsErr, OnErr, OnOk};
 ghost use Rattle.std.proofs.Common.{inl};
-ghost use Rattle.journal.specs.Files.{Opens};
+ghost use Rattle.journal.specs.Files.{Opens, StandsAs};
 ghost use Rattle.journal.specs.Places.{HoldsPart, IsPart, PartAsBefore};
-ghost use Rattle.journal.specs.ReadBack.{IsReadBack, JournalDecides, StandsAsBefore};
+ghost use Rattle.journal.specs.ReadBack.{IsReadBack, JournalDecides, StandsStill};
 ghost use Rattle.journal.specs.States.{Rests};
 ghost use Rattle.journal.specs.Tails.{BeginsAsRead, NamesAsRead, NamesBoth};
 ghost use Rattle.journal.specs.Unplaced.{IsPlacedBut};
@@ -72,8 +72,9 @@ pub struct Unclosed<S> {
 impl<S: Storage> JournaledImages<S> {
     ghost use Rattle.journal.specs.Images.{IsClosedIn, MayFind, StandsForOne, failure_of, last_image, room_of, storage_of};
 
-    /// Opens a file of which these words were read: an image of `words`, a journal of `room`, and a tail. The image that the file
-    /// stands for is put in place, and the file is brought to rest. Of the words that were read it leaves this image.
+    /// Opens a file of which these words were read: an image of `words`, a journal of `room`, and a tail. The lines of the journal's
+    /// entries are put in place, and the file is brought to rest. Of the words that were read it leaves the image that the file
+    /// stands for.
     pub fn open(
         alloc: Global,
         storage: S,
@@ -84,8 +85,10 @@ impl<S: Storage> JournaledImages<S> {
     where
         S: Drop,
         // If the file has this length, its journal and its tail are found only as they were read (`IsReadBack`), as after
-        // `write_back`. A word in place may be found as anything.
+        // `write_back`. Whatever a word in place is found as, the journal's lines make the same of it as of the one that was read
+        // (`StandsStill`): a word of no line is found only as it was read.
         requires back { length file.old.items ≡ words + room + 8 → IsReadBack (S.may_hold storage) words room file.old.items }
+        requires still { length file.old.items ≡ words + room + 8 → StandsStill (S.may_hold storage) words room file.old.items }
 
         // The image that is kept is the one that the file stands for, and no other may be found. The journal has this room.
         ensures stands { IfOk result (λ images. Opens words room file.old.items (last_image images)) }
@@ -96,9 +99,8 @@ impl<S: Storage> JournaledImages<S> {
         // No failure to keep an image is noted.
         ensures works { IfOk result (λ images. failure_of images ≡ None) }
 
-        // At Err, as that of `image_in` or of a write, whatever is found stands for that image, if the journal's lines made the
-        // same of whatever was found in place before (`StandsAsBefore`).
-        ensures unopened { IfErr result (λ unopened. StandsAsBefore (S.may_hold storage) (S.may_hold unopened.storage) words room file.old.items) }
+        // At Err, as that of `image_in` or of a write, whatever is found stands for that image (`StandsAs`).
+        ensures unopened { IfErr result (λ unopened. StandsAs (S.may_hold unopened.storage) words room file.old.items) }
 
         // At Ok whatever is found of the tail names both (`NamesBoth`). At Err it does too, if the file that was read has a tail
         // that names both.
@@ -115,18 +117,27 @@ impl<S: Storage> JournaledImages<S> {
         ensures part { IfErr result (λ unopened. PartAsBefore (S.may_hold storage) (S.may_hold unopened.storage) words room) }
     {
         let is_zeroed = is_zeroed(file.as_slice(), words, room);
-        let pass = match leave_image(alloc, file, words, room) {
-            Ok(pass) => pass,
+        let (pass, lines) = match leave_image(alloc, file, words, room) {
+            Ok(left) => left,
             Err(error) => return Err(Unopened { error, storage }),
         };
-        let Ok(unplaced) = Unplaced::new(alloc, words / 8) else {
+        let Ok(mut unplaced) = Unplaced::new(alloc, lines, words / 8) else {
             return Err(Unopened {
                 error: io::Error::from(ErrorKind::OutOfMemory),
                 storage,
             });
         };
         let mut storage = storage;
-        match rewrite(alloc, &mut storage, &*file, room, pass, pass && is_zeroed) {
+        let is_blank = pass && is_zeroed;
+        match rewrite(
+            alloc,
+            &mut storage,
+            &*file,
+            &mut unplaced,
+            room,
+            pass,
+            is_blank,
+        ) {
             Ok(()) => Ok(JournaledImages {
                 alloc,
                 storage,

@@ -32,5 +32,4 @@ pub use law::{
     stretches_are_by_places, torn_entries_are_seen,
 };
 pub use line::{Line, entry_of, line_of};
-pub use rewriting::rewrite;
 pub use storage::{Storage, write_back};

@@ -19,30 +19,35 @@ use std::snapshot::Snapshot;
 pub(crate) const MAGIC: u64 = 0x5742_4C2D_4A52_4E31;
 
 /// Brings a file to rest, with its image in place and nothing in the journal, whatever its journal held. The journal has `room`
-/// words, and `pass` is the one that it counts in. Four writes, and a wait after each: the image in place; then the journal no
-/// longer counts; it is cleared, unless it is blank; it counts again.
-pub fn rewrite<S: Storage>(
+/// words, and `pass` is the one that it counts in. Four writes, and a wait after each: the lines in place that may not be there; then
+/// the journal no longer counts; it is cleared, unless it is blank; it counts again.
+pub(crate) fn rewrite<S: Storage>(
     alloc: Global,
     storage: &mut S,
     image: &Vec<u64>,
+    unplaced: &mut Unplaced,
     room: usize,
     pass: bool,
     is_blank: bool,
 ) -> io::Result<()>
-    requires fits { length image.now.items + room + 8 < 2 ^ 63 }
+    requires fits { length image.now.items + room + 8 < 2 ^ 58 }
+
+    // In place nothing is found but this image, except in these lines, which make the image's words (`IsPlacedBut`).
+    requires placed { IsPlacedBut (S.may_hold storage.old) unplaced.old.lines.items unplaced.old.marks.items image.now.items }
 
     // It is called blank only if it has nothing but zeros, in the first pass (`IsBlank`).
     requires blank { is_blank ≡ true → IsBlank (S.may_hold storage.old) (length image.now.items) room pass }
 
-    // One journal and one tail are known to be there, and a file that has them stands for this image. A word in place may be
+    // One journal and one tail are known to be there, and a file that has them stands for this image. A word of these lines may be
     // found otherwise.
     requires known { ∥ KnowsJournal (S.may_hold storage.old) (length image.now.items) room pass image.now.items ∥₁ }
 
     // Whatever is found stands for this image, also if a write fails, if it did before whatever was in place (`Covers`).
     ensures opens { ∥ Covers (S.may_hold storage.old) (length image.now.items) room image.now.items ∥₁ → FoundOpens (S.may_hold storage.new) (length image.now.items) room image.now.items }
 
-    // At Ok the image is in place, and the journal counts and has nothing in it.
+    // At Ok the image is in place, and the journal counts and has nothing in it. No line is left that may not be in place.
     ensures rests { OnOk result (∥ Rests (S.may_hold storage.new) (length image.now.items) room true 0 image.now.items ∥₁) }
+    ensures placed { OnOk result (IsPlacedBut (S.may_hold storage.new) unplaced.new.lines.items unplaced.new.marks.items image.now.items) }
 
     // The tail names both, also if a write fails, if it did before (`NamesAsBefore`).
     ensures tail { NamesAsBefore (S.may_hold storage.old) (S.may_hold storage.new) (length image.now.items) room }
@@ -68,6 +73,7 @@ pub fn rewrite<S: Storage>(
         storage,
         image.as_slice(),
         &Snapshot::of(image),
+        unplaced,
         room,
         pass,
         is_blank,
@@ -80,16 +86,19 @@ fn bring_to_rest<S: Storage>(
     storage: &mut S,
     image: &[u64],
     written: &Snapshot<Vec<u64>>,
+    unplaced: &mut Unplaced,
     room: usize,
     pass: bool,
     is_blank: bool,
 ) -> io::Result<()>
-    requires fits { length written.now.value.items + room + 8 < 2 ^ 63 }
+    requires fits { length written.now.value.items + room + 8 < 2 ^ 58 }
+    requires placed { IsPlacedBut (S.may_hold storage.old) unplaced.old.lines.items unplaced.old.marks.items written.now.value.items }
     requires blank { is_blank ≡ true → IsBlank (S.may_hold storage.old) (length written.now.value.items) room pass }
     requires same { written.now.value.items ≡ image.now }
     requires known { ∥ KnowsJournal (S.may_hold storage.old) (length written.now.value.items) room pass written.now.value.items ∥₁ }
     ensures opens { ∥ Covers (S.may_hold storage.old) (length written.now.value.items) room written.now.value.items ∥₁ → FoundOpens (S.may_hold storage.new) (length written.now.value.items) room written.now.value.items }
     ensures rests { OnOk result (∥ Rests (S.may_hold storage.new) (length written.now.value.items) room true 0 written.now.value.items ∥₁) }
+    ensures placed { OnOk result (IsPlacedBut (S.may_hold storage.new) unplaced.new.lines.items unplaced.new.marks.items written.now.value.items) }
     ensures tail { NamesAsBefore (S.may_hold storage.old) (S.may_hold storage.new) (length written.now.value.items) room }
     ensures place { PlacesOnly (S.may_hold storage.old) (S.may_hold storage.new) written.now.value.items }
     ensures before { PartAsBefore (S.may_hold storage.old) (S.may_hold storage.new) (length written.now.value.items) room }
@@ -100,7 +109,7 @@ fn bring_to_rest<S: Storage>(
 {
     let words = image.len();
     check_part(image, room)?;
-    put_in_place(storage, image, written, room, pass)?;
+    put_in_place(storage, written, unplaced, room, pass)?;
     turn_off(storage, words, written, room, pass)?;
     clear(alloc, storage, words, written, room, is_blank)?;
     turn_on(storage, words, written, room)
@@ -130,25 +139,26 @@ pub(crate) fn settle<S: Storage>(
     turn_off(storage, words, image, room, pass)
 }
 
-// Puts all of the image in place: then each word of it is known, whatever it was.
+// Puts the lines in place that may not be there: then each word of the image is known, whatever it was.
 fn put_in_place<S: Storage>(
     storage: &mut S,
-    image: &[u64],
     written: &Snapshot<Vec<u64>>,
+    unplaced: &mut Unplaced,
     room: usize,
     pass: bool,
 ) -> io::Result<()>
-    requires same { written.now.value.items ≡ image.now }
+    requires fits { length written.now.value.items < 2 ^ 58 }
+    requires placed { IsPlacedBut (S.may_hold storage.old) unplaced.old.lines.items unplaced.old.marks.items written.now.value.items }
     requires known { ∥ KnowsJournal (S.may_hold storage.old) (length written.now.value.items) room pass written.now.value.items ∥₁ }
     ensures opens { ∥ Covers (S.may_hold storage.old) (length written.now.value.items) room written.now.value.items ∥₁ → FoundOpens (S.may_hold storage.new) (length written.now.value.items) room written.now.value.items }
     ensures done { OnOk result (∥ IsInPlace (S.may_hold storage.new) (length written.now.value.items) room pass written.now.value.items ∥₁) }
     ensures tail { NamesAsBefore (S.may_hold storage.old) (S.may_hold storage.new) (length written.now.value.items) room }
     ensures place { PlacesOnly (S.may_hold storage.old) (S.may_hold storage.new) written.now.value.items }
+    ensures placed { OnOk result (IsPlacedBut (S.may_hold storage.new) unplaced.new.lines.items unplaced.new.marks.items written.now.value.items) }
     ensures first { HoldsFirst (S.may_hold storage.old) (length written.now.value.items) room → HoldsFirst (S.may_hold storage.new) (length written.now.value.items) room }
     ensures zeros { HoldsZeros (S.may_hold storage.old) (length written.now.value.items) room → HoldsZeros (S.may_hold storage.new) (length written.now.value.items) room }
 {
-    let _ = written;
-    put(storage, 0, image)
+    put_unplaced(storage, unplaced, written)
 }
 
 // From now on the journal doesn't count.

@@ -96,8 +96,9 @@ pub fn write_back<S: Storage>(storage: &mut S, words: usize, file: &[u64]) -> io
     // Also at Err, each word may be found as before or, behind the image, as in this file.
     ensures puts { (word x : ℕ) → S.may_hold storage.new word x → S.may_hold storage.old word x ⊎ IsReadWord words file.now word x }
 
-    // At Ok the journal and the tail are found only as in this file (`IsReadBack`).
+    // At Ok the journal and the tail are found only as in this file (`IsReadBack`), and a word in place only as it was written last.
     ensures back { OnOk result (IsReadBack (S.may_hold storage.new) words (length file.now - words - 8) file.now) }
+    ensures place { OnOk result ((word x : ℕ) → word < words → S.may_hold storage.new word x → S.shows storage.old word x) }
 {
     put(storage, words, &file[words..])
 }

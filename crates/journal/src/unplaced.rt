@@ -9,7 +9,7 @@ use std::alloc::{AllocError, Global};
 use std::io;
 use std::snapshot::Snapshot;
 
-/// The lines of the entries of a pass, as they were written. None of them may be in place.
+/// The lines of the entries of a pass, as they were written. None of them need be in place.
 #[derive(Drop)]
 pub(crate) struct Unplaced {
     pub(crate) lines: Vec<Line>,
@@ -19,20 +19,19 @@ pub(crate) struct Unplaced {
 }
 
 impl Unplaced {
-    ghost use Rattle.std.specs.Prelude.{◌≡◌, ◌||◌, ◌<◌, ◌++◌, ℕ, [], false, length, IfOk, OnOk};
+    ghost use Rattle.std.specs.Prelude.{◌≡◌, ◌||◌, ◌<◌, ◌++◌, ℕ, length, IfOk, OnOk};
     ghost use Rattle.journal.specs.Kept.{is_put_at};
     ghost use Rattle.journal.specs.Unplaced.{is_marked};
 
-    /// None, of an image of this many lines.
-    pub(crate) fn new(alloc: Global, count: usize) -> Result<Unplaced, AllocError>
-        ensures lines { IfOk result (λ made. made.lines.items ≡ []) }
+    /// These, of an image of this many lines.
+    pub(crate) fn new(alloc: Global, lines: Vec<Line>, count: usize) -> Result<Unplaced, AllocError>
+        ensures lines { IfOk result (λ made. made.lines.items ≡ lines.items) }
         ensures size { IfOk result (λ made. length made.marks.items ≡ count) }
-        ensures marks { IfOk result (λ made. (number : ℕ) → is_marked made.marks.items number ≡ false) }
+        ensures marks { IfOk result (λ made. (number : ℕ) → number < count → is_marked made.marks.items number ≡ is_put_at lines.items number) }
     {
-        Ok(Unplaced {
-            lines: Vec::new(alloc),
-            marks: Vec::from_elem(alloc, false, count)?,
-        })
+        let mut marks = Vec::from_elem(alloc, false, count)?;
+        mark_each(&mut marks, lines.as_slice());
+        Ok(Unplaced { lines, marks })
     }
 
     /// Adds the lines of an entry.

@@ -42,7 +42,7 @@ off : (shape : Shape) (words image : List ℕ) → length image ≡ shape.words 
 off shape words image size place none =
     opens-off shape.words shape.room (padded shape words) image size place (lines-off shape.words shape.room (padded shape words) (λ e. zero-magic (sym none ∙ e)))
 
-past : (shape : Shape) (words : List ℕ) (word : ℕ) → length words ≤ word → word < whole shape → get_or (padded shape words) word 0 ≡ 0
+pub past : (shape : Shape) (words : List ℕ) (word : ℕ) → length words ≤ word → word < whole shape → get_or (padded shape words) word 0 ≡ 0
 past shape words word le lt = grind (arith, get_or-append_right, get_or-replicate)
 
 -- an image alone

@@ -134,10 +134,10 @@ fn open_found(
     ensures stands { IfOk result (λ device. Opens shape.words shape.room (padded shape found.words.items) (image_of (state_of device))) }
     ensures places { IfOk result (λ device. places_of device ≡ places_named (image_of (state_of device)) shape.places) }
 {
-    let mut storage = FileStorage::new(alloc, file, held)?;
     let count = found.count();
-    storage.grow(alloc, count, shape.whole())?;
     let words = found.into_words(shape)?;
+    let mut storage = FileStorage::read(alloc, file, held, count, shape.words, shape.room, &words)?;
+    storage.grow(alloc, count, shape.whole())?;
     keep_behind(&mut storage, shape, count, words.as_slice())?;
     let opened = JournaledPmem::over(alloc, storage, words, shape.words, shape.room, shape.places);
     match opened {
@@ -146,7 +146,8 @@ fn open_found(
     }
 }
 
-// Waits until the journal and the tail of a file persist as they were read. If it had none of them, they are new, and just written.
+// Waits until the journal and the tail of a file persist as they were read, and what was read in place. If it had no journal, its words
+// are new, and just written.
 fn keep_behind(
     storage: &mut FileStorage,
     shape: Shape,
@@ -156,6 +157,7 @@ fn keep_behind(
     requires size { length words.now ≡ whole shape }
     requires new { (word x : ℕ) → count ≤ word → word < whole shape → shown_in storage.old word x → x ≡ slice_index words.now word }
     ensures back { OnOk result (IsReadBack (held_in storage.new) shape.words shape.room words.now) }
+    ensures place { OnOk result ((word x : ℕ) → word < shape.words → held_in storage.new word x → shown_in storage.old word x) }
 {
     if count <= shape.words {
         return storage.sync();

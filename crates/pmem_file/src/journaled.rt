@@ -268,8 +268,8 @@ impl<I: Images> JournaledPmem<I> {
 impl<S: Storage> JournaledPmem<JournaledImages<S>> {
     ghost use Rattle.std.specs.Prelude.{◌+◌, ◌≢◌, ◌↔◌, [], IsSome, IsTrue};
     ghost use Rattle.std.specs.Bool.{OnTrue};
-    ghost use Rattle.journal.specs.Files.{Opens};
-    ghost use Rattle.journal.specs.ReadBack.{IsReadBack, StandsAsBefore};
+    ghost use Rattle.journal.specs.Files.{Opens, StandsAs};
+    ghost use Rattle.journal.specs.ReadBack.{IsReadBack, StandsStill};
     ghost use Rattle.pmem.specs.Device.{MayLeave, restarted};
     ghost use Rattle.pmem.specs.Words.{IsAtRest, image_of};
     ghost use Rattle.pmem_file.specs.Devices.{IsClosedIn, IsWritten, MayFindIn, StandsForOne, changed_in, failure_of, last_image, places_of, state_of, storage_of};
@@ -287,8 +287,10 @@ impl<S: Storage> JournaledPmem<JournaledImages<S>> {
     ) -> Result<Self, Unopened<S>>
     where
         S: Drop,
-        // As for `JournaledImages::open`: the journal and the tail are found only as they were read.
+        // As for `JournaledImages::open`: the journal and the tail are found only as they were read, and the journal's lines make the
+        // same of whatever is found in place.
         requires back { length file.items ≡ words + room + 8 → IsReadBack (S.may_hold storage) words room file.items }
+        requires still { length file.items ≡ words + room + 8 → StandsStill (S.may_hold storage) words room file.items }
 
         // It is at rest with the image that the file stands for, and has its places (`places_named`). Nothing was done to it yet,
         // and no failure to keep an image is noted.
@@ -301,8 +303,8 @@ impl<S: Storage> JournaledPmem<JournaledImages<S>> {
         // No image but the device's may be found there (`MayFindIn`).
         ensures found { IfOk result (λ device. (image : List ℕ) → MayFindIn S.may_hold device image → image ≡ image_of (state_of device)) }
 
-        // At Err, whichever write fails, it is what `JournaledImages::open` leaves (`StandsAsBefore`).
-        ensures unopened { IfErr result (λ unopened. StandsAsBefore (S.may_hold storage) (S.may_hold unopened.storage) words room file.items) }
+        // At Err, whichever write fails, whatever is found stands for the image that the file stands for (`StandsAs`).
+        ensures unopened { IfErr result (λ unopened. StandsAs (S.may_hold unopened.storage) words room file.items) }
     {
         let mut image = file;
         let images = JournaledImages::open(alloc, storage, &mut image, words, room)?;

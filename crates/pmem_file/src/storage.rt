@@ -41,19 +41,27 @@ pub struct FileSync {
 }
 
 impl FileStorage {
-    ghost use Rattle.std.specs.Prelude.{◌≡◌, ℕ, ◌<◌, ◌≤◌, [], ◌∷◌, IfOk, OnOk};
-    ghost use Rattle.file_words.specs.Accounts.{Stopping};
+    ghost use Rattle.std.specs.Prelude.{◌≡◌, ℕ, ◌<◌, ◌≤◌, ◌∷◌, slice_index, IfOk, OnOk};
+    ghost use Rattle.file_words.specs.Accounts.{IsReadInPlace, Stopping};
     ghost use Rattle.file_words.specs.Calls.{IsCutTo, calls_of, held_by};
     ghost use Rattle.journal.specs.Lives.{IsNoMore};
     ghost use Rattle.pmem_file.specs.Files.{calls_in, held_in, shown_in};
 
-    /// A file of which nothing is known.
-    pub(crate) fn new(alloc: Global, file: File, held: Vec<File>) -> io::Result<FileStorage>
-        ensures { IfOk result (λ storage. calls_in storage ≡ []) }
+    /// A file of which nothing is known but what was read of it, as by `WordFile::read`.
+    pub(crate) fn read(
+        alloc: Global,
+        file: File,
+        held: Vec<File>,
+        count: usize,
+        words: usize,
+        room: usize,
+        found: &Vec<u64>,
+    ) -> io::Result<FileStorage>
+        ensures { IfOk result (λ storage. (word x : ℕ) → IsReadInPlace count words room found.now.items word → shown_in storage word x → x ≡ slice_index found.now.items word) }
     {
         Ok(FileStorage {
             other: Some(file.try_clone()?),
-            file: WordFile::new(alloc, file)?,
+            file: WordFile::read(alloc, file, count, words, room, found)?,
             held,
             apart: Apart::None,
         })
@@ -81,6 +89,7 @@ impl FileStorage {
     /// Makes it `to` words long, with zeros behind those that it has, which are `from`. If these have no room on the disk, it stays
     /// as long as it was.
     pub(crate) fn grow(&mut self, alloc: Global, from: usize, to: usize) -> io::Result<()>
+        ensures others { (word x : ℕ) → word < from → shown_in self.new word x → shown_in self.old word x }
         ensures zeros { OnOk result ((word x : ℕ) → from ≤ word → word < to → shown_in self.new word x → x ≡ 0) }
     {
         self.file.grow(alloc, from, to)

@@ -56,7 +56,7 @@ impl<D: Pmem + Drop> Room<D> {
                 lo,
                 hi,
             } => scanned(self.scan(session, table, lo, hi)),
-            Step::Put { session, key, row } => done(self.put(session, key, row)),
+            Step::Put { session, key, row } => done(self.put(session, key, &row)),
             Step::Delete { session, key } => done(self.delete(session, key)),
             Step::Draw { session } => drawn(self.draw(session)),
             Step::Stamp { session } => stamped(self.stamp(session)),

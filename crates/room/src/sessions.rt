@@ -1,7 +1,7 @@
 //! Each step of a session as a call of its own, which returns what that step is for. A step and a reply have room for the largest there
 //! is: these calls move neither.
 
-ghost use Rattle.std.specs.Prelude.{◌≡◌, ◌≢◌, IfErr};
+ghost use Rattle.std.specs.Prelude.{◌≡◌, ◌≢◌, false, IfErr};
 ghost use Rattle.base.specs.declared.fault.Fault.TheVariants.{OutOfMemory};
 ghost use Rattle.room.specs.Steps.{reports_failure};
 
@@ -60,8 +60,8 @@ impl<D: Pmem + Drop> Room<D> {
 
     /// Writes a row.
     #[inline(always)]
-    pub fn put(&mut self, session: u8, key: Key, row: Row) -> Result<(), Fault>
-        ensures step { Leads D.state self.old self.new (Put session key row) (as_reply (done result)) }
+    pub fn put(&mut self, session: u8, key: Key, row: &Row) -> Result<(), Fault>
+        ensures step { Leads D.state self.old self.new (Put session key row.now) (as_reply (done result)) }
 
         // The batch that waits to be handed out stays.
         ensures waits { covered_by self.new ≡ covered_by self.old }
@@ -76,7 +76,7 @@ impl<D: Pmem + Drop> Room<D> {
             .volatile
             .sessions
             .put(&mut self.device, session, key, row);
-        self.failed = reports_failure(&returned);
+        keep_failure(&mut self.failed, &returned);
         returned
     }
 
@@ -123,7 +123,7 @@ impl<D: Pmem + Drop> Room<D> {
             return Err(Fault::Failed);
         }
         let returned = self.volatile.sessions.stamp(&mut self.device, session);
-        self.failed = reports_failure(&returned);
+        keep_failure(&mut self.failed, &returned);
         returned
     }
 
@@ -167,10 +167,13 @@ impl<D: Pmem + Drop> Room<D> {
     }
 }
 
-// Whether a call reports a failing device.
+// Keeps it if a call reports a failing device. Most don't, and then nothing is stored.
 #[inline(always)]
-pub(crate) fn reports_failure<T>(returned: &Result<T, Fault>) -> bool
-    ensures { result ≡ reports_failure returned.now }
+pub(crate) fn keep_failure<T>(failed: &mut bool, returned: &Result<T, Fault>)
+    requires { failed.old ≡ false }
+    ensures { failed.new ≡ reports_failure returned.now }
 {
-    matches!(returned, Err(Fault::Device))
+    if matches!(returned, Err(Fault::Device)) {
+        *failed = true;
+    }
 }

@@ -3,7 +3,7 @@
 
 use crate::replies::visited;
 use crate::room::Room;
-use crate::sessions::reports_failure;
+use crate::sessions::keep_failure;
 use crate::ticks::Tick;
 use base::batch::Batch;
 use base::fault::Fault;
@@ -33,7 +33,7 @@ impl<D: Pmem + Drop> Room<D> {
             return Err(Fault::Failed);
         }
         let returned = self.volatile.tick(self.alloc, &mut self.device);
-        self.failed = reports_failure(&returned);
+        keep_failure(&mut self.failed, &returned);
         returned
     }
 
@@ -57,7 +57,7 @@ impl<D: Pmem + Drop> Room<D> {
             return Err(Fault::Failed);
         }
         let returned = self.volatile.collect(&mut self.device);
-        self.failed = reports_failure(&returned);
+        keep_failure(&mut self.failed, &returned);
         returned
     }
 

@@ -38,10 +38,10 @@ impl Sessions {
         device: &mut D,
         session: u8,
         key: Key,
-        row: Row,
+        row: &Row,
     ) -> Result<(), Fault>
         requires shown { ∥ HoldsSomeOn self.old (D.state device.old) ∥₁ }
-        ensures step { TakesOn self.old self.new (D.state device.old) (D.state device.new) (Put session key row) (done result) }
+        ensures step { TakesOn self.old self.new (D.state device.old) (D.state device.new) (Put session key row.now) (done result) }
 
         // It is never refused for lack of memory.
         ensures memory { IfErr result (λ fault. fault ≢ OutOfMemory) }
@@ -70,24 +70,24 @@ impl Sessions {
         session: u8,
         slot: SlotNo,
         key: Key,
-        row: Row,
+        row: &Row,
     ) -> Result<(), Fault>
         requires shown { ∥ HoldsSomeOn self.old (D.state device.old) ∥₁ }
         requires ready { IsReady self.old.transactions session key (Some slot) }
-        requires row { length row ≤ row_limit self.old.numbers.geometry.version }
-        ensures step { TakesOn self.old self.new (D.state device.old) (D.state device.new) (Put session key row) (done result) }
+        requires row { length row.now ≤ row_limit self.old.numbers.geometry.version }
+        ensures step { TakesOn self.old self.new (D.state device.old) (D.state device.new) (Put session key row.now) (done result) }
         ensures memory { IfErr result (λ fault. fault ≢ OutOfMemory) }
 
         // At Done the words of the slot hold the key, the row, and a link to the newest version of the key that the index knows,
         // or none. The slot is the session's own for the key, or the lowest that was free. What reads need of it holds of each
         // state that is shown (`Links`).
         ensures link { done result ≡ Done → IsVersion self.old.numbers.geometry (slot_at self.old.numbers.geometry slot (value_of (D.state device.new)))
-            (record { key = key; row = row; previous = head_of (entry_at self.old.index key) }) }
+            (record { key = key; row = row.now; previous = head_of (entry_at self.old.index key) }) }
     {
         let found = self.index.known(key);
         let version = Version {
             key,
-            row,
+            row: *row,
             previous: found.link,
         };
         match fill(device, self.numbers.geometry, slot, &version) {
@@ -107,13 +107,13 @@ impl Sessions {
         device: &mut D,
         session: u8,
         key: Key,
-        row: Row,
+        row: &Row,
     ) -> Result<(), Fault>
         requires shown { ∥ HoldsSomeOn self.old (D.state device.old) ∥₁ }
         requires ready { IsReady self.old.transactions session key None }
         requires within { (2 ≤ session) × (session < 64) }
-        requires row { length row ≤ row_limit self.old.numbers.geometry.version }
-        ensures step { TakesOn self.old self.new (D.state device.old) (D.state device.new) (Put session key row) (done result) }
+        requires row { length row.now ≤ row_limit self.old.numbers.geometry.version }
+        ensures step { TakesOn self.old self.new (D.state device.old) (D.state device.new) (Put session key row.now) (done result) }
         ensures memory { IfErr result (λ fault. fault ≢ OutOfMemory) }
 
         // At Done the words of the slot hold the key, the row, and a link to the newest version of the key that the index knows,
@@ -121,13 +121,13 @@ impl Sessions {
         // state that is shown (`Links`).
         ensures link { done result ≡ Done → (slot : ℕ) × (lowest_free self.old.slots ≡ Some slot)
             × IsVersion self.old.numbers.geometry (slot_at self.old.numbers.geometry slot (value_of (D.state device.new)))
-            (record { key = key; row = row; previous = head_of (entry_at self.old.index key) }) }
+            (record { key = key; row = row.now; previous = head_of (entry_at self.old.index key) }) }
     {
         let geometry = self.numbers.geometry;
         let found = self.index.known(key);
         let version = Version {
             key,
-            row,
+            row: *row,
             previous: found.link,
         };
         let slot = match self.slots.take(device, geometry, Actor::session(session)) {

@@ -161,8 +161,9 @@ fn live<R: Threads + Wait + Copy + Drop + Send + Sync + 'static>(
     }
 }
 
-// How many writes and syncs it takes to open the file, which brings it to rest.
-const OPENING: usize = 8;
+// How many writes and syncs it takes to open the file, which brings it to rest: seven, and a write for each of the two lines that a format
+// leaves in the journal, the superblock's and the first of a place for a record.
+const OPENING: usize = 9;
 
 // The row that is found in these words of a file. The database is dropped.
 fn kept_in<R: Threads + Wait + Copy + Drop + Send + Sync + 'static>(

@@ -318,26 +318,46 @@ fn at_rest(alloc: Global, words: Vec<u64>, calls: usize) -> Result<(Device, u64)
     Ok((device, first))
 }
 
+// How many writes and syncs it takes to open a device with these words.
+fn calls_to_open(alloc: Global, words: &Vec<u64>) -> Result<usize, Fault> {
+    for calls in 0..CALLS {
+        let Ok(words) = words.clone() else {
+            return Err(Fault::OutOfMemory);
+        };
+        if at_rest(alloc, words, calls).is_ok() {
+            return Ok(calls);
+        }
+    }
+    Err(Fault::Device)
+}
+
+// A sync, two writes of the tail and two waits: nothing is written in place of a file without entries.
+const OPENING: usize = 5;
+
 #[test]
 fn a_sync_ahead_that_fails_is_reported_by_the_fence(rt: HostRuntime) -> Result<(), Fault> {
     let alloc = rt.alloc();
-    // Opening the device makes eight calls. Then the image is written and synced.
-    for calls in [8, 9, 10] {
+    let opening = calls_to_open(alloc, &zeros(alloc)?)?;
+    assert!(rt; opening == OPENING);
+    let opening = calls_to_open(alloc, &lived(&rt, alloc)?)?;
+    // Once it is open, the image is written and synced.
+    for after in [0, 1, 2] {
+        let calls = opening.saturating_add(after);
         let (mut device, first) = at_rest(alloc, lived(&rt, alloc)?, calls)?;
         if device.words() > 0 {
             device.store(0, first ^ 1)?;
             device.flush(Actor::COMMITTER, 0)?;
         }
         let pending = device.begin_sync(Actor::COMMITTER);
-        assert!(rt; pending.is_some() == (calls > 8));
+        assert!(rt; pending.is_some() == (after > 0));
         if let Some(pending) = pending {
             device.end_sync(pending);
         }
         let fenced = device.fence(Actor::COMMITTER);
-        assert!(rt; fenced.is_ok() == (calls == 10));
-        assert!(rt; device.failure().is_some() == (calls < 10));
+        assert!(rt; fenced.is_ok() == (after == 2));
+        assert!(rt; device.failure().is_some() == (after < 2));
         let (_device, found) = at_rest(alloc, device.release().into_words(), CALLS)?;
-        assert!(rt; found == if calls == 8 { first } else { first ^ 1 });
+        assert!(rt; found == if after == 0 { first } else { first ^ 1 });
     }
     Ok(())
 }

@@ -1,5 +1,4 @@
-use Rattle.std.proofs.Common.{◌≡◌, ◌∙◌, ◌<◌, Bool, List, length, sym, subst, arith}
-use Rattle.std.proofs.lemmas.List.{ext_get_or}
+use Rattle.std.proofs.Common.{◌≡◌, List, length, sym, subst, arith}
 use Rattle.journal.specs.declared.line.Line.{Line}
 use Rattle.journal.specs.Changes.{AreChanged}
 use Rattle.journal.proofs.Appended.{rests-either}

@@ -1,4 +1,4 @@
-use Rattle.std.proofs.Common.{ℕ, ◌+◌, ◌*◌, List, [], ◌∷◌, ◌++◌, refl, sym, subst, arith}
+use Rattle.std.proofs.Common.{◌+◌, ◌*◌, List, [], ◌∷◌, ◌++◌, refl, sym, subst, arith}
 use Rattle.journal.specs.declared.line.Line.{Line}
 use Rattle.journal.specs.LinePayloads.{IsLine}
 use Rattle.journal.specs.Changes.{AreFound}

@@ -1,6 +1,6 @@
 use Rattle.std.proofs.Common.{ℕ, length, subst}
 use Rattle.journal.specs.Lives.{IsLeft}
-use Rattle.journal.proofs.Decides.{if_err, if_err_all, if_ok, left_within, read_within, stopped_left, stopped_stands}
+use Rattle.journal.proofs.Decides.{if_err, if_err_all, if_ok, left_still, left_within, read_within, stopped_left, stopped_stands}
 use Rattle.journal.proofs.law.next_begins_with_what_was_left.Goals as goal
 
 pub returns-in-Ok-clause-leaves : goal.returns-in-Ok-clause-leaves
@@ -37,3 +37,13 @@ returns-in-Err-clause-left g c =
     let hold = g.S.Storage.may_hold in
     let within = read_within before (hold c.args.next) (hold c.write_back.new.storage) c.args.words c.args.room c.args.file.now.items c.requires.found c.requires.begins (rw c.as_slice.ensures.value at c.write_back.ensures.puts) in
     left_within before (hold c.write_back.new.storage) c.args.words c.args.room within c.requires.left
+
+pub open-requires-clause-still : goal.open-requires-clause-still
+open-requires-clause-still g c size =
+    let before = g.B.Storage.may_hold c.args.last.now in
+    let hold = g.S.Storage.may_hold in
+    let words = c.args.words in
+    let room = c.args.room in
+    let file = c.args.file.now.items in
+    let within = read_within before (hold c.args.next) (hold c.write_back.new.storage) words room file c.requires.found c.requires.begins (rw c.as_slice.ensures.value at c.write_back.ensures.puts) in
+    left_still before (hold c.write_back.new.storage) words room file c.requires.found c.requires.left.decides within

@@ -3,7 +3,7 @@ use Rattle.journal.specs.Files.{tail_of}
 use Rattle.journal.specs.States.{HoldsTail}
 use Rattle.journal.proofs.Files.{covers-opens, merely-opens, on_ok}
 use Rattle.journal.proofs.Places.{part_off, part_placed}
-use Rattle.journal.proofs.Placings.{any_ok}
+use Rattle.journal.proofs.Placings.{any_ok, placed-still}
 use Rattle.journal.proofs.rewriting.bring_to_rest.Goals as goal
 
 pub returns-in_err-clear-clause-tail : goal.returns-in_err-clear-clause-tail
@@ -51,3 +51,15 @@ clear-requires-clause-blank g c is =
     let words = length c.args.written.now.value.items in
     let blank = c.requires.blank is in
     (c.turn_off.ensures.zeros (c.put_in_place.ensures.zeros blank.1), subst (λ (p : Bool). HoldsTail (g.S.Storage.may_hold c.turn_off.new.storage) words c.args.room (tail_of 0 words c.args.room p)) blank.0 c.in_ok-turn_off.ensures.last)
+
+pub returns-clause-placed : goal.returns-clause-placed
+returns-clause-placed g c =
+    let image = c.args.written.now.value.items in
+    let placed = g.S.Storage.may_hold c.put_in_place.new.storage in
+    let off = g.S.Storage.may_hold c.turn_off.new.storage in
+    let clear = g.S.Storage.may_hold c.clear.new.storage in
+    let on = g.S.Storage.may_hold c.turn_on.new.storage in
+    any_ok c.turn_on.result
+    (placed-still clear on _ _ image c.turn_on.ensures.place
+    (placed-still off clear _ _ image c.clear.ensures.place
+    (placed-still placed off _ _ image c.turn_off.ensures.place c.in_ok-put_in_place.ensures.placed)))

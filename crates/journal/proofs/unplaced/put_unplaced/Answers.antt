@@ -1,4 +1,4 @@
-use Rattle.std.proofs.Common.{◌≡◌, ◌∙◌, ◌*◌, sym, ap, length, arith}
+use Rattle.std.proofs.Common.{length, arith}
 use Rattle.journal.specs.Kept.{HoldsOnly}
 use Rattle.journal.proofs.Placings.{placed-all, placed-none}
 use Rattle.journal.proofs.unplaced.put_unplaced.Goals as goal

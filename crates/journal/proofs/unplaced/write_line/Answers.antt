@@ -1,4 +1,4 @@
-use Rattle.std.proofs.Common.{◌≡◌, ◌⊎◌, ◌∙◌, inl, inr, true, sym, length, arith}
+use Rattle.std.proofs.Common.{◌∙◌, sym, arith}
 use Rattle.journal.proofs.Placings.{line-run, line-written}
 use Rattle.journal.proofs.unplaced.write_line.Goals as goal
 

@@ -1,6 +1,6 @@
 use Rattle.std.proofs.Common.{length, refl}
 use Rattle.journal.specs.Lives.{IsLeft}
-use Rattle.journal.proofs.Decides.{if_err, if_ok, read_within, stands_within, stopped_stands}
+use Rattle.journal.proofs.Decides.{if_err, if_ok, left_still, read_within, stands_within, stopped_stands}
 use Rattle.pmem.specs.Words.{image_of}
 use Rattle.pmem_file.specs.Traces.{device_of}
 use Rattle.pmem_file.proofs.NextLife.{file_moved, left_moved, may_moved}
@@ -46,3 +46,16 @@ returns-in-Err-clause-stopped g c image stood =
     let room = c.args.room in
     let within = read_within before (hold c.args.next) (hold c.write_back.new.storage) words room c.args.file.items c.requires.found c.requires.begins (rw c.as_slice.ensures.value at c.write_back.ensures.puts) in
     may_moved before words room images.room images.written.value.items image c.requires.words c.requires.room (stands_within before (hold c.write_back.new.storage) words room within image stood)
+
+pub over-requires-clause-still : goal.over-requires-clause-still
+over-requires-clause-still g c size =
+    let images = c.args.last.now.images in
+    let before = g.B.Storage.may_hold images.storage in
+    let hold = g.S.Storage.may_hold in
+    let words = c.args.words in
+    let room = c.args.room in
+    let file = c.args.file.items in
+    let within = read_within before (hold c.args.next) (hold c.write_back.new.storage) words room file c.requires.found c.requires.begins (rw c.as_slice.ensures.value at c.write_back.ensures.puts) in
+    let here : IsLeft before (length images.written.value.items) images.room = record { some = images.part.has; names = images.named; part = images.holds; decides = images.decides } in
+    let left = left_moved before words (length images.written.value.items) room images.room c.requires.words c.requires.room here in
+    left_still before (hold c.write_back.new.storage) words room file c.requires.found left.decides within

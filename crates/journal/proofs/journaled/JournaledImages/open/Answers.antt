@@ -1,10 +1,12 @@
 use Rattle.std.proofs.Common.{◌≡◌, ◌∙◌, inl, true, false, Bool, ℕ, ◌+◌, ◌*◌, ◌<◌, ◌≤◌, List, length, refl, sym, ap, arith}
+use Rattle.journal.specs.declared.line.Line.{Line}
+use Rattle.journal.specs.Kept.{is_put_at}
 use Rattle.journal.specs.Files.{pass_word}
 use Rattle.journal.proofs.Appended.{may-kept}
 use Rattle.journal.proofs.Files.{read-stands, rewritten-stands}
 use Rattle.journal.proofs.Tails.{names_read, first_read, first_pass}
 use Rattle.journal.proofs.Decides.{decides_rests}
-use Rattle.journal.proofs.Placings.{rests-placed}
+use Rattle.journal.proofs.Placings.{placed-read}
 use Rattle.journal.proofs.journaled.JournaledImages.open.Goals as goal
 use Rattle.journal.proofs.journaled.JournaledImages.open.Goals.{then-pass, else-pass}
 
@@ -16,13 +18,13 @@ pass_true true is = refl
 pass_true false is = absurd (omega (arith, is))
 
 pub returns-in-Err-clause-unopened : goal.returns-in-Err-clause-unopened
-returns-in-Err-clause-unopened g c = read-stands (g.S.Storage.may_hold c.args.storage) c.args.words c.args.room c.args.file.now.items c.requires.back
+returns-in-Err-clause-unopened g c = read-stands (g.S.Storage.may_hold c.args.storage) c.args.words c.args.room c.args.file.now.items c.requires.back c.requires.still
 
 pub returns-in-Err-clause-first : goal.returns-in-Err-clause-first
 returns-in-Err-clause-first g c is begins = inl (first_read (g.S.Storage.may_hold c.args.storage) c.args.words c.args.room c.args.file.now.items (c.requires.back is.size) begins)
 
 pub returns-in_default-clause-unopened : goal.returns-in_default-clause-unopened
-returns-in_default-clause-unopened g c = read-stands (g.S.Storage.may_hold c.args.storage) c.args.words c.args.room c.args.file.now.items c.requires.back
+returns-in_default-clause-unopened g c = read-stands (g.S.Storage.may_hold c.args.storage) c.args.words c.args.room c.args.file.now.items c.requires.back c.requires.still
 
 pub returns-in_default-clause-tail : goal.returns-in_default-clause-tail
 returns-in_default-clause-tail g c is has = names_read (g.S.Storage.may_hold c.args.storage) c.args.words c.args.room c.args.file.now.items (c.requires.back is.size) has
@@ -38,7 +40,7 @@ returns-in-Err-rewrite-clause-unopened g c =
     let opens = c.in-Ok.ensures.stands in
     let old = g.S.Storage.may_hold c.args.storage in
     let new = g.S.Storage.may_hold c.rewrite.new.storage in
-    rewritten-stands old new c.args.words c.args.room c.args.file.now.items c.leave_image.new.file.items c.in-Ok.ensures.file.size c.requires.back opens (rw opens.size at c.rewrite.ensures.opens)
+    rewritten-stands old new c.args.words c.args.room c.args.file.now.items c.leave_image.new.file.items c.in-Ok.ensures.file.size c.requires.back c.requires.still opens (rw opens.size at c.rewrite.ensures.opens)
 
 pub returns-in-Err-rewrite-clause-tail : goal.returns-in-Err-rewrite-clause-tail
 returns-in-Err-rewrite-clause-tail g c is has =
@@ -52,7 +54,7 @@ returns-in-Err-rewrite-clause-first g c is begins =
     let room = c.args.room in
     let file : List ℕ = c.args.file.now.items in
     let size = c.in-Ok.ensures.stands.size in
-    let pass = pass_true c.in-Ok.pass (sym c.in-Ok.ensures.pass ∙ first_pass words room file begins) in
+    let pass = pass_true c.in-Ok.left.0 (sym c.in-Ok.ensures.pass ∙ first_pass words room file begins) in
     (rw size at c.rewrite.ensures.first) pass (first_read (g.S.Storage.may_hold c.args.storage) words room file (c.requires.back is.size) begins)
 
 pub invariant_of-result-clause-sized : goal.invariant_of-result-clause-sized
@@ -102,21 +104,26 @@ invariant_of-result-clause-decides g c =
 pub invariant_of-result-clause-placed : goal.invariant_of-result-clause-placed
 invariant_of-result-clause-placed g c works =
     let is : c.of.result.value.items ≡ c.leave_image.new.file.items = ap (λ v. v.items) c.of.ensures in
-    let durable = c.of.result.value.items in
-    let unplaced = c.in-Ok-new.unplaced in
-    let size : 8 * length unplaced.marks.items ≡ length durable = omega (arith, c.in-Ok-new.ensures.size, c.in-Ok.ensures.file.whole, c.in-Ok.ensures.stands.size, ap (λ (l : List ℕ). length l) is) in
-    rests-placed (g.S.Storage.may_hold c.rewrite.new.storage) c.args.room true unplaced.lines.items unplaced.marks.items durable c.in-Ok-new.ensures.lines size c.in-Ok-new.ensures.marks (rw (sym is) at c.in-Ok-rewrite.ensures.rests)
+    rw (sym is) at c.in-Ok-rewrite.ensures.placed
+
+pub rewrite-requires-clause-placed : goal.rewrite-requires-clause-placed
+rewrite-requires-clause-placed g c =
+    let size : 8 * length c.in-Ok-new.unplaced.marks.items ≡ length c.leave_image.new.file.items = omega (arith, c.in-Ok-new.ensures.size, c.in-Ok.ensures.file.whole, c.in-Ok.ensures.stands.size) in
+    let lines = c.in-Ok-new.ensures.lines ∙ c.in-Ok.ensures.lines in
+    placed-read (g.S.Storage.may_hold c.args.storage) c.args.words c.args.room c.in-Ok-new.unplaced.lines.items c.in-Ok-new.unplaced.marks.items c.args.file.now.items c.leave_image.new.file.items lines size
+    (λ number lt. c.in-Ok-new.ensures.marks number (omega (arith, lt, c.in-Ok-new.ensures.size)) ∙ ap (λ (l : List Line). is_put_at l number) (sym c.in-Ok-new.ensures.lines))
+    c.in-Ok.ensures.stands (c.requires.still c.in-Ok.ensures.file.size)
 
 pub rewrite-requires-clause-blank : goal.rewrite-requires-clause-blank
 rewrite-requires-clause-blank g c is = elim c.if-pass.branch [
   | then-pass w ↦
       let size = c.in-Ok.ensures.stands.size in
-      let zeroed = sym w.rewrite-is ∙ is in (
+      let zeroed = sym w.is_blank-is ∙ is in (
         w.if-pass.true,
         λ word x above below held.
             let from : c.args.words ≤ word = omega (arith, size, above) in
             let to : word < c.args.words + c.args.room = omega (arith, size, below) in
             c.requires.back c.in-Ok.ensures.file.size word x from (omega (arith, to)) held ∙ (rw c.as_slice.ensures.value at c.is_zeroed-is_zeroed.ensures) zeroed word from to,
       )
-  | else-pass w ↦ absurd (false-true (sym w.if-pass.false ∙ sym w.rewrite-is ∙ is))
+  | else-pass w ↦ absurd (false-true (sym w.if-pass.false ∙ sym w.is_blank-is ∙ is))
 ]

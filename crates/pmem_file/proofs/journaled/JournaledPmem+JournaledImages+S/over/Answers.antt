@@ -1,7 +1,6 @@
 use Rattle.std.proofs.Common.{◌≡◌, ◌∙◌, ℕ, List, Result, Ok, Err, IfErr, IsErrAnd, sym, ap, subst}
 use Rattle.journal.specs.Files.{MayBe, Opens, StandsAs}
 use Rattle.journal.specs.Images.{last_image, room_of, storage_of}
-use Rattle.journal.specs.ReadBack.{StandsAsBefore}
 use Rattle.journal.proofs.Files.{only-stands}
 use Rattle.pmem.specs.Device.{restarted}
 use Rattle.pmem.specs.Words.{image_of}
@@ -52,7 +51,7 @@ kept may_hold words room named file image is opens only =
     only-stands may_hold words room file image opens (subst F is only)
 
 pub returns-in-Err-clause-unopened : goal.returns-in-Err-clause-unopened
-returns-in-Err-clause-unopened g c still =
+returns-in-Err-clause-unopened g c =
     let images = c.in_ok-images.images in
     let hold = g.S.Storage.may_hold in
     moved hold images.storage c.unopened.result.storage c.args.words c.args.room c.args.file.items (c.unopened.ensures ∙ ap (λ i. i.storage) c.in-Err.ensures.images)
@@ -66,4 +65,4 @@ passed (Err other) error P is p = subst P (sym is) p
 pub returns-in_err-images-clause-unopened : goal.returns-in_err-images-clause-unopened
 returns-in_err-images-clause-unopened g c =
     let hold = g.S.Storage.may_hold in
-    passed c.from_residual.result c.in_err-images.field-0.0 (λ unopened. StandsAsBefore (hold c.args.storage) (hold unopened.storage) c.args.words c.args.room c.args.file.items) c.from_residual.ensures.1 c.in_err-images.ensures.unopened
+    passed c.from_residual.result c.in_err-images.field-0.0 (λ unopened. StandsAs (hold unopened.storage) c.args.words c.args.room c.args.file.items) c.from_residual.ensures.1 c.in_err-images.ensures.unopened

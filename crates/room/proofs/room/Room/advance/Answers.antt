@@ -14,8 +14,8 @@ tick-returned-requires g c = record { shown = shows-some c.args.self.now.volatil
 pub invariant_of-self : goal.invariant_of-self
 invariant_of-self g c = record {
   shown = shows-then c.args.self.now.volatile c.tick-returned.new.self (g.D.Pmem.state c.args.self.now.device) (g.D.Pmem.state c.tick-returned.new.device) Commit (as_reply c.tick-returned.result c.tick-returned.new.self.covered)
-      c.reports_failure-self.result (c.reports_failure-self.ensures ∙ tick-failure c.tick-returned.result c.tick-returned.new.self.covered) c.tick-returned.ensures.step (shows-some c.args.self.now.volatile _ c.args.self.now.failed c.if-self.false c.args.self.now.shown);
+      c.keep_failure.new.failed (c.keep_failure.ensures ∙ tick-failure c.tick-returned.result c.tick-returned.new.self.covered) c.tick-returned.ensures.step (shows-some c.args.self.now.volatile _ c.args.self.now.failed c.if-self.false c.args.self.now.shown);
 }
 
 pub returns : goal.returns
-returns g c = record { step = step-on g.D.Pmem.state c.args.self.now _ Commit (as_reply c.tick-returned.result c.tick-returned.new.self.covered) c.if-self.false (c.reports_failure-self.ensures ∙ tick-failure c.tick-returned.result c.tick-returned.new.self.covered) c.tick-returned.ensures.step; waits = c.tick-returned.ensures.waits }
+returns g c = record { step = step-on g.D.Pmem.state c.args.self.now _ Commit (as_reply c.tick-returned.result c.tick-returned.new.self.covered) c.if-self.false (c.keep_failure.ensures ∙ tick-failure c.tick-returned.result c.tick-returned.new.self.covered) c.tick-returned.ensures.step; waits = c.tick-returned.ensures.waits }

@@ -14,8 +14,8 @@ collect-returned-requires g c = record { shown = shows-some c.args.self.now.vola
 pub invariant_of-self : goal.invariant_of-self
 invariant_of-self g c = record {
   shown = shows-then c.args.self.now.volatile c.collect-returned.new.self (g.D.Pmem.state c.args.self.now.device) (g.D.Pmem.state c.collect-returned.new.device) Collect (as_reply c.collect-returned.result)
-      c.reports_failure-self.result (c.reports_failure-self.ensures ∙ visit-failure c.collect-returned.result) c.collect-returned.ensures.step (shows-some c.args.self.now.volatile _ c.args.self.now.failed c.if-self.false c.args.self.now.shown);
+      c.keep_failure.new.failed (c.keep_failure.ensures ∙ visit-failure c.collect-returned.result) c.collect-returned.ensures.step (shows-some c.args.self.now.volatile _ c.args.self.now.failed c.if-self.false c.args.self.now.shown);
 }
 
 pub returns : goal.returns
-returns g c = record { step = step-on g.D.Pmem.state c.args.self.now _ Collect (as_reply c.collect-returned.result) c.if-self.false (c.reports_failure-self.ensures ∙ visit-failure c.collect-returned.result) c.collect-returned.ensures.step; waits = c.collect-returned.ensures.waits }
+returns g c = record { step = step-on g.D.Pmem.state c.args.self.now _ Collect (as_reply c.collect-returned.result) c.if-self.false (c.keep_failure.ensures ∙ visit-failure c.collect-returned.result) c.collect-returned.ensures.step; waits = c.collect-returned.ensures.waits }

@@ -15,13 +15,13 @@ stamp-returned-requires g c = record { shown = held-on c.args.self.now.volatile 
 
 pub invariant_of-self : goal.invariant_of-self
 invariant_of-self g c = record {
-  shown = shows-after-call c.args.self.now.volatile.sessions c.stamp-returned.new.self c.args.self.now.volatile.cycle (g.D.Pmem.state c.args.self.now.device) (g.D.Pmem.state c.stamp-returned.new.device) (asked.Stamp c.args.session) (stamped c.stamp-returned.result) c.reports_failure-self.result (c.reports_failure-self.ensures ∙ stamped-failure c.stamp-returned.result)
+  shown = shows-after-call c.args.self.now.volatile.sessions c.stamp-returned.new.self c.args.self.now.volatile.cycle (g.D.Pmem.state c.args.self.now.device) (g.D.Pmem.state c.stamp-returned.new.device) (asked.Stamp c.args.session) (stamped c.stamp-returned.result) c.keep_failure.new.failed (c.keep_failure.ensures ∙ stamped-failure c.stamp-returned.result)
       (on-device _ _ (g.D.Pmem.state c.args.self.now.device) (g.D.Pmem.state c.stamp-returned.new.device) (asked.Stamp c.args.session) (stamped c.stamp-returned.result) c.stamp-returned.ensures.step) (shows-some c.args.self.now.volatile (g.D.Pmem.state c.args.self.now.device) c.args.self.now.failed c.if-self.false c.args.self.now.shown);
 }
 
 pub returns : goal.returns
 returns g c = record {
-  step = call-leads g.D.Pmem.state c.args.self.now _ (asked.Stamp c.args.session) (stamped c.stamp-returned.result) c.if-self.false (c.reports_failure-self.ensures ∙ stamped-failure c.stamp-returned.result) refl
+  step = call-leads g.D.Pmem.state c.args.self.now _ (asked.Stamp c.args.session) (stamped c.stamp-returned.result) c.if-self.false (c.keep_failure.ensures ∙ stamped-failure c.stamp-returned.result) refl
       (on-device _ _ (g.D.Pmem.state c.args.self.now.device) (g.D.Pmem.state c.stamp-returned.new.device) (asked.Stamp c.args.session) (stamped c.stamp-returned.result) c.stamp-returned.ensures.step);
   waits = refl;
 }

@@ -25,12 +25,12 @@ fill-requires-clause-device g c = ∥∥₁_elim c.requires.shown (ℕ_set _ _) 
 
 pub returns-in-Ok-clause-step : goal.returns-in-Ok-clause-step
 returns-in-Ok-clause-step g c = λ h holds.
-    puts-own c.args.self.now h c.args.session c.requires.ready.snapshot c.requires.ready.writes (record { key = c.args.key; row = c.args.row; previous = c.known-found.result.link }) c.args.slot c.known-found.result.place (g.D.Pmem.state c.args.device.now) (g.D.Pmem.state c.fill.new.device) holds
+    puts-own c.args.self.now h c.args.session c.requires.ready.snapshot c.requires.ready.writes (record { key = c.args.key; row = c.args.row.now; previous = c.known-found.result.link }) c.args.slot c.known-found.result.place (g.D.Pmem.state c.args.device.now) (g.D.Pmem.state c.fill.new.device) holds
     c.requires.ready.active c.requires.ready.fits c.requires.row c.requires.ready.slot c.write.new.self
     (subst (λ (w : Write). Sets c.args.self.now.transactions c.write.new.self c.args.session (Some (Active c.requires.ready.snapshot (with_write_at w c.requires.ready.writes)))) c.row_write.ensures (c.write.ensures _ _ c.requires.ready.active))
     c.in-Ok.ensures.version.fits c.known-found.ensures c.in-Ok.ensures.run
 
 pub returns-in-Err-clause-step : goal.returns-in-Err-clause-step
 returns-in-Err-clause-step g c = λ h holds.
-    puts-own-stopped c.args.self.now h c.args.session c.requires.ready.snapshot c.requires.ready.writes (record { key = c.args.key; row = c.args.row; previous = c.known-found.result.link }) c.args.slot c.known-found.result.place (g.D.Pmem.state c.args.device.now) (g.D.Pmem.state c.fill.new.device) holds
+    puts-own-stopped c.args.self.now h c.args.session c.requires.ready.snapshot c.requires.ready.writes (record { key = c.args.key; row = c.args.row.now; previous = c.known-found.result.link }) c.args.slot c.known-found.result.place (g.D.Pmem.state c.args.device.now) (g.D.Pmem.state c.fill.new.device) holds
     c.requires.ready.active c.requires.ready.fits c.requires.row c.requires.ready.slot c.in-Err.fault c.in-Err.ensures.fault c.in-Err.ensures.stopped

@@ -36,13 +36,13 @@ fill-requires-clause-device g c = c.take.ensures.size ∙ ∥∥₁_elim c.requi
 
 pub returns-in-Err-clause-step : goal.returns-in-Err-clause-step
 returns-in-Err-clause-step g c = λ h holds.
-    puts-untaken c.args.self.now h c.args.session c.requires.ready.snapshot c.requires.ready.writes (record { key = c.args.key; row = c.args.row; previous = c.known-found.result.link }) c.take.new.self (g.D.Pmem.state c.args.device.now) (g.D.Pmem.state c.take.new.device) c.in-Err.fault
+    puts-untaken c.args.self.now h c.args.session c.requires.ready.snapshot c.requires.ready.writes (record { key = c.args.key; row = c.args.row.now; previous = c.known-found.result.link }) c.take.new.self (g.D.Pmem.state c.args.device.now) (g.D.Pmem.state c.take.new.device) c.in-Err.fault
     (g.met.D.Pmem.orderly _) holds c.requires.ready.active c.requires.ready.fits c.requires.row c.requires.ready.slot c.in-Err.ensures.err c.in-Err.ensures.fault (λ is. c.take.ensures.out.0 (c.in-Err.is ∙ ap Err is)) (λ is. c.take.ensures.unmoved (c.in-Err.is ∙ ap Err is))
     (λ is. subst (λ (k : ℕ). (slot : ℕ) × (lowest_free c.args.self.now.slots ≡ Some slot) × StopsWithin (clear_operations c.args.self.now.numbers.geometry k slot) (g.D.Pmem.state c.args.device.now) (g.D.Pmem.state c.take.new.device)) c.session.ensures (c.take.ensures.stopped (c.in-Err.is ∙ ap Err is)))
 
 pub returns-in-Ok-fill-clause-step : goal.returns-in-Ok-fill-clause-step
 returns-in-Ok-fill-clause-step g c = λ h holds.
-    puts-taken c.args.self.now h c.args.session c.requires.ready.snapshot c.requires.ready.writes (record { key = c.args.key; row = c.args.row; previous = _ }) c.in-Ok.slot c.known-found.result.place (g.D.Pmem.state c.args.device.now) (g.D.Pmem.state c.fill.new.device) holds
+    puts-taken c.args.self.now h c.args.session c.requires.ready.snapshot c.requires.ready.writes (record { key = c.args.key; row = c.args.row.now; previous = _ }) c.in-Ok.slot c.known-found.result.place (g.D.Pmem.state c.args.device.now) (g.D.Pmem.state c.fill.new.device) holds
     c.requires.ready.active c.requires.ready.fits c.requires.row c.requires.ready.slot c.in-Ok.ensures.lowest c.write.new.self c.take.new.self
     c.in-Ok.ensures.taken
     (subst (λ (w : Write). Sets c.args.self.now.transactions c.write.new.self c.args.session (Some (Active c.requires.ready.snapshot (with_write_at w c.requires.ready.writes)))) c.row_write.ensures (c.write.ensures _ _ c.requires.ready.active))
@@ -50,7 +50,7 @@ returns-in-Ok-fill-clause-step g c = λ h holds.
 
 pub returns-in-Err-fill-clause-step : goal.returns-in-Err-fill-clause-step
 returns-in-Err-fill-clause-step g c = λ h holds.
-    puts-returned c.args.self.now h c.args.session c.requires.ready.snapshot c.requires.ready.writes (record { key = c.args.key; row = c.args.row; previous = _ }) c.in-Ok.slot c.give.new.self (g.D.Pmem.state c.args.device.now) (g.D.Pmem.state c.take.new.device)
+    puts-returned c.args.self.now h c.args.session c.requires.ready.snapshot c.requires.ready.writes (record { key = c.args.key; row = c.args.row.now; previous = _ }) c.in-Ok.slot c.give.new.self (g.D.Pmem.state c.args.device.now) (g.D.Pmem.state c.take.new.device)
     (g.D.Pmem.state c.fill.new.device) c.in-Err-fill.fault holds c.requires.ready.active c.requires.ready.fits c.requires.row c.requires.ready.slot c.in-Ok.ensures.lowest
     (c.give.ensures ∙ ap (λ (xs : List Bool). slice_set xs c.in-Ok.slot true) c.in-Ok.ensures.taken) c.in-Err-fill.ensures.fault (subst (λ (k : ℕ). Runs (clear_operations c.args.self.now.numbers.geometry k c.in-Ok.slot) (g.D.Pmem.state c.args.device.now) (g.D.Pmem.state c.take.new.device)) c.session.ensures c.in-Ok.ensures.run) c.in-Err-fill.ensures.stopped
 
