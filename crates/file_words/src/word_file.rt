@@ -32,8 +32,8 @@ impl WordFile {
 
     /// A file of which `count` words were read, the first of these, and nothing else is known: it has an image of `words`, and a
     /// journal of `room` behind it, as far as these were read. It is trusted of the caller that they were read since it was opened.
-    /// It is trusted of the system, and of whoever wrote the file, that a sync which succeeds then leaves on the disk what was read in
-    /// place, except in the lines of the journal's entries: that no sync of these words failed and was ignored.
+    /// It is trusted of the system, and of each program that wrote the file, that once a sync has succeeded the disk has what was read
+    /// of the image, except in the lines of the journal's entries: that no sync of these words failed and was ignored.
     pub fn read(
         alloc: Global,
         file: File,

@@ -283,7 +283,7 @@ pub rests-placed : (hold : ℕ → ℕ → Type 0) (room : ℕ) (pass : Bool) (l
     → ∥ Rests hold (length durable) room pass 0 durable ∥₁ → IsPlacedBut hold lines marks durable
 rests-placed hold room pass lines marks durable none size off some = placed-none hold lines marks durable none size off (rests-holds hold room pass durable some)
 
--- a file was read whose words in place are known but for those of the journal's lines
+-- a file was read whose words in place are known, except those of the journal's lines
 pub placed-read : (hold : ℕ → ℕ → Type 0) (words room : ℕ) (lines : List Line) (marks : List Bool) (file image : List ℕ) → lines ≡ lines_in words room file → 8 * length marks ≡ length image
     → ((number : ℕ) → number < length marks → is_marked marks number ≡ is_put_at lines number) → Opens words room file image → StandsStill hold words room file → IsPlacedBut hold lines marks image
 placed-read hold words room lines marks file image are size marked opens still = record {

@@ -15,7 +15,7 @@ IsReadBack may_hold words room file = (word x : ℕ) → words ≤ word → word
 -- Whatever a word in place is found as, the lines of the journal make the same of it as of the one that was read: a word of no line is
 -- found only as it was read. Then opening can't fail and leave half a journal. It is so of files whose journal decides
 -- (`JournalDecides`). Opening requires this, and writes nothing else in place than these lines.
--- Excluded: an opening that leaves in place what was read there and isn't on the disk.
+-- Excluded: opening that leaves a line of the journal as it was read in place, which no disk may have.
 abbrev pub StandsStill : (ℕ → ℕ → Type 0) → ℕ → ℕ → List ℕ → Type 0
 StandsStill may_hold words room file = (word x : ℕ) → word < words → may_hold word x → put_over (lines_in words room file) word x ≡ put_over (lines_in words room file) word (slice_index file word)
 

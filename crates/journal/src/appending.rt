@@ -9,7 +9,7 @@ ghost use Rattle.journal.specs.Unplaced.{IsPlacedBut};
 ghost use Rattle.journal.specs.declared.line.Line.{Line};
 
 use crate::eight::eight_at;
-use crate::line::{Line, entry_of};
+use crate::line::{Line, put_entry};
 use crate::part::check_part;
 use crate::position::Position;
 use crate::rewriting::begin_pass;
@@ -20,6 +20,22 @@ use std::io;
 use std::io::ErrorKind;
 use std::snapshot::Snapshot;
 
+/// Room for the lines that changed, and for the words of their entry. Each append uses it again.
+#[derive(Drop)]
+pub(crate) struct Draft {
+    changed: Vec<Line>,
+    entry: Vec<u64>,
+}
+
+impl Draft {
+    pub(crate) fn new(alloc: Global) -> Draft {
+        Draft {
+            changed: Vec::new(alloc),
+            entry: Vec::new(alloc),
+        }
+    }
+}
+
 /// Replaces the durable words by these, which differ from them in the lines of these numbers alone: writes an entry at this position
 /// of the journal, and returns the position behind it. It is one write: a sync makes them durable. If the entry has no room, the
 /// image is put in place before, and it begins the next pass. At each instant, and also if a write fails, the file stands for the
@@ -27,6 +43,7 @@ use std::snapshot::Snapshot;
 /// refused, and nothing is written. The lines that may not be in place are kept.
 pub(crate) fn begin_words<S: Storage>(
     alloc: Global,
+    draft: &mut Draft,
     storage: &mut S,
     durable: &Snapshot<Vec<u64>>,
     unplaced: &mut Unplaced,
@@ -49,31 +66,32 @@ pub(crate) fn begin_words<S: Storage>(
     ensures placed { OnOk result (IsPlacedBut (S.may_hold storage.new) unplaced.new.lines.items unplaced.new.marks.items words.now) }
 {
     check_part(words, room)?;
-    let changed = lines_at(alloc, words, numbers)?;
+    put_lines_at(&mut draft.changed, words, numbers)?;
     let next = write_changed(
         alloc,
+        &mut draft.entry,
         storage,
         durable,
         unplaced,
         words,
-        changed.as_slice(),
+        draft.changed.as_slice(),
         room,
         position,
     )?;
-    unplaced.add(changed.as_slice())?;
+    unplaced.add(draft.changed.as_slice())?;
     Ok(next)
 }
 
-// The lines of these numbers.
-fn lines_at(alloc: Global, words: &[u64], numbers: &[usize]) -> io::Result<Vec<Line>>
+// Leaves in this list the lines of these numbers.
+fn put_lines_at(lines: &mut Vec<Line>, words: &[u64], numbers: &[usize]) -> io::Result<()>
     requires whole { length words.now % 8 ≡ 0 }
-    ensures { IfOk result (λ lines. (durable : List ℕ) → DiffersIn numbers.now words.now durable → AreChanged lines.items durable words.now) }
+    ensures { OnOk result ((durable : List ℕ) → DiffersIn numbers.now words.now durable → AreChanged lines.new.items durable words.now) }
 {
-    let mut lines = Vec::with_capacity(alloc, numbers.len())?;
+    lines.clear();
     for number in numbers {
-        push_line(&mut lines, words, *number)?;
+        push_line(lines, words, *number)?;
     }
-    Ok(lines)
+    Ok(())
 }
 
 // Adds the line of this number. There is none behind the last words.
@@ -94,6 +112,7 @@ fn push_line(lines: &mut Vec<Line>, words: &[u64], number: usize) -> io::Result<
 // The same of lines that make the words of the durable ones.
 fn write_changed<S: Storage>(
     alloc: Global,
+    entry: &mut Vec<u64>,
     storage: &mut S,
     durable: &Snapshot<Vec<u64>>,
     unplaced: &mut Unplaced,
@@ -123,7 +142,7 @@ fn write_changed<S: Storage>(
         return Err(io::Error::from(ErrorKind::StorageFull));
     }
     if position.words <= room - size {
-        return append(alloc, storage, durable, words, changed, room, position);
+        return append(entry, storage, durable, words, changed, room, position);
     }
     begin_pass(
         alloc,
@@ -138,12 +157,12 @@ fn write_changed<S: Storage>(
         pass: !position.pass,
         words: 0,
     };
-    append(alloc, storage, durable, words, changed, room, begun)
+    append(entry, storage, durable, words, changed, room, begun)
 }
 
 // Appends an entry of these lines.
 fn append<S: Storage>(
-    alloc: Global,
+    entry: &mut Vec<u64>,
     storage: &mut S,
     durable: &Snapshot<Vec<u64>>,
     words: &[u64],
@@ -165,7 +184,7 @@ fn append<S: Storage>(
     ensures placed { (lines : List Line) (marks : List Bool) → IsPlacedBut (S.may_hold storage.old) lines marks durable.now.value.items → IsPlacedBut (S.may_hold storage.new) lines marks durable.now.value.items }
 {
     let _ = durable;
-    let entry = entry_of(alloc, changed, position.pass)?;
+    put_entry(entry, changed, position.pass)?;
     storage.write(words.len() + position.words, entry.as_slice())?;
     Ok(Position {
         pass: position.pass,

@@ -7,7 +7,7 @@ ghost use Rattle.journal.specs.States.{Rests};
 ghost use Rattle.journal.specs.Tails.{BeginsAsRead, NamesAsRead, NamesBoth};
 ghost use Rattle.journal.specs.Unplaced.{IsPlacedBut};
 
-use crate::appending::begin_words;
+use crate::appending::{Draft, begin_words};
 use crate::file_image::{is_zeroed, leave_image};
 use crate::images::Images;
 use crate::position::Position;
@@ -33,6 +33,7 @@ pub struct JournaledImages<S: Storage> {
     // Those of its lines that may not be in place: the lines of the entries of this pass. When the journal is full, and at the end,
     // these are written there.
     unplaced: Unplaced,
+    draft: Draft,
 
     // How many words the journal has, and how far it is written.
     room: usize,
@@ -144,6 +145,7 @@ impl<S: Storage> JournaledImages<S> {
                 written: Snapshot::of(&*file),
                 size: words,
                 unplaced,
+                draft: Draft::new(alloc),
                 room,
                 position: Position {
                     pass: true,
@@ -274,6 +276,7 @@ impl<S: Storage> Images for JournaledImages<S> {
         self.complete()?;
         match begin_words(
             self.alloc,
+            &mut self.draft,
             &mut self.storage,
             &self.written,
             &mut self.unplaced,

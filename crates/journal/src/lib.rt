@@ -31,5 +31,5 @@ pub use law::{
     next_begins_with_what_was_left, passes_follow, scrubbed_entries_stay_torn,
     stretches_are_by_places, torn_entries_are_seen,
 };
-pub use line::{Line, entry_of, line_of};
+pub use line::{Line, line_of};
 pub use storage::{Storage, write_back};

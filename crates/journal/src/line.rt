@@ -4,7 +4,7 @@ ghost use Rattle.journal.specs.Entries.{marks, entry};
 ghost use Rattle.journal.specs.Opened.{AreLines};
 
 use crate::entry::marked;
-use std::alloc::{AllocError, Global};
+use std::alloc::AllocError;
 
 /// A line of eight words.
 #[derive(Clone, Copy, Debug)]
@@ -39,20 +39,19 @@ fn marked_line(line: &Line, pass: bool) -> [u64; 9]
     words
 }
 
-/// The words of an entry of this pass with these lines.
-pub fn entry_of(alloc: Global, lines: &[Line], pass: bool) -> Result<Vec<u64>, AllocError>
+/// Leaves in this list the words of an entry of this pass with these lines.
+pub(crate) fn put_entry(words: &mut Vec<u64>, lines: &[Line], pass: bool) -> Result<(), AllocError>
     requires numbers { All (λ line. line.number < 2 ^ 55) lines.now }
     requires lines_are { AreLines lines.now }
     requires fits { 9 * length lines.now < 2 ^ 58 }
-    ensures { IfOk result (λ words. words.items ≡ entry pass (payloads_of_lines lines.now)) }
+    ensures { OnOk result (words.new.items ≡ entry pass (payloads_of_lines lines.now)) }
 {
-    let count = 9 * lines.len();
-    let mut words = Vec::with_capacity(alloc, count + 1)?;
-    words.push(marked(count as u64, pass))?;
+    words.clear();
+    words.push(marked(9 * lines.len() as u64, pass))?;
     for line in lines {
         words.extend_from_slice(&marked_line(line, pass))?;
     }
-    Ok(words)
+    Ok(())
 }
 
 /// The line that nine payloads stand for.

@@ -1,4 +1,4 @@
--- What may be found in place of a file that was read, made longer and synced.
+-- What may be found of an image that was read in a file, which was made longer and synced.
 use Rattle.std.proofs.Common.{◌≡◌, inl, inr, ℕ, ◌/◌, ◌<◌, ◌≤◌, List, get_or, ap}
 use Rattle.std.proofs.lemmas.Bool.{cases_lt, cases_Bool}
 use Rattle.file_words.specs.Accounts.{IsReadInPlace}

@@ -331,7 +331,7 @@ fn calls_to_open(alloc: Global, words: &Vec<u64>) -> Result<usize, Fault> {
     Err(Fault::Device)
 }
 
-// A sync, two writes of the tail and two waits: nothing is written in place of a file without entries.
+// A sync, two writes of the tail and two waits: of a file without entries the image isn't written.
 const OPENING: usize = 5;
 
 #[test]

@@ -10,8 +10,8 @@ use Rattle.journal.proofs.Decides.{decides_appended, decides_rests}
 use Rattle.journal.proofs.Placings.{placed-still}
 use Rattle.journal.proofs.appending.append.Goals as goal
 
-pub returns-in_err-entry-clause-either : goal.returns-in_err-entry-clause-either
-returns-in_err-entry-clause-either g c = grind (arith, rests-either)
+pub returns-in_err-put_entry-clause-either : goal.returns-in_err-put_entry-clause-either
+returns-in_err-put_entry-clause-either g c = grind (arith, rests-either)
 
 pub returns-in_err-write-clause-either : goal.returns-in_err-write-clause-either
 returns-in_err-write-clause-either g c =
@@ -20,7 +20,7 @@ returns-in_err-write-clause-either g c =
     let changed = c.requires.changed in
     let old = g.S.Storage.may_hold c.args.storage.now in
     let new = g.S.Storage.may_hold c.write.new.self in
-    let is = c.as_slice.ensures.value ∙ c.in_ok-entry.ensures in
+    let is = c.as_slice.ensures.value ∙ c.in_ok-put_entry.ensures in
     append-either old new (length durable) c.args.room c.args.position.pass c.args.position.words durable c.args.words.now lines c.requires.known changed.lines_are
     (omega (arith, entry_size c.args.position.pass lines changed.lines_are, c.requires.within)) c.requires.same (λ word lt. changed.makes word (omega (arith, lt, c.requires.same)))
     (rw c.requires.same at (rw is at c.write.ensures.found))
@@ -32,7 +32,7 @@ returns-clause-either g c =
     let changed = c.requires.changed in
     let old = g.S.Storage.may_hold c.args.storage.now in
     let new = g.S.Storage.may_hold c.write.new.self in
-    let is = c.as_slice.ensures.value ∙ c.in_ok-entry.ensures in
+    let is = c.as_slice.ensures.value ∙ c.in_ok-put_entry.ensures in
     append-either old new (length durable) c.args.room c.args.position.pass c.args.position.words durable c.args.words.now lines c.requires.known changed.lines_are
     (omega (arith, entry_size c.args.position.pass lines changed.lines_are, c.requires.within)) c.requires.same (λ word lt. changed.makes word (omega (arith, lt, c.requires.same)))
     (rw c.requires.same at (rw is at c.write.ensures.found))
@@ -48,9 +48,9 @@ returns-clause-rests g c =
     let new = g.S.Storage.shows c.write.new.self in
     let start : ℕ = length durable + c.args.position.words in
     let R : List ℕ → Type 0 = λ l. ∥ Rests new (length durable) c.args.room c.args.position.pass (c.args.position.words + length l) words ∥₁ in
-    let made = c.in_ok-entry.ensures in
+    let made = c.in_ok-put_entry.ensures in
     let is = c.as_slice.ensures.value ∙ made in
-    let count : c.len.result ≡ length c.in_ok-entry.entry.items = omega (arith, c.len.ensures, c.in_ok-entry.entry.ok.0) in
+    let count : c.len.result ≡ length c.put_entry.new.words.items = omega (arith, c.len.ensures, c.put_entry.new.words.ok.0) in
     let N : ℕ → Type 0 = λ n. ∥ Rests new (length durable) c.args.room c.args.position.pass (c.args.position.words + n) words ∥₁ in
     let known = rests_within held old (length durable) c.args.room c.args.position.pass c.args.position.words durable (g.met.S.Storage.shown_is_found c.args.storage.now) c.requires.known in
     subst N (sym count) (subst R (sym made) (∥∥₁_map known (λ r.
@@ -65,7 +65,7 @@ returns-in_err-write-clause-tail g c =
     let position = c.args.position in
     let old = g.S.Storage.may_hold c.args.storage.now in
     let new = g.S.Storage.may_hold c.write.new.self in
-    let is = c.as_slice.ensures.value ∙ c.in_ok-entry.ensures in
+    let is = c.as_slice.ensures.value ∙ c.in_ok-put_entry.ensures in
     names_appended old new words c.args.room position.words position.pass lines c.requires.changed.lines_are c.requires.within (rw c.requires.same at (rw is at c.write.ensures.found))
 
 pub returns-clause-tail : goal.returns-clause-tail
@@ -75,7 +75,7 @@ returns-clause-tail g c =
     let position = c.args.position in
     let old = g.S.Storage.may_hold c.args.storage.now in
     let new = g.S.Storage.may_hold c.write.new.self in
-    let is = c.as_slice.ensures.value ∙ c.in_ok-entry.ensures in
+    let is = c.as_slice.ensures.value ∙ c.in_ok-put_entry.ensures in
     names_appended old new words c.args.room position.words position.pass lines c.requires.changed.lines_are c.requires.within (rw c.requires.same at (rw is at c.write.ensures.found))
 
 pub returns-in_err-write-clause-place : goal.returns-in_err-write-clause-place
@@ -92,8 +92,8 @@ returns-clause-place g c =
     let new = g.S.Storage.may_hold c.write.new.self in
     places_behind old new durable (length durable + c.args.position.words) _ (omega arith) (rw c.requires.same at c.write.ensures.found)
 
-pub returns-in_err-entry-clause-decides : goal.returns-in_err-entry-clause-decides
-returns-in_err-entry-clause-decides g c =
+pub returns-in_err-put_entry-clause-decides : goal.returns-in_err-put_entry-clause-decides
+returns-in_err-put_entry-clause-decides g c =
     let durable = c.args.durable.now.value.items in
     decides_rests (g.S.Storage.may_hold c.args.storage.now) (length durable) c.args.room c.args.position.pass c.args.position.words durable c.requires.known
 

@@ -4,7 +4,7 @@ use Rattle.journal.specs.declared.line.Line.{Line}
 use Rattle.journal.specs.Entries.{marked, marks}
 use Rattle.journal.specs.LinePayloads.{payloads_of_lines}
 use Rattle.journal.proofs.Opened.{size}
-use Rattle.journal.proofs.line.entry_of.Goals as goal
+use Rattle.journal.proofs.line.put_entry.Goals as goal
 
 pub returns : goal.returns
 returns c =

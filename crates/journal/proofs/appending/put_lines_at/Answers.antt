@@ -2,7 +2,7 @@ use Rattle.std.proofs.Common.{◌≡◌, ℕ, suc, ◌+◌, List, length, take, 
 use Rattle.std.proofs.Math.Seq.{take-suc, take-length}
 use Rattle.journal.specs.Changes.{AreFound}
 use Rattle.journal.proofs.Changes.{found-changed}
-use Rattle.journal.proofs.appending.lines_at.Goals as goal
+use Rattle.journal.proofs.appending.put_lines_at.Goals as goal
 
 pub loop-number-preserved : goal.loop-number-preserved
 loop-number-preserved c =
