@@ -1,3 +1,4 @@
 pub mod Bytes
 pub mod Syncs
 pub mod Writes
+pub mod Zeros

@@ -3,6 +3,7 @@ use Rattle.std.proofs.Common.{◌≡◌, ◌⊎◌, inl, inr, ℕ, ◌+◌, ◌-
 use Rattle.std.proofs.lemmas.Bool.{cases_lt}
 use Rattle.std.proofs.lemmas.List.{get_or-take, get_or-drop, length-drop, length-take, length-take-le, length-replicate, get_or-replicate, get_or_past}
 use Rattle.journal.specs.Files.{IsInRun}
+use Rattle.file_words.specs.Calls.{IsApart}
 
 -- the words before place `at` are written
 pub record IsWriting (held shown held' shown' : ℕ → ℕ → Type 0) (start : ℕ) (words : List ℕ) (at : ℕ) : Type 0 where
@@ -124,4 +125,21 @@ pub before-part : (held mid now : ℕ → ℕ → Type 0) (start at : ℕ) (part
 before-part held mid now start at part le before finds word x lt h = elim (finds word x h) [
   | inl was ↦ before word x lt was
   | inr put ↦ absurd (omega (arith, put.0, lt, le))
+]
+
+-- ---- within a write
+
+-- a part of what is apart
+pub apart-part : (start stop from to first last : ℕ) → IsApart start stop from to → start ≤ first → last ≤ stop → IsApart first last from to
+apart-part start stop from to first last (inl below) le le' = inl (omega (arith, below, le'))
+apart-part start stop from to first last (inr above) le le' = inr (omega (arith, above, le))
+
+-- if a part fails
+pub part-found : (held mid now : ℕ → ℕ → Type 0) (start at next : ℕ) (words : List ℕ) → at ≤ next → next ≤ length words
+    → ((word x : ℕ) → mid word x → held word x ⊎ IsInRun start words word x)
+    → ((word x : ℕ) → now word x → mid word x ⊎ IsInRun (start + at) (take (next - at) (drop at words)) word x)
+    → (word x : ℕ) → now word x → held word x ⊎ IsInRun start words word x
+part-found held mid now start at next words behind within before finds word x h = elim (finds word x h) [
+  | inl was ↦ before word x was
+  | inr put ↦ inr (of_all start at words (take (next - at) (drop at words)) word x (omega (arith, within, part-size at next words behind within)) (part-same at next words behind within) put)
 ]

@@ -1,5 +1,5 @@
 ghost use Rattle.std.specs.Prelude.{◌≡◌, ◌↔◌, ℕ, [], ◌∷◌};
-ghost use Rattle.file_words.specs.Accounts.{Reading, Sizing, Stopping, Syncing, Writing};
+ghost use Rattle.file_words.specs.Accounts.{Lengthening, Reading, Sizing, Stopping, Syncing, Writing};
 ghost use Rattle.file_words.specs.Calls.{calls_of, held_by, shown_by};
 
 use std::snapshot::Snapshot;
@@ -19,6 +19,8 @@ pub enum Account {
     Synced(Snapshot<Account>, Snapshot<bool>),
     /// How many words the file was to have, and whether that succeeded.
     Sized(Snapshot<Account>, Snapshot<usize>, Snapshot<bool>),
+    /// How many words the file was cut to, how many it was to have then, and whether both succeeded.
+    Lengthened(Snapshot<Account>, Snapshot<usize>, Snapshot<usize>, Snapshot<bool>),
 }
 
 impl Account {
@@ -75,5 +77,17 @@ impl Account {
     {
         let before = Snapshot::of(&*self);
         *self = Account::Sized(before, Snapshot::of(&count), Snapshot::of(&is_ok));
+    }
+    /// Adds a cut to `from` words, and a change of the length to `to` words then.
+    pub(crate) fn note_lengthening(&mut self, from: usize, to: usize, is_ok: bool)
+        ensures { calls_of self.new ≡ Lengthening from to is_ok ∷ calls_of self.old }
+    {
+        let before = Snapshot::of(&*self);
+        *self = Account::Lengthened(
+            before,
+            Snapshot::of(&from),
+            Snapshot::of(&to),
+            Snapshot::of(&is_ok),
+        );
     }
 }

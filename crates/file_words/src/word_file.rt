@@ -1,5 +1,6 @@
 ghost use Rattle.std.specs.Prelude.{◌≡◌, ◌*◌, ◌≤◌, length};
 ghost use Rattle.byteorder.specs.Endian.{IsRead, little_number};
+ghost use Rattle.file_words.specs.Calls.{MayBeZeros};
 
 use crate::account::Account;
 use byteorder::{ByteOrder, LittleEndian};
@@ -10,6 +11,9 @@ use std::os::unix::fs::{FileExt, MetadataExt};
 
 // The words that one write takes. A put of fewer is one write.
 const MOST_WORDS: usize = 8_192;
+
+// As many zeros are written ahead at once.
+const AHEAD: usize = 4_096;
 
 const WORD_BYTES: usize = 8;
 
@@ -22,13 +26,20 @@ pub struct WordFile {
     // The bytes of a write.
     bytes: Vec<u8>,
     account: Account,
+
+    // From this word on, up to that one, the file has words by its length alone. They take no room on the disk yet, so the first sync
+    // behind a write there waits for tables of the file system, too.
+    unwritten: usize,
+    end: usize,
+    ghost zeros: { MayBeZeros account unwritten end },
 }
 
 impl WordFile {
     ghost use Rattle.std.specs.Prelude.{◌≡◌, ◌⊎◌, ℕ, ◌+◌, ◌-◌, ◌*◌, ◌<◌, ◌≤◌, [], ◌∷◌, length, slice_index, is_ok, IfOk, OnOk};
     ghost use Rattle.journal.specs.Files.{IsInRun};
-    ghost use Rattle.file_words.specs.Accounts.{IsReadInPlace, Reading, Sizing, Stopping, Syncing, Writing};
-    ghost use Rattle.file_words.specs.Calls.{IsCutTo, account_of, calls_of, held_by, shown_by};
+    ghost use Rattle.file_words.specs.Accounts.{IsReadInPlace, Lengthening, Reading, Sizing, Stopping, Syncing, Writing};
+    ghost use Rattle.file_words.specs.Calls.{IsApart, IsCutTo, calls_of, held_by, shown_by};
+    ghost use Rattle.file_words.specs.Files.{account_of};
 
     /// A file of which `count` words were read, the first of these, and nothing else is known: it has an image of `words`, and a
     /// journal of `room` behind it, as far as these were read. It is trusted of the caller that they were read since it was opened.
@@ -65,6 +76,8 @@ impl WordFile {
             file,
             bytes,
             account,
+            unwritten: 0,
+            end: 0,
         })
     }
 
@@ -77,9 +90,10 @@ impl WordFile {
         // At Ok each of these words was written last as it was to be.
         ensures written { OnOk result ((word x : ℕ) → start ≤ word → word < start + length words.now → shown_by (account_of self.new) word x → x ≡ slice_index words.now (word - start)) }
     {
-        if start.checked_add(words.len()).is_none() {
+        let Some(end) = start.checked_add(words.len()) else {
             return Err(io::Error::from(io::ErrorKind::InvalidInput));
-        }
+        };
+        self.make_way(start, end)?;
         let mut at = 0;
         while at < words.len() {
             let end = words.len().min(at.saturating_add(MOST_WORDS));
@@ -89,11 +103,50 @@ impl WordFile {
         Ok(())
     }
 
+    // Makes way for a write from `start` up to `stop`. If it goes on from the words that are written into those that the file has by
+    // its length alone, zeros are written behind it, so that the next syncs wait for no table. If it begins further on, as that of a
+    // tail does, only the words before it remain to be written so.
+    fn make_way(&mut self, start: usize, stop: usize) -> io::Result<()>
+        requires { start ≤ stop }
+        ensures found { (word x : ℕ) → held_by self.new.account word x → held_by self.old.account word x }
+        ensures others { (word x : ℕ) → shown_by self.new.account word x → shown_by self.old.account word x }
+        ensures apart { OnOk result (IsApart start stop self.new.unwritten self.new.end) }
+    {
+        if stop <= self.unwritten || self.end <= start {
+            return Ok(());
+        }
+        if start > self.unwritten {
+            self.end = start;
+            return Ok(());
+        }
+        let ahead = stop.saturating_add(AHEAD).min(self.end).max(stop);
+        self.unwritten = ahead;
+        self.write_zeros(stop, ahead - stop)
+    }
+
+    // Writes zeros, where each word may be 0 already.
+    #[inline(never)]
+    fn write_zeros(&mut self, start: usize, count: usize) -> io::Result<()>
+        requires few { count ≤ 4096 }
+        requires apart { IsApart start (start + count) self.old.unwritten self.old.end }
+        requires zeros { MayBeZeros self.old.account start (start + count) }
+        ensures found { (word x : ℕ) → held_by self.new.account word x → held_by self.old.account word x }
+        ensures others { (word x : ℕ) → shown_by self.new.account word x → shown_by self.old.account word x }
+        ensures unwritten { self.new.unwritten ≡ self.old.unwritten }
+        ensures end { self.new.end ≡ self.old.end }
+    {
+        let zeros = [0; AHEAD];
+        self.write_part(start, &zeros[..count])
+    }
+
     // Writes no more words than one write takes.
     fn write_part(&mut self, start: usize, words: &[u64]) -> io::Result<()>
+        requires apart { IsApart start (start + length words.now) self.old.unwritten self.old.end }
         ensures found { (word x : ℕ) → held_by self.new.account word x → held_by self.old.account word x ⊎ IsInRun start words.now word x }
         ensures others { (word x : ℕ) → shown_by self.new.account word x → shown_by self.old.account word x ⊎ IsInRun start words.now word x }
         ensures written { OnOk result ((word x : ℕ) → start ≤ word → word < start + length words.now → shown_by self.new.account word x → x ≡ slice_index words.now (word - start)) }
+        ensures unwritten { self.new.unwritten ≡ self.old.unwritten }
+        ensures end { self.new.end ≡ self.old.end }
     {
         let size = words.len().saturating_mul(WORD_BYTES);
         if size > self.bytes.len() {
@@ -106,8 +159,11 @@ impl WordFile {
     // Writes the first bytes, which are `count` words, the first as this one. It is trusted that `write_all_at`
     // writes them there and nothing elsewhere, and, if it fails, that each word is as before or as it was to be.
     fn write_bytes(&mut self, start: usize, count: usize) -> io::Result<()>
-        requires { 8 * count ≤ length self.old.bytes.items }
-        ensures { calls_of self.new.account ≡ Writing start count self.old.bytes.items (is_ok result) ∷ calls_of self.old.account }
+        requires within { 8 * count ≤ length self.old.bytes.items }
+        requires apart { IsApart start (start + count) self.old.unwritten self.old.end }
+        ensures calls { calls_of self.new.account ≡ Writing start count self.old.bytes.items (is_ok result) ∷ calls_of self.old.account }
+        ensures unwritten { self.new.unwritten ≡ self.old.unwritten }
+        ensures end { self.new.end ≡ self.old.end }
     {
         let done = write_at(
             &self.file,
@@ -177,6 +233,7 @@ impl WordFile {
     {
         let zeros = Vec::from_elem(alloc, 0, MOST_WORDS)?;
         self.resize(to)?;
+        self.end = 0;
         let mut at = from;
         while at < to {
             let count = (to - at).min(MOST_WORDS);
@@ -184,6 +241,35 @@ impl WordFile {
             at += count;
         }
         Ok(())
+    }
+
+    /// Cuts it to `from` words, and makes it `to` words long, if that is more. The further ones are 0 by the file's length alone: they
+    /// take room on the disk as they are written, some at a time ahead of the first write that comes to them.
+    pub fn lengthen(&mut self, from: usize, to: usize) -> io::Result<()>
+        // No word before `from` changes. At Ok the further ones are shown as 0.
+        ensures found { (word x : ℕ) → word < from → held_by (account_of self.new) word x → held_by (account_of self.old) word x }
+        ensures others { (word x : ℕ) → word < from → shown_by (account_of self.new) word x → shown_by (account_of self.old) word x }
+        ensures zeros { OnOk result ((word x : ℕ) → from ≤ word → word < to → shown_by (account_of self.new) word x → x ≡ 0) }
+    {
+        if from >= to {
+            return Ok(());
+        }
+        self.cut_and_lengthen(from, to)?;
+        (self.unwritten, self.end) = (from, to);
+        Ok(())
+    }
+
+    // Gives it `from` words, and then `to`. It is trusted that `set_len` changes none of the words that it leaves, and that those which
+    // it adds are 0.
+    fn cut_and_lengthen(&mut self, from: usize, to: usize) -> io::Result<()>
+        ensures { calls_of self.new.account ≡ Lengthening from to (is_ok result) ∷ calls_of self.old.account }
+    {
+        let done = match set_length(&self.file, from) {
+            Ok(()) => set_length(&self.file, to),
+            Err(error) => Err(error),
+        };
+        self.account.note_lengthening(from, to, done.is_ok());
+        done
     }
 
     /// Cuts off what is behind the first `words` words, and waits until that persists, and what was written before.
@@ -201,10 +287,7 @@ impl WordFile {
     fn resize(&mut self, words: usize) -> io::Result<()>
         ensures { calls_of self.new.account ≡ Sizing words (is_ok result) ∷ calls_of self.old.account }
     {
-        let done = match byte_of(words) {
-            Ok(size) => self.file.set_len(size),
-            Err(error) => Err(error),
-        };
+        let done = set_length(&self.file, words);
         self.account.note_size(words, done.is_ok());
         done
     }
@@ -233,6 +316,10 @@ impl WordFile {
 
 fn write_at(file: &File, start: usize, bytes: &[u8]) -> io::Result<()> {
     file.write_all_at(bytes, byte_of(start)?)
+}
+
+fn set_length(file: &File, words: usize) -> io::Result<()> {
+    file.set_len(byte_of(words)?)
 }
 
 // The byte at which the word begins.

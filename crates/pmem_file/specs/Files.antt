@@ -2,7 +2,8 @@
 use Rattle.std.specs.Prelude.{ℕ, List, ⊤, Bool, Option, Ok, Err, is_ok}
 use Rattle.std.specs.Option.{option_map}
 use Rattle.file_words.specs.Accounts.{Call, Anything, shown_is_held}
-use Rattle.file_words.specs.Calls.{account_of, calls_of, held_by, shown_by}
+use Rattle.file_words.specs.Calls.{calls_of, held_by, shown_by}
+use Rattle.file_words.specs.Files.{account_of}
 use Rattle.pmem_file.specs.declared.storage.Apart.{Apart}
 use Rattle.pmem_file.specs.declared.storage.Apart.TheVariants.{None as NoneApart, Out, Ended}
 use Rattle.pmem_file.specs.declared.storage.FileStorage.{FileStorage}

@@ -137,7 +137,7 @@ fn open_found(
     let count = found.count();
     let words = found.into_words(shape)?;
     let mut storage = FileStorage::read(alloc, file, held, count, shape.words, shape.room, &words)?;
-    storage.grow(alloc, count, shape.whole())?;
+    storage.grow(alloc, count, shape.words, shape.whole())?;
     keep_behind(&mut storage, shape, count, words.as_slice())?;
     let opened = JournaledPmem::over(alloc, storage, words, shape.words, shape.room, shape.places);
     match opened {

@@ -86,13 +86,22 @@ impl FileStorage {
         })
     }
 
-    /// Makes it `to` words long, with zeros behind those that it has, which are `from`. If these have no room on the disk, it stays
-    /// as long as it was.
-    pub(crate) fn grow(&mut self, alloc: Global, from: usize, to: usize) -> io::Result<()>
+    /// Makes it `to` words long, with zeros behind those that it has, which are `from`. Those of the image, the first `image` words,
+    /// are written; if they have no room on the disk, it stays as long as it was. Those of the journal are 0 by the file's length
+    /// alone (`WordFile::lengthen`): a long one would take longer to write than all that a short life of a store writes.
+    pub(crate) fn grow(
+        &mut self,
+        alloc: Global,
+        from: usize,
+        image: usize,
+        to: usize,
+    ) -> io::Result<()>
         ensures others { (word x : ℕ) → word < from → shown_in self.new word x → shown_in self.old word x }
         ensures zeros { OnOk result ((word x : ℕ) → from ≤ word → word < to → shown_in self.new word x → x ≡ 0) }
     {
-        self.file.grow(alloc, from, to)
+        let written = from.max(image);
+        self.file.grow(alloc, from, written)?;
+        self.file.lengthen(written, to)
     }
 
     /// Cuts off what is behind the first `words` words, and waits until that persists. Fails with `NotFound` if no name leads to the

@@ -1,4 +1,4 @@
-use Rattle.std.proofs.Common.{◌≡◌, ◌∙◌, ◌≤◌, ◌+◌, ap, arith, ℕ, List, get_or, length, replicate, rules}
+use Rattle.std.proofs.Common.{◌≡◌, ◌∙◌, ◌≤◌, ◌+◌, ap, arith, ℕ, List, get_or, length, replicate, refl, rules}
 use Rattle.std.proofs.lemmas.List.{length-replicate}
 use Rattle.file_words.specs.Accounts.{Held, Shown}
 use Rattle.file_words.proofs.Syncs.{sized}
@@ -19,7 +19,7 @@ loop-at-init c =
     (λ word x lt held. sized Held _ _ _ _ c.resize.ensures word x (omega (arith, lt, c.requires)) held)
     (λ word x lt shown. sized Shown _ _ _ _ c.resize.ensures word x (omega (arith, lt, c.requires)) shown) in
     let is : c.in_ok-zeros.zeros.items ≡ replicate 8192 nothing = search rules in
-    (first, all-zero c.in_ok-zeros.zeros.items 8192 is, ap length is ∙ length-replicate 8192 nothing)
+    (first, all-zero c.in_ok-zeros.zeros.items 8192 is, ap length is ∙ length-replicate 8192 nothing, refl)
 
 pub returns-in_err-write_part-clause-found : goal.returns-in_err-write_part-clause-found
 returns-in_err-write_part-clause-found c = before-part _ _ _ c.args.from c.loop-at.at _ c.loop-at.invariant.0.behind c.loop-at.invariant.0.found c.write_part.ensures.found
@@ -37,4 +37,5 @@ loop-at-preserved c =
           c.write_part.ensures.found c.write_part.ensures.others c.in_ok-write_part.ensures.written,
       c.loop-at.invariant.1,
       c.loop-at.invariant.2,
+      c.in_ok-write_part.ensures.end ∙ c.loop-at.invariant.3,
     )
